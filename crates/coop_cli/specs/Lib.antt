@@ -1,0 +1,5 @@
+pub mod Decided
+pub mod Ending
+pub mod Names
+pub mod Statement
+pub mod Stops

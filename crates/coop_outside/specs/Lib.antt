@@ -1,0 +1,5 @@
+pub mod Causes
+pub mod Files
+pub mod Held
+pub mod Real
+pub mod Taken

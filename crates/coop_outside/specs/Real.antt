@@ -1,0 +1,12 @@
+-- The counts of faults of the devices over the system.
+use Rattle.std.specs.Prelude.{ℕ}
+use Rattle.coop_outside.specs.declared.disk_shelf.DiskShelf.{DiskShelf}
+use Rattle.coop_outside.specs.declared.stdout_sink.StdoutSink.{StdoutSink}
+
+-- how many faults the shelf of the system's files has counted
+abbrev pub shelf_faults : {R : Type 0} → DiskShelf R → ℕ
+shelf_faults shelf = shelf.faults
+
+-- how many faults standard output has counted
+abbrev pub sink_faults : {R : Type 0} → StdoutSink R → ℕ
+sink_faults sink = sink.faults

@@ -1,0 +1,30 @@
+//! The outside of the engine: where bytes are read from and where they go. A shelf gives the bytes of a
+//! name, a sink takes bytes. Each device counts its faults, and a call may fail only where that count
+//! rose; so a caller can say why an answer is missing. The devices in memory tell all that they hold, and
+//! fail at the calls that a test lists; the real ones stand on files and on standard output.
+//! docs/DEVICES.md has the promises in one place.
+#![tactic(auto)]
+
+mod bytes;
+mod disk_shelf;
+mod failed;
+mod mem_shelf;
+mod mem_sink;
+mod reading;
+mod shelf;
+mod sink;
+mod stdout_sink;
+#[cfg(test)]
+mod tests;
+mod writing;
+
+pub use bytes::Bytes;
+pub use disk_shelf::DiskShelf;
+pub use failed::Failed;
+pub use mem_shelf::MemShelf;
+pub use mem_sink::MemSink;
+pub use reading::{ReadFault, read_all};
+pub use shelf::Shelf;
+pub use sink::Sink;
+pub use stdout_sink::StdoutSink;
+pub use writing::{WriteFault, write_all};

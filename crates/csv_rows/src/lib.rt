@@ -1,0 +1,21 @@
+//! The records of a CSV text one by one, as the `csv` crate's reader gives them with its default format,
+//! and why a list of records is no table. This is the only crate that calls `csv`. A cursor, `Rows`, is
+//! seen as the list of the records that are left, so a loop over it is a loop over a list.
+//! docs/TABLES.md has the rules for users.
+#![tactic(auto)]
+
+mod count;
+mod fields;
+mod header;
+mod memory;
+mod refusal;
+mod rows;
+#[cfg(test)]
+mod tests;
+
+pub use count::count_rows;
+pub use fields::field;
+pub use header::judge_header;
+pub use memory::Memory;
+pub use refusal::LoadRefusal;
+pub use rows::Rows;
