@@ -1,0 +1,4 @@
+pub mod Cutting
+pub mod Members
+pub mod Rising
+pub mod Rows
