@@ -1,0 +1,5 @@
+pub mod Views
+pub mod Frames
+pub mod Steps
+pub mod Laid
+pub mod Zips

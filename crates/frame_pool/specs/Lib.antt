@@ -1,0 +1,6 @@
+pub mod Views
+pub mod Frames
+pub mod Steps
+pub mod Berths
+pub mod Pairs
+pub mod Games

@@ -1,0 +1,24 @@
+//! Frames that threads share, each under one control word.
+//!
+//! A `Pool` has frames of words, all in one table of atomic words. Threads use it by their `Berth`s: one berth claims a
+//! frame, puts the words of a piece and publishes it; others pin the frame, read its words and unpin it. A word that is
+//! read under a pin is the pinned piece's, whatever the others do. docs/FRAMES.md has the rules and an example.
+#![tactic(auto)]
+
+mod berth;
+mod content;
+pub mod example;
+mod filling;
+mod geometry;
+mod pinning;
+mod plays;
+mod pool;
+mod rule;
+#[cfg(test)]
+mod tests;
+mod view;
+
+pub use berth::Berth;
+pub use content::Content;
+pub use geometry::Geometry;
+pub use pool::{Memory, Pool};
