@@ -1,0 +1,16 @@
+pub mod Counting
+pub mod Setting
+pub mod Views
+pub mod Loads
+pub mod Numbers
+pub mod Ratios
+pub mod MayFollow
+pub mod Policies
+pub mod Legal
+pub mod Whole
+pub mod Spent
+pub mod Causes
+pub mod Kept
+pub mod Text
+pub mod Reading
+pub mod Makers
