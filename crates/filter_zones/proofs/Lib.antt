@@ -1,0 +1,6 @@
+pub mod Orders
+pub mod Rows
+pub mod Ranges
+pub mod Law
+pub mod Sets
+pub mod Fitting
