@@ -1,0 +1,6 @@
+pub mod Runs
+pub mod Quotes
+pub mod Numbers
+pub mod Pieces
+pub mod TokenLists
+pub mod Parts

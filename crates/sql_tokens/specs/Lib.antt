@@ -1,0 +1,5 @@
+pub mod Classes
+pub mod Keywords
+pub mod Pieces
+pub mod Statements
+pub mod Tokens

@@ -1,0 +1,23 @@
+//! Cuts a batch of SQL into its statements, and a statement into tokens.
+//!
+//! `docs/SQL.md` has the language.
+#![tactic(auto)]
+
+mod class;
+mod keyword;
+mod lexing;
+mod piece;
+mod refusal;
+mod span;
+mod statements;
+mod token;
+
+pub use keyword::{Keyword, keyword_of};
+pub use lexing::{lex, one_reading};
+pub use refusal::TextRefusal;
+pub use span::Span;
+pub use statements::split;
+pub use token::{Token, TokenKind};
+
+#[cfg(test)]
+mod tests;
