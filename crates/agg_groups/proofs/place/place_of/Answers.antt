@@ -1,0 +1,9 @@
+use Rattle.std.proofs.Common.{◌∙◌, sym, ap}
+use Rattle.agg_groups.specs.Table.{place_at}
+use Rattle.agg_groups.proofs.Seen.{place_there}
+use Rattle.agg_groups.proofs.place.place_of.Goals as goal
+
+pub returns-clause-last : goal.returns-clause-last
+returns-clause-last c = λ i e.
+    let new = c.place_for.new.self in
+    ap (place_at new.places) (sym c.deref-2.ensures.value) ∙ place_there c.args.items.now c.deref-2.result.now c.in_ok-place.place c.args.table.now new c.in_ok-place.ensures.ok ∙ e

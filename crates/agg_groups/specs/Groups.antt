@@ -1,0 +1,46 @@
+-- Kept groups, and the lists of rows that they stand for.
+use Rattle.std.specs.Prelude.{◌≡◌, ◌<◌, ℕ, List, length, map, Option, Some, ℤ, All, IsPermutation}
+use Rattle.agg_groups.specs.declared.rows.FinishFault.{FinishFault}
+use Rattle.agg_groups.specs.declared.rows.FinishFault.TheVariants as fault
+use Rattle.table_core.specs.declared.cell.Cell.{Cell}
+use Rattle.agg_groups.specs.declared.item.Item.{Item}
+use Rattle.agg_groups.specs.declared.running.Running.{Running}
+use Rattle.agg_groups.specs.Cells.{codes}
+use Rattle.agg_groups.specs.Meaning.{keys_of, group}
+use Rattle.agg_groups.specs.Running.{runnings, IsInRow}
+
+-- a group: its key and the running values of the items
+abbrev pub Group : Type 0
+Group = List Cell × List Running
+
+-- what is kept: the items, the key columns, the number of rows, and the groups in key order
+pub record Kept : Type 0 where
+  pub items : List Item
+  pub keys : List ℕ
+  pub rows : ℕ
+  pub groups : List Group
+
+-- the groups of a list of rows: for each key, in key order, the running values of its rows
+abbrev pub groups_of : List Item → List ℕ → List (List Cell) → List Group
+groups_of items keys rows = map (λ q. (q, runnings items (group codes keys q rows))) (keys_of codes keys rows)
+
+-- the groups stand for these rows
+pub record Stands (g : Kept) (rows : List (List Cell)) : Type 0 where
+  pub count : g.rows ≡ length rows
+  pub groups : g.groups ≡ groups_of g.items g.keys rows
+
+-- each column that the items and the key columns name is one of so many
+pub record NamesPlaces (items : List Item) (keys : List ℕ) (width : ℕ) : Type 0 where
+  pub items_in : All (λ i. IsInRow i width) items
+  pub keys_in : All (λ x. x < width) keys
+
+-- the groups stand for these rows in some order
+pub record StandsInSomeOrder (g : Kept) (rows : List (List Cell)) : Type 0 where
+  pub order : List (List Cell)
+  pub stands : Stands g order
+  pub same : IsPermutation order rows
+
+-- what a refusal says of the overflow: want of memory says nothing
+abbrev pub IsFault : FinishFault → Option (ℕ × ℤ) → Type 0
+IsFault (fault.SumOverflow item total) o = o ≡ Some (item, total)
+IsFault fault.Memory o = Unit {0}

@@ -1,0 +1,6 @@
+pub mod Cells
+pub mod Meaning
+pub mod Running
+pub mod Groups
+pub mod Table
+pub mod Text

@@ -1,0 +1,123 @@
+-- Where groups are kept: a place for each key, in key order, and the running values at each place.
+use Rattle.std.specs.Prelude.{◌≡◌, ◌<◌, ◌≤◌, ◌^◌, ℕ, if◌then◌else◌, List, [], ◌∷◌, ◌++◌, length, map, Option, Some, None, slice_index_or, All, MatchOption, Vec, ℤ}
+use Rattle.std.specs.Global.{Global}
+use Rattle.std.specs.declared.cmp.Ordering.TheVariants.{Less}
+use Rattle.table_core.specs.declared.cell.Cell.{Cell}
+use Rattle.agg_groups.specs.declared.item.Item.{Item}
+use Rattle.agg_groups.specs.declared.running.Running.{Running}
+use Rattle.agg_groups.specs.Cells.{codes}
+use Rattle.agg_groups.specs.Meaning.{same_key, key_cmp, first_some}
+use Rattle.agg_groups.specs.Running.{runnings, joins, HasRoom, all_shown, over_shown, FitsCell}
+use Rattle.agg_groups.specs.Groups.{Group}
+
+-- the places of the keys, in key order, and the values at each place
+pub record Placed : Type 0 where
+  pub places : List (List Cell × ℕ)
+  pub values : List (List Running)
+
+abbrev pub values_at : List (List Running) → ℕ → List Running
+values_at vs place = slice_index_or vs place []
+
+-- the groups, in key order
+abbrev pub seen : Placed → List Group
+seen t = map (λ (e : List Cell × ℕ). (e.0, values_at t.values e.1)) t.places
+
+-- the place of a key
+abbrev pub place_at : List (List Cell × ℕ) → List Cell → Option ℕ
+place_at [] q = None
+place_at (e ∷ es) q = if same_key codes q e.0 then Some e.1 else place_at es q
+
+-- each key stands before the next one
+abbrev pub Below : List Cell → List (List Cell) → Type 0
+Below p [] = Unit {0}
+Below p (q ∷ qs) = (key_cmp codes p q ≡ Less) × Below p qs
+
+abbrev pub Rising : List (List Cell) → Type 0
+Rising [] = Unit {0}
+Rising (p ∷ ps) = Below p ps × Rising ps
+
+abbrev pub names : {V : Type 0} → List (List Cell × V) → List (List Cell)
+names {V} es = map (λ (e : List Cell × V). e.0) es
+
+abbrev pub AreBelow : ℕ → List (List Cell × ℕ) → Type 0
+AreBelow n [] = Unit {0}
+AreBelow n (e ∷ es) = (e.1 < n) × AreBelow n es
+
+-- the keys rise, each has a place of its own, and each place has values
+pub record IsPlaced (t : Placed) : Type 0 where
+  pub rising : Rising (names t.places)
+  pub below : AreBelow (length t.values) t.places
+  pub apart : (p q : List Cell) (i : ℕ) → place_at t.places p ≡ Some i → place_at t.places q ≡ Some i → p ≡ q
+
+-- the values at each place belong to m items over at most n rows
+abbrev pub AreSound : ℕ → ℕ → List (List Running) → Type 0
+AreSound n m vs = (i : ℕ) → i < length vs → (length (values_at vs i) ≡ m) × All (HasRoom n) (values_at vs i)
+
+-- a place for a key that had none, with the values of no rows
+pub record IsNewPlace (items : List Item) (key : List Cell) (place : ℕ) (old new : Placed) : Type 0 where
+  pub is_last : place ≡ length old.values
+  pub starts : new.values ≡ old.values ++ runnings items [] ∷ []
+  pub placed : (q : List Cell) → place_at new.places q ≡ (if same_key codes q key then Some place else place_at old.places q)
+
+-- the place of the key after it was looked for: the one that it had, or else a new one
+abbrev pub IsPlaceFor : List Item → List Cell → ℕ → Placed → Placed → Type 0
+IsPlaceFor items key place old new = MatchOption (place_at old.places key) (IsNewPlace items key place old new) (λ i. (place ≡ i) × (new ≡ old))
+
+-- the running values that are kept at a key
+abbrev pub at : List Group → List Cell → Option (List Running)
+at [] q = None
+at (g ∷ gs) q = if same_key codes q g.0 then Some g.1 else at gs q
+
+-- the values at a key, or else those of no rows
+abbrev pub base : List Item → Option (List Running) → List Running
+base items None = runnings items []
+base items (Some vs) = vs
+
+-- the groups with the values ws at the key p, the others as before
+abbrev pub Puts : List Cell → List Running → List Group → List Group → Type 0
+Puts p ws old new = (q : List Cell) → at new q ≡ (if same_key codes q p then Some ws else at old q)
+
+-- what is kept at a key of either, or of both
+abbrev pub merged : List Item → Option (List Running) → Option (List Running) → Option (List Running)
+merged items o None = o
+merged items o (Some ss) = Some (joins items (base items o) ss)
+
+-- what a map of keys and places, and values, are as plain lists
+abbrev pub plain_places : List (Vec Cell Global × ℕ) → List (List Cell × ℕ)
+plain_places es = map (λ (e : Vec Cell Global × ℕ). (e.0.items, e.1)) es
+
+-- the place of the group met last, if it is known, is that of its key
+abbrev pub IsLast : List Cell → Option ℕ → Placed → Type 0
+IsLast key place t = (i : ℕ) → place ≡ Some i → place_at t.places key ≡ Some i
+
+-- the result rows of groups
+abbrev pub result_rows : List Item → List Group → List (List Cell)
+result_rows items gs = map (λ (g : Group). all_shown g.0 items g.1) gs
+
+-- the first sum of groups that is no whole number of 64 bits
+abbrev pub first_over : List Group → Option (ℕ × ℤ)
+first_over gs = first_some (λ (g : Group). over_shown 1 g.1) gs
+
+-- the cells of groups can be written
+abbrev pub AllFit : List Group → Type 0
+AllFit [] = Unit {0}
+AllFit (g ∷ gs) = All FitsCell g.1 × AllFit gs
+
+-- the values at a key, if there are any, belong to m items over at most n rows
+abbrev pub HasRoomAt : ℕ → ℕ → Option (List Running) → Type 0
+HasRoomAt n m None = Unit {0}
+HasRoomAt n m (Some vs) = (length vs ≡ m) × All (HasRoom n) vs
+
+-- what the parts of kept groups are to one another: few rows, few items, values with room, and a group met last that is there
+pub record IsKept (items : List Item) (keys : List ℕ) (rows : ℕ) (key : List Cell) (place : Option ℕ) (t : Placed) : Type 0 where
+  pub few : rows ≤ 2097152
+  pub short : length items < 2 ^ 32
+  pub long : length key ≡ length keys
+  pub placed : IsPlaced t
+  pub last : IsLast key place t
+  pub sound : AreSound rows (length items) t.values
+
+-- the groups of no rows: none, but for the one group of a query without key columns
+abbrev pub IsFirst : List Item → List ℕ → Placed → Type 0
+IsFirst items [] t = (q : List Cell) → at (seen t) q ≡ (if same_key codes q [] then Some (runnings items []) else None)
+IsFirst items (x ∷ keys) t = seen t ≡ []

@@ -1,0 +1,179 @@
+// The groups of a query's rows.
+ghost use Rattle.std.specs.Prelude.{◌≡◌, ◌≤◌, ◌+◌, ◌++◌, ℕ, List, [], ◌∷◌, length, None, OnOk, OnErr, IfOk, IfErr};
+ghost use Rattle.table_core.specs.declared.cell.Cell.{Cell};
+ghost use Rattle.agg_groups.specs.Cells.{codes};
+ghost use Rattle.agg_groups.specs.Meaning.{meaning, overflow};
+ghost use Rattle.agg_groups.specs.Groups.{Kept, Stands, StandsInSomeOrder, NamesPlaces, IsFault};
+ghost use Rattle.agg_groups.specs.Table.{AreSound, IsPlaced, IsLast, IsKept, IsFirst, seen, at, merged};
+ghost use Rattle.agg_groups.specs.declared.rows.FinishFault.TheVariants as FinishFault;
+
+use crate::item::Item;
+use crate::place::{Last, place_of};
+use crate::rows::{FinishFault, Rows};
+use crate::table::GroupTable;
+use std::alloc::Global;
+use std::marker::Model;
+use table_core::{Cell, Memory};
+
+/// The groups of a query's rows, with the running values of its items: seen as its items, its key columns,
+/// the number of rows, and for each key that was met, in key order, the running values.
+///
+/// It stands for a list of rows where the number is the list's length, and the keys and values are those that
+/// the query's meaning gives for the list.
+#[derive(Drop)]
+pub struct Groups {
+    items: Vec<Item>,
+    keys: Vec<u32>,
+    rows: u32,
+    last: Last,
+    table: GroupTable,
+}
+
+impl Model for Groups {
+    ghost Value = { Kept };
+
+    ghost view = { λ g. record { items = g.items.items; keys = g.keys.items; rows = g.rows; groups = seen g.table } };
+
+    ghost invariant = { λ g. IsKept g.items.items g.keys.items g.rows g.last.key.items g.last.place g.table };
+}
+
+// The groups of no rows: none, but for the one group of a query without key columns.
+fn first_groups(alloc: Global, items: &[Item], keys: &[u32]) -> Result<(GroupTable, Last), Memory>
+    ensures first { IfOk result (λ g. IsFirst items.now keys.now g.0) }
+    ensures long { IfOk result (λ g. length g.1.key.items ≡ length keys.now) }
+    ensures last { IfOk result (λ g. IsLast g.1.key.items g.1.place g.0) }
+    ensures placed { IfOk result (λ g. IsPlaced g.0) }
+    ensures sound { IfOk result (λ g. AreSound 0 (length items.now) g.0.values) }
+{
+    let key = vec![in alloc; Cell::Null; keys.len()]?;
+    let mut last = Last { key, place: None };
+    let mut table = GroupTable::new(alloc);
+    if keys.is_empty() {
+        place_of(&mut table, &mut last, items, keys, &[])?;
+        return Ok((table, last));
+    }
+    Ok((table, last))
+}
+
+// A table of its own with the groups of two.
+fn united(
+    items: &[Item],
+    a: &GroupTable,
+    b: &GroupTable,
+    rows: u32,
+    more: u32,
+) -> Result<GroupTable, Memory>
+    requires few { rows + more ≤ 2097152 }
+    requires sound { AreSound rows (length items.now) a.now.values }
+    requires sound_more { AreSound more (length items.now) b.now.values }
+    ensures joined { IfOk result (λ t. (q : List Cell) → at (seen t) q ≡ merged items.now (merged items.now None (at (seen a.now) q)) (at (seen b.now) q)) }
+    ensures sound { IfOk result (λ t. AreSound (rows + more) (length items.now) t.values) }
+    ensures placed { IfOk result (λ t. IsPlaced t) }
+{
+    let mut both = GroupTable::new(a.allocator());
+    both.absorb(items, a, 0, rows)?;
+    both.absorb(items, b, rows, more)?;
+    Ok(both)
+}
+
+fn sum_overflow(first: (u32, i128)) -> FinishFault
+    ensures { result ≡ FinishFault.SumOverflow first.0 first.1 }
+{
+    FinishFault::SumOverflow {
+        item: first.0,
+        total: first.1,
+    }
+}
+
+impl Groups {
+    /// The groups of no rows. Without key columns one group stands there.
+    ///
+    /// More than 4294967295 items, which a refusal could not number, are answered as want of memory.
+    pub fn new(alloc: Global, items: Vec<Item>, keys: Vec<u32>) -> Result<Self, Memory>
+        ensures stands { IfOk result (λ g. Stands g []) }
+        ensures items { IfOk result (λ g. g.items ≡ items.items) }
+        ensures keys { IfOk result (λ g. g.keys ≡ keys.items) }
+    {
+        if items.len() > u32::MAX as usize {
+            return Err(Memory);
+        }
+        let (table, last) = first_groups(alloc, &items, &keys)?;
+        Ok(Groups {
+            items,
+            keys,
+            rows: 0,
+            last,
+            table,
+        })
+    }
+
+    /// Adds a row. It takes no memory where the row's key was met before.
+    ///
+    /// For want of memory the groups stay as they were.
+    pub fn add_row(&mut self, row: &[Cell]) -> Result<(), Memory>
+        requires few { self.old.rows ≤ 2097151 }
+        requires places { NamesPlaces self.old.items self.old.keys (length row.now) }
+        ensures ok { OnOk result ((rows : List (List Cell)) → Stands self.old rows → Stands self.new (rows ++ row.now ∷ [])) }
+        ensures count { OnOk result (self.new.rows ≡ self.old.rows + 1) }
+        ensures items { self.new.items ≡ self.old.items }
+        ensures keys { self.new.keys ≡ self.old.keys }
+        ensures err { OnErr result (self.new ≡ self.old) }
+    {
+        let place = place_of(
+            &mut self.table,
+            &mut self.last,
+            &self.items,
+            &self.keys,
+            row,
+        )?;
+        self.table.step(place, &self.items, row, self.rows);
+        self.rows += 1;
+        Ok(())
+    }
+
+    /// Adds the rows of other groups, of the same items and key columns, behind its own.
+    ///
+    /// For want of memory the groups stay as they were, and the other groups come back.
+    pub fn merge(&mut self, other: Groups) -> Result<(), (Groups, Memory)>
+        requires items { other.items ≡ self.old.items }
+        requires keys { other.keys ≡ self.old.keys }
+        requires few { self.old.rows + other.rows ≤ 2097152 }
+        ensures ok { OnOk result ((rows more : List (List Cell)) → Stands self.old rows → Stands other more → Stands self.new (rows ++ more)) }
+        ensures count { OnOk result (self.new.rows ≡ self.old.rows + other.rows) }
+        ensures items { self.new.items ≡ self.old.items }
+        ensures keys { self.new.keys ≡ self.old.keys }
+        ensures err { OnErr result (self.new ≡ self.old) }
+        ensures back { IfErr result (λ e. e.0 ≡ other) }
+    {
+        match united(
+            &self.items,
+            &self.table,
+            &other.table,
+            self.rows,
+            other.rows,
+        ) {
+            Ok(both) => {
+                self.table = both;
+                self.last.place = None;
+                self.rows += other.rows;
+                Ok(())
+            }
+            Err(memory) => Err((other, memory)),
+        }
+    }
+
+    /// The result rows: the meaning of each list of rows that the groups stand for, in whatever order its rows came.
+    ///
+    /// A sum that is no whole number of 64 bits is refused, and no partial sum is. After want of memory the groups are gone.
+    pub fn finish(self) -> Result<Rows, FinishFault>
+        ensures ok { IfOk result (λ answer. (rows : List (List Cell)) → StandsInSomeOrder self rows → answer ≡ meaning codes self.items self.keys rows) }
+        ensures fits { OnOk result ((rows : List (List Cell)) → StandsInSomeOrder self rows → overflow codes self.items self.keys rows ≡ None) }
+        ensures err { IfErr result (λ fault. (rows : List (List Cell)) → StandsInSomeOrder self rows → IsFault fault (overflow codes self.items self.keys rows)) }
+    {
+        if let Some(first) = self.table.first_over(&self.items) {
+            return Err(sum_overflow(first));
+        }
+        let rows = self.table.result_rows(&self.items)?;
+        Ok(Rows::new(rows))
+    }
+}

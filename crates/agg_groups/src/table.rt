@@ -1,0 +1,293 @@
+// Where groups are kept: a map from keys to places, and the running values at each place.
+ghost use Rattle.std.specs.Prelude.{◌≡◌, ◌<◌, ◌≤◌, ◌+◌, ◌^◌, ℕ, List, [], length, map, set, All, Some, None, OnOk, OnErr, IfOk, if◌then◌else◌};
+ghost use Rattle.table_core.specs.declared.cell.Cell.{Cell};
+ghost use Rattle.agg_groups.specs.Cells.{codes};
+ghost use Rattle.agg_groups.specs.Running.{HasRoom, IsInRow, nexts, joins, all_shown, FitsCell};
+ghost use Rattle.answer_text.specs.Lists.{lists};
+ghost use Rattle.agg_groups.specs.Table.{Placed, IsPlaced, IsNewPlace, IsPlaceFor, AreSound, place_at, values_at, seen, at, merged, first_over, result_rows, AllFit, AreBelow, Puts, base, HasRoomAt, plain_places};
+
+use crate::item::Item;
+use crate::running::{Running, join_all, over, row_of, starts, step};
+use std::alloc::Global;
+use std::collections::BTreeMap;
+use std::marker::Model;
+use table_core::{Cell, Memory, cell_order};
+
+type Places = BTreeMap<Vec<Cell>, usize>;
+
+/// The groups that were met, seen as the places of their keys in key order, and the values at each place.
+///
+/// A group keeps its place, so the group met last is found again without a search.
+#[derive(Drop)]
+pub(crate) struct GroupTable {
+    places: Places,
+    values: Vec<Vec<Running>>,
+}
+
+impl Model for GroupTable {
+    ghost Value = { Placed };
+
+    ghost view = { λ t. record { places = plain_places t.places.entries; values = lists t.values.items } };
+
+    ghost invariant = { λ t. IsPlaced (record { places = plain_places t.places.entries; values = lists t.values.items }) };
+}
+
+// The place of a key.
+fn place_in(places: &Places, key: &[Cell]) -> Option<usize>
+    ensures { result ≡ place_at (plain_places places.now.entries) key.now }
+{
+    cell_order();
+    places.get(key).copied()
+}
+
+// Puts a key that had no place at a new one, with the values of no rows.
+fn put_start(
+    places: &mut Places,
+    values: &mut Vec<Vec<Running>>,
+    items: &[Item],
+    key: &[Cell],
+) -> Result<usize, Memory>
+    requires placed { IsPlaced (record { places = plain_places places.old.entries; values = lists values.old.items }) }
+    requires none { place_at (plain_places places.old.entries) key.now ≡ None }
+    ensures ok { IfOk result (λ place. IsNewPlace items.now key.now place (record { places = plain_places places.old.entries; values = lists values.old.items }) (record { places = plain_places places.new.entries; values = lists values.new.items })) }
+    ensures placed { OnOk result (IsPlaced (record { places = plain_places places.new.entries; values = lists values.new.items })) }
+    ensures err_places { OnErr result (places.new.entries ≡ places.old.entries) }
+    ensures err_values { OnErr result (values.new.items ≡ values.old.items) }
+{
+    cell_order();
+    let alloc = *values.allocator();
+    let place = values.len();
+    let start = starts(alloc, items)?;
+    let key = Vec::from_slice(alloc, key)?;
+    values.push(start)?;
+    let Ok(_) = places.insert(key, place) else {
+        values.pop();
+        return Err(Memory);
+    };
+    Ok(place)
+}
+
+// The values at a place.
+fn values_of(values: &[Vec<Running>], place: usize) -> &[Running]
+    requires { place < length values.now }
+    ensures { result.now ≡ values_at (lists values.now) place }
+{
+    values[place].as_slice()
+}
+
+// Adds a row to the values at a place.
+fn step_at(values: &mut [Vec<Running>], place: usize, items: &[Item], row: &[Cell], rows: u32)
+    requires in_row { All (λ i. IsInRow i (length row.now)) items.now }
+    requires few { rows ≤ 2097151 }
+    requires there { place < length values.old }
+    requires same { length (values_at (lists values.old) place) ≡ length items.now }
+    requires room { All (HasRoom rows) (values_at (lists values.old) place) }
+    ensures values { lists values.new ≡ set (lists values.old) place (nexts items.now row.now (values_at (lists values.old) place)) }
+    ensures room { All (HasRoom (rows + 1)) (nexts items.now row.now (values_at (lists values.old) place)) }
+{
+    let kept = &mut values[place];
+    step(items, row, rows, kept);
+}
+
+// Adds the values over other rows to those at a place.
+fn join_at(
+    values: &mut [Vec<Running>],
+    place: usize,
+    items: &[Item],
+    others: &[Running],
+    rows: u32,
+    more: u32,
+)
+    requires few { rows + more ≤ 2097152 }
+    requires there { place < length values.old }
+    requires same { length (values_at (lists values.old) place) ≡ length items.now }
+    requires same_more { length others.now ≡ length items.now }
+    requires room { All (HasRoom rows) (values_at (lists values.old) place) }
+    requires room_more { All (HasRoom more) others.now }
+    ensures { lists values.new ≡ set (lists values.old) place (joins items.now (values_at (lists values.old) place) others.now) }
+{
+    let kept = &mut values[place];
+    join_all(items, kept, others, rows, more);
+}
+
+// Adds the groups of places and values, whose values are over `more` rows.
+fn absorb_all(
+    table: &mut GroupTable,
+    items: &[Item],
+    places: &Places,
+    values: &[Vec<Running>],
+    rows: u32,
+    more: u32,
+) -> Result<(), Memory>
+    requires few { rows + more ≤ 2097152 }
+    requires sound { AreSound rows (length items.now) table.old.values }
+    requires placed_table { IsPlaced table.old }
+    requires placed { IsPlaced (record { places = plain_places places.now.entries; values = lists values.now }) }
+    requires sound_other { AreSound more (length items.now) (lists values.now) }
+    ensures joined { OnOk result ((q : List Cell) → at (seen table.new) q ≡ merged items.now (at (seen table.old) q) (at (seen (record { places = plain_places places.now.entries; values = lists values.now })) q)) }
+    ensures sound { OnOk result (AreSound (rows + more) (length items.now) table.new.values) }
+    ensures placed { OnOk result (IsPlaced table.new) }
+{
+    for (key, place) in places {
+        table.add_group(items, key, values_of(values, *place), rows, more)?;
+    }
+    Ok(())
+}
+
+// The first sum in key order that is no whole number of 64 bits.
+fn first_over_in(places: &Places, values: &[Vec<Running>], items: &[Item]) -> Option<(u32, i128)>
+    requires few { length items.now < 2 ^ 32 }
+    requires below { AreBelow (length values.now) (plain_places places.now.entries) }
+    requires sound { (i : ℕ) → i < length (lists values.now) → length (values_at (lists values.now) i) ≡ length items.now }
+    ensures { result ≡ first_over (seen (record { places = plain_places places.now.entries; values = lists values.now })) }
+{
+    for (_, place) in places {
+        let one = over(values_of(values, *place));
+        if one.is_some() {
+            return one;
+        }
+    }
+    None
+}
+
+// The result rows in key order.
+fn rows_in(
+    alloc: Global,
+    places: &Places,
+    values: &[Vec<Running>],
+    items: &[Item],
+) -> Result<Vec<Vec<Cell>>, Memory>
+    requires same { (i : ℕ) → i < length (lists values.now) → length (values_at (lists values.now) i) ≡ length items.now }
+    requires below { AreBelow (length values.now) (plain_places places.now.entries) }
+    requires fits { AllFit (seen (record { places = plain_places places.now.entries; values = lists values.now })) }
+    ensures { IfOk result (λ rows. lists rows.items ≡ result_rows items.now (seen (record { places = plain_places places.now.entries; values = lists values.now }))) }
+{
+    let mut rows = Vec::new(alloc);
+    for (key, place) in places {
+        let row = row_of(alloc, key, items, values_of(values, *place))?;
+        rows.push(row)?;
+    }
+    Ok(rows)
+}
+
+impl GroupTable {
+    /// No groups.
+    pub(crate) fn new(alloc: Global) -> Self
+        ensures empty { result ≡ record { places = []; values = [] } }
+        ensures placed { IsPlaced result }
+    {
+        GroupTable {
+            places: BTreeMap::new(alloc),
+            values: Vec::new(alloc),
+        }
+    }
+
+    /// The allocator of the table.
+    pub(crate) fn allocator(&self) -> Global {
+        *self.values.allocator()
+    }
+
+    /// The place of a key, which is made where the key is new.
+    pub(crate) fn place_for(&mut self, items: &[Item], key: &[Cell]) -> Result<usize, Memory>
+        ensures ok { IfOk result (λ place. IsPlaceFor items.now key.now place self.old self.new) }
+        ensures err { OnErr result (self.new ≡ self.old) }
+        ensures placed { IsPlaced self.new }
+    {
+        match place_in(&self.places, key) {
+            Some(place) => Ok(place),
+            None => put_start(&mut self.places, &mut self.values, items, key),
+        }
+    }
+
+    /// Adds a row to the values at a place.
+    pub(crate) fn step(&mut self, place: usize, items: &[Item], row: &[Cell], rows: u32)
+        requires in_row { All (λ i. IsInRow i (length row.now)) items.now }
+        requires few { rows ≤ 2097151 }
+        requires there { place < length self.old.values }
+        requires same { length (values_at self.old.values place) ≡ length items.now }
+        requires room { All (HasRoom rows) (values_at self.old.values place) }
+        ensures places { self.new.places ≡ self.old.places }
+        ensures values { self.new.values ≡ set self.old.values place (nexts items.now row.now (values_at self.old.values place)) }
+        ensures room { All (HasRoom (rows + 1)) (nexts items.now row.now (values_at self.old.values place)) }
+        ensures placed { IsPlaced self.new }
+    {
+        step_at(&mut self.values, place, items, row, rows);
+    }
+
+    // Adds the values over other rows to those at a place.
+    fn join(&mut self, place: usize, items: &[Item], others: &[Running], rows: u32, more: u32)
+        requires few { rows + more ≤ 2097152 }
+        requires there { place < length self.old.values }
+        requires same { length (values_at self.old.values place) ≡ length items.now }
+        requires same_more { length others.now ≡ length items.now }
+        requires room { All (HasRoom rows) (values_at self.old.values place) }
+        requires room_more { All (HasRoom more) others.now }
+        ensures places { self.new.places ≡ self.old.places }
+        ensures values { self.new.values ≡ set self.old.values place (joins items.now (values_at self.old.values place) others.now) }
+        ensures placed { IsPlaced self.new }
+    {
+        join_at(&mut self.values, place, items, others, rows, more);
+    }
+
+    // Adds to the values of a key its values over other rows.
+    fn add_group(
+        &mut self,
+        items: &[Item],
+        key: &[Cell],
+        others: &[Running],
+        rows: u32,
+        more: u32,
+    ) -> Result<(), Memory>
+        requires few { rows + more ≤ 2097152 }
+        requires same { length others.now ≡ length items.now }
+        requires room_more { All (HasRoom more) others.now }
+        requires room { HasRoomAt rows (length items.now) (at (seen self.old) key.now) }
+        requires sound { AreSound (rows + more) (length items.now) self.old.values }
+        ensures joined { OnOk result (Puts key.now (joins items.now (base items.now (at (seen self.old) key.now)) others.now) (seen self.old) (seen self.new)) }
+        ensures sound { OnOk result (AreSound (rows + more) (length items.now) self.new.values) }
+        ensures placed { OnOk result (IsPlaced self.new) }
+    {
+        let place = self.place_for(items, key)?;
+        self.join(place, items, others, rows, more);
+        Ok(())
+    }
+
+    /// Adds the groups of another table, whose values are over `more` rows.
+    ///
+    /// After want of memory some of them may have been added.
+    pub(crate) fn absorb(
+        &mut self,
+        items: &[Item],
+        other: &GroupTable,
+        rows: u32,
+        more: u32,
+    ) -> Result<(), Memory>
+        requires placed { IsPlaced self.old }
+        requires few { rows + more ≤ 2097152 }
+        requires sound { AreSound rows (length items.now) self.old.values }
+        requires sound_other { AreSound more (length items.now) other.now.values }
+        ensures joined { OnOk result ((q : List Cell) → at (seen self.new) q ≡ merged items.now (at (seen self.old) q) (at (seen other.now) q)) }
+        ensures sound { OnOk result (AreSound (rows + more) (length items.now) self.new.values) }
+        ensures placed { OnOk result (IsPlaced self.new) }
+    {
+        absorb_all(self, items, &other.places, &other.values, rows, more)
+    }
+
+    /// The first sum, in key order and then in item order, that is no whole number of 64 bits.
+    pub(crate) fn first_over(&self, items: &[Item]) -> Option<(u32, i128)>
+        requires few { length items.now < 2 ^ 32 }
+        requires sound { (i : ℕ) → i < length self.now.values → length (values_at self.now.values i) ≡ length items.now }
+        ensures { result ≡ first_over (seen self.now) }
+    {
+        first_over_in(&self.places, &self.values, items)
+    }
+
+    /// The result rows, in key order.
+    pub(crate) fn result_rows(&self, items: &[Item]) -> Result<Vec<Vec<Cell>>, Memory>
+        requires sound { AreSound 2097152 (length items.now) self.now.values }
+        requires fit { first_over (seen self.now) ≡ None }
+        ensures { IfOk result (λ rows. lists rows.items ≡ result_rows items.now (seen self.now)) }
+    {
+        rows_in(*self.values.allocator(), &self.places, &self.values, items)
+    }
+}
