@@ -1,6 +1,7 @@
 -- The counts of faults of the devices over the system.
 use Rattle.std.specs.Prelude.{ℕ}
 use Rattle.coop_outside.specs.declared.disk_shelf.DiskShelf.{DiskShelf}
+use Rattle.coop_outside.specs.declared.scratch_depot.ScratchDepot.{ScratchDepot}
 use Rattle.coop_outside.specs.declared.stdout_sink.StdoutSink.{StdoutSink}
 
 -- how many faults the shelf of the system's files has counted
@@ -10,3 +11,10 @@ shelf_faults shelf = shelf.faults
 -- how many faults standard output has counted
 abbrev pub sink_faults : {R : Type 0} → StdoutSink R → ℕ
 sink_faults sink = sink.faults
+
+-- how many gets and how many faults the depot in a file has counted
+abbrev pub depot_gets : {R : Type 0} → ScratchDepot R → ℕ
+depot_gets depot = depot.gets
+
+abbrev pub depot_faults : {R : Type 0} → ScratchDepot R → ℕ
+depot_faults depot = depot.faults

@@ -5,26 +5,37 @@
 //! docs/DEVICES.md has the promises in one place.
 #![tactic(auto)]
 
+mod any_depot;
 mod bytes;
+mod depot;
 mod disk_shelf;
 mod failed;
+mod mem_depot;
 mod mem_shelf;
 mod mem_sink;
 mod reading;
+mod scratch_depot;
+mod scratch_file;
 mod shelf;
 mod sink;
+mod spoilt_depot;
 mod stdout_sink;
 #[cfg(test)]
 mod tests;
 mod writing;
 
+pub use any_depot::AnyDepot;
 pub use bytes::Bytes;
+pub use depot::{Depot, DepotFault};
 pub use disk_shelf::DiskShelf;
 pub use failed::Failed;
+pub use mem_depot::MemDepot;
 pub use mem_shelf::MemShelf;
 pub use mem_sink::MemSink;
 pub use reading::{ReadFault, read_all};
+pub use scratch_depot::ScratchDepot;
 pub use shelf::Shelf;
 pub use sink::Sink;
+pub use spoilt_depot::SpoiltDepot;
 pub use stdout_sink::StdoutSink;
 pub use writing::{WriteFault, write_all};
