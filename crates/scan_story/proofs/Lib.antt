@@ -5,6 +5,7 @@ pub mod Chunks
 pub mod OneGroup
 pub mod Close
 pub mod Stories
+mod Picks
 mod Worked
 pub mod Cuts
 pub mod Digits

@@ -239,6 +239,24 @@ fn the_worked_turns_are_legal(rt: HostRuntime) -> Result<(), Fail> {
 }
 
 #[test]
+fn the_elevator_goes_on_from_its_cursor(rt: HostRuntime) -> Result<(), Fail> {
+    let alloc = rt.alloc();
+    let mut s = shorter(alloc, PolicyName::Elevator)?;
+    s.cursor = [1u32].iter().copied().collect(alloc)?;
+    // query 2 is further away, and so are chunks 0 and 2 of query 1
+    for (plan, place) in [
+        ("plan 0 1 1\n", None),
+        ("plan 0 1 0\n", Some(2)),
+        ("plan 0 1 2\n", Some(2)),
+        ("plan 1 2 2\n", Some(2)),
+    ] {
+        let text = format!(in alloc; "register 0 1\nregister 1 2\n{plan}")?;
+        assert_eq!(rt; illegal_at(&rt, alloc, &s, text.as_str())?, place, "{plan}");
+    }
+    Ok(())
+}
+
+#[test]
 fn reasons_of_failed_loads(rt: HostRuntime) -> Result<(), Fail> {
     let alloc = rt.alloc();
     let s = two_counts(alloc)?;
@@ -415,6 +433,6 @@ fn each_single_change_of_a_printed_story_is_seen(rt: HostRuntime) -> Result<(), 
     assert!(rt; entries.len() == 23);
     assert_eq!(rt; unseen_at(alloc, &s, entries.as_slice(), 7)?, 2);
     let s = six_chunks(alloc, PolicyName::Relevance)?;
-    assert_eq!(rt; unseen(&rt, alloc, &s, SIX_RELEVANCE, 1)?, 0);
+    assert_eq!(rt; unseen(&rt, alloc, &s, SIX_RELEVANCE, 56)?, 0);
     Ok(())
 }
