@@ -1,0 +1,4 @@
+pub mod Assembled
+pub mod Finishing
+pub mod Rowwise
+pub mod Sounds

@@ -1,0 +1,53 @@
+use Rattle.std.proofs.Common.{◌+◌, ◌≤◌, ◌∙◌, ◌∷◌, List, ℕ, length, arith, sym, ap, refl}
+use Rattle.std.proofs.lemmas.List.Elements.{All-rest}
+use Rattle.csv.specs.Records.{fields_of}
+use Rattle.csv_rows.specs.Rows.{table_records}
+use Rattle.csv_rows.proofs.Left.{table-short}
+use Rattle.csv_rows.proofs.Judging.{fits-row, first-judged, next-judged}
+use Rattle.csv_load.proofs.Rowwise.{so_far-none, so_far-more, rest-none}
+use Rattle.csv_load.proofs.reading.read_rows.Goals as goal
+
+pub judge_header-requires : goal.judge_header-requires
+judge_header-requires c =
+    let e = (rw c.if-not-branch.false at c.in_ok-next.ensures.found) refl in
+    let t = c.args.text.now in
+    record { small = omega (arith, fits-row (length t) (fields_of c.next.new.row) c.next.new.self (table_records t) c.requires.small (sym c.new-rows.ensures.all ∙ e) (table-short t)) }
+
+pub overflow_cast-result : goal.overflow_cast-result
+overflow_cast-result c =
+    let e = (rw c.if-branch.true at c.in_ok-next-2.ensures.found) refl in
+    rw c.len-then-len-width.ensures (fits-row (length c.args.text.now) (fields_of c.next-in-loop-read.new.row) c.next-in-loop-read.new.self c.loop-read.rows c.requires.small e c.loop-read.invariant.short)
+
+pub loop-read-init : goal.loop-read-init
+loop-read-init c =
+    let e = (rw c.if-not-branch.false at c.in_ok-next.ensures.found) refl in
+    let t = c.args.text.now in
+    let all = sym c.new-rows.ensures.all ∙ e in
+    record {
+      wide = omega (arith, ap length c.in-Ok.ensures.names, c.len-width.ensures);
+      within = omega arith;
+      judged = first-judged (table_records t) c.next.new.self (fields_of c.next.new.row) c.len-width.result all c.len-width.ensures (sym c.in_default.ensures.refusal);
+      counted = omega (arith, ap length all);
+      short = All-rest (λ (r : List (List ℕ)). length r ≤ length t + 1) (fields_of c.next.new.row) c.next.new.self (table_records t) all (table-short t);
+      so_far = so_far-none (table_records t) c.in-Ok.read.names.items c.in-Ok.read.columns.items c.in-Ok.read.cells.items c.next.new.self (length (fields_of c.next.new.row))
+          (all ∙ ap (λ (fields : List (List ℕ)). fields ∷ c.next.new.self) (sym c.in-Ok.ensures.names)) (ap length (sym c.in-Ok.ensures.names))
+          c.in-Ok.ensures.columns c.in-Ok.ensures.cells;
+    }
+
+pub loop-read-preserved : goal.loop-read-preserved
+loop-read-preserved c =
+    let e = (rw c.if-branch.true at c.in_ok-next-2.ensures.found) refl in
+    let t = c.args.text.now in
+    let is = c.loop-read.invariant in
+    let put = rw c.deref_mut.ensures.value at c.in-Ok-put_row.ensures in
+    record {
+      wide = is.wide;
+      within = omega arith;
+      judged = is.judged ∙ next-judged c.loop-read.rows c.next-in-loop-read.new.self (fields_of c.next-in-loop-read.new.row) c.len-width.result c.loop-read.count e (omega arith) (omega arith);
+      counted = omega (arith, is.counted, ap length e);
+      short = All-rest (λ (r : List (List ℕ)). length r ≤ length t + 1) (fields_of c.next-in-loop-read.new.row) c.next-in-loop-read.new.self c.loop-read.rows e is.short;
+      so_far = rw (rest-none c.put_row.new.columns c.loop-read.read.columns.items c.loop-read.read.columns.len put.width (omega (arith, c.loop-read.read.columns.ok.0)))
+          (so_far-more (table_records t) c.loop-read.read.names.items c.loop-read.read.columns.items c.put_row.new.columns c.loop-read.read.cells.items c.put_row.new.cells.items
+          (fields_of c.next-in-loop-read.new.row) c.loop-read.rows c.next-in-loop-read.new.self is.so_far e
+          (omega (arith, c.len.ensures, c.if-len-width.false, is.wide)) put);
+    }

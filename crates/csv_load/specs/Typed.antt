@@ -1,0 +1,22 @@
+-- A column whose kind is known, and what makes its cells of the places of its texts.
+use Rattle.std.specs.Prelude.{◌≡◌, ◌≢◌, ◌≤◌, ℕ, List, [], true}
+use Rattle.column_types.specs.Kinds.{is_of, kind_of}
+use Rattle.csv_load.specs.Gathered.{IsCell, Stands}
+use Rattle.csv_load.specs.declared.typed.Typed.{Typed}
+use Rattle.csv_rows.specs.Judged.{Fields}
+use Rattle.table_core.specs.Value.{places_of}
+use Rattle.table_core.specs.declared.cell.Cell.{Cell}
+use Rattle.table_core.specs.declared.schema.Kind.TheVariants.{Text}
+use Rattle.text_ranks.specs.Ranks.{IsRanked}
+
+-- the column of these texts
+pub record IsTyped (texts : Fields) (column : Typed) : Type 0 where
+  pub kind_is : column.kind ≡ kind_of texts
+  pub few : places_of column.kind ≤ 9
+  pub ranked : column.kind ≡ Text → IsRanked texts column.dict column.codes.items
+  pub numbers : column.kind ≢ Text → (column.texts ≡ texts) × (column.dict ≡ [])
+
+-- the cell of a field that has this one over the column's texts
+abbrev pub IsFinished : Typed → Cell → Cell → Type 0
+IsFinished column cell new = (texts : Fields) (field : List ℕ) → IsTyped texts column → Stands texts cell field → is_of column.kind field ≡ true
+    → IsCell column.kind column.dict field new

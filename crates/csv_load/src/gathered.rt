@@ -1,0 +1,103 @@
+// The texts of one column, gathered as its fields come.
+ghost use Rattle.std.specs.Prelude.{◌≡◌, ◌<◌, [], List, ℕ, IfOk, IfSome, length, slice_index_or};
+ghost use Rattle.csv_load.specs.Gathered.{IsPut};
+ghost use Rattle.csv_load.specs.Seen.{AreSound};
+ghost use Rattle.csv_rows.specs.Judged.{Fields};
+
+use std::alloc::{AllocError, Global};
+use std::collections::HashMap;
+use std::marker::Model;
+use table_core::{Cell, Texts};
+
+// How many texts of a column are looked up. Once there are more, each is kept as it comes, and a sort finds the equal
+// ones. The hash of the look-up has no seed, since none is at hand here, so this also bounds what texts that were
+// chosen to have one hash cost.
+const MOST_SEEN: usize = 32768;
+
+// The place of a text among the first `count` texts, where it was remembered and they aren't too many.
+fn place_seen(seen: &HashMap<Vec<u8>, u32>, field: &[u8], count: usize) -> Option<u32>
+    ensures { (texts : Fields) → AreSound texts seen.now.entries → IfSome result (λ c. (c < length texts) × (slice_index_or texts c [] ≡ field.now)) }
+{
+    if count > MOST_SEEN {
+        return None;
+    }
+    match seen.get(field) {
+        Some(place) => Some(*place),
+        None => None,
+    }
+}
+
+// Remembers the place of a text, unless there are too many.
+fn remember(
+    alloc: Global,
+    seen: &mut HashMap<Vec<u8>, u32>,
+    field: &[u8],
+    place: u32,
+) -> Result<(), AllocError>
+    ensures { (texts : Fields) → AreSound texts seen.old.entries → place < length texts → slice_index_or texts place [] ≡ field.now → AreSound texts seen.new.entries }
+{
+    if place as usize >= MOST_SEEN {
+        return Ok(());
+    }
+    let key = Vec::from_slice(alloc, field)?;
+    match seen.insert(key, place) {
+        Ok(_) => return Ok(()),
+        Err(_) => return Err(AllocError),
+    }
+}
+
+// The texts of a column, seen as their list. Those that are looked up stand there once.
+#[derive(Drop)]
+pub(crate) struct Gathered {
+    alloc: Global,
+    texts: Texts,
+    seen: HashMap<Vec<u8>, u32>,
+}
+
+impl Model for Gathered {
+    ghost Value = { List (List ℕ) };
+
+    ghost view = { λ s. s.texts };
+
+    ghost invariant = { λ s. AreSound s.texts s.seen.entries };
+}
+
+impl Gathered {
+    pub(crate) fn new(alloc: Global) -> Self
+        ensures { result ≡ [] }
+    {
+        Gathered {
+            alloc,
+            texts: Texts::new(alloc),
+            seen: HashMap::new(alloc),
+        }
+    }
+
+    // The texts themselves. The look-up is let go.
+    pub(crate) fn into_texts(self) -> Texts
+        ensures { result ≡ self }
+    {
+        let Gathered { texts, .. } = self;
+        texts
+    }
+
+    // The cell of a field, whose text is put at the end where it isn't found.
+    pub(crate) fn put(&mut self, field: &[u8]) -> Result<Cell, AllocError>
+        ensures { IfOk result (λ cell. IsPut self.old field.now self.new cell) }
+    {
+        if field.len() == 0 {
+            return Ok(Cell::Null);
+        }
+        let place = self.texts.len();
+        match place_seen(&self.seen, field, place) {
+            Some(known) => return Ok(Cell::Code(known)),
+            None => {}
+        }
+        if place >= 4294967295 {
+            return Err(AllocError);
+        }
+        self.texts.push(field)?;
+        remember(self.alloc, &mut self.seen, field, place as u32)?;
+        Ok(Cell::Code(place as u32))
+    }
+}

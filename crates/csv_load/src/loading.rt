@@ -1,0 +1,91 @@
+// The table of a text.
+ghost use Rattle.std.specs.Prelude.{◌≡◌, ◌≢◌, ◌≤◌, ◌<◌, ℕ, [], IfErr, IfOk, Some, length, map, slice_index_or};
+ghost use Rattle.csv_load.specs.Finished.{columns_with};
+ghost use Rattle.csv_load.specs.Loaded.{IsLoaded};
+ghost use Rattle.csv_load.specs.declared.typed.Typed.{Typed};
+ghost use Rattle.csv_rows.specs.Judged.{refusal_of};
+ghost use Rattle.csv_rows.specs.Rows.{table_records};
+ghost use Rattle.csv_rows.specs.declared.refusal.LoadRefusal.TheVariants as refusal;
+
+use crate::reading::{Read, read_rows};
+use crate::typed::{Typed, finish_cells, type_columns};
+use csv_rows::LoadRefusal;
+use std::alloc::{AllocError, Global};
+use table_core::{Bytes, Column, Dict, Schema, Table};
+
+/// A table with the dictionaries of its columns.
+#[derive(Drop)]
+pub struct Loaded {
+    /// The table of 1 to 16 columns and at most 2097152 rows.
+    pub table: Table,
+    /// A dictionary for each column, in their order: an empty one but for a column of texts.
+    pub dicts: Vec<Dict>,
+}
+
+// A column for each name, with the kind that was found for it.
+fn schema_of(alloc: Global, names: Vec<Bytes>, typed: &[Typed]) -> Result<Schema, AllocError>
+    requires { length typed.now ≡ length names.items }
+    ensures { IfOk result (λ schema. schema ≡ columns_with names.items typed.now) }
+{
+    let mut columns = Vec::new(alloc);
+    let mut place = 0;
+    for name in names {
+        columns.push(Column {
+            name,
+            kind: typed[place].kind,
+        })?;
+        place += 1;
+    }
+    Ok(Schema::new(columns))
+}
+
+// The dictionaries of the columns.
+fn dicts_of(alloc: Global, typed: Vec<Typed>) -> Result<Vec<Dict>, AllocError>
+    ensures { IfOk result (λ dicts. dicts.items ≡ map (λ column. column.dict) typed.items) }
+{
+    let mut dicts = Vec::new(alloc);
+    for column in typed {
+        let Typed { dict, .. } = column;
+        dicts.push(dict)?;
+    }
+    Ok(dicts)
+}
+
+/// The table of a CSV text of at most 268435456 bytes, or why it is none: the first cause that holds, at the
+/// first place where it holds, or want of memory, which may come in place of any other answer.
+///
+/// The text is read once. The call keeps the texts of each column until its kind is known, and of a column with
+/// up to 32768 different texts each just once. After a refusal nothing is left of the table.
+/// docs/TABLES.md says which texts are tables and what their cells are.
+pub fn load(alloc: Global, bytes: &[u8]) -> Result<Loaded, LoadRefusal>
+    requires small { length bytes.now ≤ 268435456 }
+    ensures loaded { IfOk result (λ t. IsLoaded (table_records bytes.now) t.table t.dicts.items) }
+    ensures refused { IfErr result (λ e. e ≢ refusal.Memory → refusal_of (table_records bytes.now) ≡ Some e) }
+{
+    let read = match read_rows(alloc, bytes) {
+        Ok(read) => read,
+        Err(refusal) => return Err(refusal),
+    };
+    let Read {
+        names,
+        columns,
+        mut cells,
+    } = read;
+    let typed = match type_columns(alloc, columns) {
+        Ok(typed) => typed,
+        Err(_) => return Err(LoadRefusal::Memory),
+    };
+    finish_cells(&mut cells, typed.as_slice());
+    let schema = match schema_of(alloc, names, typed.as_slice()) {
+        Ok(schema) => schema,
+        Err(_) => return Err(LoadRefusal::Memory),
+    };
+    let dicts = match dicts_of(alloc, typed) {
+        Ok(dicts) => dicts,
+        Err(_) => return Err(LoadRefusal::Memory),
+    };
+    Ok(Loaded {
+        table: Table::new(schema, cells),
+        dicts,
+    })
+}

@@ -1,0 +1,118 @@
+// The rows of a text, each field kept once.
+ghost use Rattle.std.specs.Prelude.{◌≡◌, ◌≢◌, ◌≤◌, ◌+◌, [], IfErr, IfOk, None, Some, length, replicate};
+ghost use Rattle.csv.specs.Records.{fields_of};
+ghost use Rattle.csv_load.specs.Gathered.{RowPut};
+ghost use Rattle.csv_load.specs.Reading.{IsRead};
+ghost use Rattle.csv_rows.specs.Judged.{refusal_of};
+ghost use Rattle.csv_rows.specs.Rows.{table_records};
+ghost use Rattle.csv_rows.specs.declared.refusal.LoadRefusal.TheVariants as refusal;
+
+use crate::gathered::Gathered;
+use csv::ByteRecord;
+use csv_rows::{LoadRefusal, Rows, field, judge_header};
+use std::alloc::{AllocError, Global};
+use table_core::{Bytes, Cell};
+
+const MAX_ROWS: u32 = 2097152;
+
+// The names of a header, the texts of each column below it, and a cell for each field row by row.
+#[derive(Drop)]
+pub(crate) struct Read {
+    pub names: Vec<Bytes>,
+    pub columns: Vec<Gathered>,
+    pub cells: Vec<Cell>,
+}
+
+// The fields of a record.
+fn names_of(alloc: Global, row: &ByteRecord) -> Result<Vec<Bytes>, AllocError>
+    ensures { IfOk result (λ v. v.items ≡ fields_of row.now) }
+{
+    let mut names = Vec::new(alloc);
+    for place in 0..row.len() {
+        let name = Vec::from_slice(alloc, field(row, place))?;
+        names.push(Bytes::new(name))?;
+    }
+    Ok(names)
+}
+
+fn no_columns(alloc: Global, width: usize) -> Result<Vec<Gathered>, AllocError>
+    ensures { IfOk result (λ v. v.items ≡ replicate width []) }
+{
+    let mut columns = Vec::new(alloc);
+    for _place in 0..width {
+        columns.push(Gathered::new(alloc))?;
+    }
+    Ok(columns)
+}
+
+// What is read with a header alone.
+fn no_rows(alloc: Global, header: &ByteRecord) -> Result<Read, AllocError>
+    ensures names { IfOk result (λ read. read.names.items ≡ fields_of header.now) }
+    ensures columns { IfOk result (λ read. read.columns.items ≡ replicate (length (fields_of header.now)) []) }
+    ensures cells { IfOk result (λ read. read.cells.items ≡ []) }
+{
+    Ok(Read {
+        names: names_of(alloc, header)?,
+        columns: no_columns(alloc, header.len())?,
+        cells: Vec::new(alloc),
+    })
+}
+
+// Puts each field of a row in its column, and its cell at the end.
+fn put_row(
+    columns: &mut [Gathered],
+    cells: &mut Vec<Cell>,
+    row: &ByteRecord,
+) -> Result<(), AllocError>
+    requires { length columns.old ≡ length (fields_of row.now) }
+    ensures { IfOk result (λ _. RowPut columns.old cells.old.items (fields_of row.now) columns.new cells.new.items) }
+{
+    for place in 0..columns.len() {
+        let cell = columns[place].put(field(row, place))?;
+        cells.push(cell)?;
+    }
+    Ok(())
+}
+
+// Reads each record once, and judges it.
+pub(crate) fn read_rows(alloc: Global, text: &[u8]) -> Result<Read, LoadRefusal>
+    requires small { length text.now ≤ 268435456 }
+    ensures read { IfOk result (λ r. IsRead (table_records text.now) r.names.items r.columns.items r.cells.items) }
+    ensures refused { IfErr result (λ e. e ≢ refusal.Memory → refusal_of (table_records text.now) ≡ Some e) }
+{
+    let mut rows = Rows::new(alloc, text);
+    let mut row = ByteRecord::new(alloc);
+    if !rows.next(&mut row)? {
+        return Err(LoadRefusal::NoHeader);
+    }
+    let width = row.len();
+    if let Some(refusal) = judge_header(&row) {
+        return Err(refusal);
+    }
+    // The reader gives no record without fields, though no clause of it says so.
+    if width == 0 {
+        return Err(LoadRefusal::Memory);
+    }
+    let mut read = match no_rows(alloc, &row) {
+        Ok(read) => read,
+        Err(_) => return Err(LoadRefusal::Memory),
+    };
+    let mut count: u32 = 0;
+    while rows.next(&mut row)? {
+        if count == MAX_ROWS {
+            return Err(LoadRefusal::TooManyRows);
+        }
+        if row.len() != width {
+            return Err(LoadRefusal::Ragged {
+                row: count + 1,
+                fields: row.len() as u32,
+            });
+        }
+        match put_row(&mut read.columns, &mut read.cells, &row) {
+            Ok(()) => {}
+            Err(_) => return Err(LoadRefusal::Memory),
+        }
+        count += 1;
+    }
+    Ok(read)
+}
