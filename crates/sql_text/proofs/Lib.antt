@@ -1,0 +1,14 @@
+pub mod Rules
+pub mod Numerals
+pub mod Tokens
+pub mod ReadConditions
+pub mod ReadLists
+pub mod ReadThings
+pub mod ReadQueries
+pub mod ReadTexts
+pub mod Written
+pub mod Spelling
+pub mod SpelledWords
+pub mod SpelledTokens
+pub mod SpelledConditions
+pub mod SpelledQueries

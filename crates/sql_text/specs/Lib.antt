@@ -1,0 +1,5 @@
+pub mod Grammar
+pub mod Words
+pub mod Reading
+pub mod Queries
+pub mod Writing

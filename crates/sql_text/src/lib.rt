@@ -1,0 +1,24 @@
+//! Reads the text of a query into a tree.
+//!
+//! `docs/SQL.md` has the language.
+#![tactic(auto)]
+
+mod condition;
+mod conditions;
+mod lists;
+mod literals;
+mod query;
+mod reading;
+mod steps;
+mod tail;
+mod word;
+mod writing;
+
+pub use condition::{Literal, QCond};
+pub use query::{QItem, QOrder, Query};
+pub use reading::{one_query, read_query};
+pub use sql_tokens::{Span, TextRefusal, Token, TokenKind, lex, split};
+pub use writing::write_query;
+
+#[cfg(test)]
+mod tests;
