@@ -1,5 +1,5 @@
 //! The records of a CSV text one by one, as the `csv` crate's reader gives them with its default format,
-//! and why a list of records is no table. This is the only crate that calls `csv`. A cursor, `Rows`, is
+//! and why a list of records is no table. No other crate reads by `csv`. A cursor, `Rows`, is
 //! seen as the list of the records that are left, so a loop over it is a loop over a list.
 //! docs/TABLES.md has the rules for users.
 #![tactic(auto)]
