@@ -4,3 +4,4 @@ pub mod Ranges
 pub mod Law
 pub mod Sets
 pub mod Fitting
+pub mod Bits

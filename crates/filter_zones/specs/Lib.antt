@@ -1,3 +1,4 @@
 pub mod Truth
 pub mod Zone
 pub mod Possible
+pub mod Masks

@@ -1,6 +1,6 @@
 // Conditions, and their truth on a row.
 ghost use Rattle.std.specs.Prelude.{◌≡◌, ◌<◌, ◌+ℤ◌, length};
-ghost use Rattle.std.specs.Ordering.{int_cmp, nat_cmp};
+ghost use Rattle.std.specs.Ordering.{int_cmp, is_gt, is_lt, nat_cmp};
 ghost use Rattle.filter_zones.specs.Truth as spec;
 
 use crate::truth::Truth;
@@ -58,7 +58,7 @@ fn doubled(n: i64) -> i128
 }
 
 // How a cell stands to a value.
-pub(crate) fn order_of(cell: Cell, value: Bound) -> Ordering
+fn order_of(cell: Cell, value: Bound) -> Ordering
     ensures { result ≡ spec.order_of cell value }
 {
     match (cell, value) {
@@ -70,6 +70,30 @@ pub(crate) fn order_of(cell: Cell, value: Bound) -> Ordering
             Ordering::Greater
         },
         _ => Ordering::Equal,
+    }
+}
+
+// Whether a cell is below a value.
+pub(crate) fn is_below(cell: Cell, value: Bound) -> bool
+    ensures { result ≡ is_lt (spec.order_of cell value) }
+{
+    match (cell, value) {
+        (Cell::Int(n), Bound::Number(h)) => number_order(doubled(n), h).is_lt(),
+        (Cell::Code(k), Bound::Code(j)) => code_order(k, j).is_lt(),
+        (Cell::Code(k), Bound::Gap(p)) => k < p,
+        _ => false,
+    }
+}
+
+// Whether a cell is above a value.
+pub(crate) fn is_above(cell: Cell, value: Bound) -> bool
+    ensures { result ≡ is_gt (spec.order_of cell value) }
+{
+    match (cell, value) {
+        (Cell::Int(n), Bound::Number(h)) => number_order(doubled(n), h).is_gt(),
+        (Cell::Code(k), Bound::Code(j)) => code_order(k, j).is_gt(),
+        (Cell::Code(k), Bound::Gap(p)) => p <= k,
+        _ => false,
     }
 }
 

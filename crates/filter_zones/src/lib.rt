@@ -2,6 +2,7 @@
 #![tactic(auto)]
 
 mod cond;
+mod masks;
 mod possible;
 mod pruning;
 #[cfg(test)]

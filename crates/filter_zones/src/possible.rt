@@ -1,60 +1,66 @@
 // The truths that a condition may have in a chunk.
-ghost use Rattle.std.specs.Prelude.{◌≡◌, ◌<◌};
+ghost use Rattle.std.specs.Prelude.{◌≡◌, ◌<◌, ◌≤◌, All, length, not};
+ghost use Rattle.std.specs.Ordering.{is_eq};
+ghost use Rattle.filter_zones.specs.Truth.{order_of};
 ghost use Rattle.filter_zones.specs.Zone.{zone_at as zone_of_column};
+ghost use Rattle.filter_zones.specs.Masks.{AreTruths};
 ghost use Rattle.filter_zones.specs.Possible as spec;
 
-use crate::cond::{Bound, Cond, order_of};
+use crate::cond::{Bound, Cond, is_above, is_below};
+use crate::masks::Masks;
 use crate::truth_set::TruthSet;
 use crate::zone::{ChunkZones, Zone};
-use std::cmp::Ordering;
-use table_core::Op;
+use table_core::{Cell, Op};
 
-// Whether a comparison may be true where the least cell stands to the value as `low` and the greatest as `high`.
-fn may_hold(op: Op, low: Ordering, high: Ordering) -> bool
-    ensures { result ≡ spec.may_hold op low high }
+fn differs(cell: Cell, value: Bound) -> bool
+    ensures { result ≡ not (is_eq (order_of cell value)) }
+{
+    is_below(cell, value) || is_above(cell, value)
+}
+
+// Whether a comparison may be true over the cells from `low` to `high`.
+fn may_hold(op: Op, value: Bound, low: Cell, high: Cell) -> bool
+    ensures { result ≡ spec.may_hold op (order_of low value) (order_of high value) }
 {
     match op {
-        Op::Eq => low.is_le() && high.is_ge(),
-        Op::Ne => !(low.is_eq() && high.is_eq()),
-        Op::Lt => low.is_lt(),
-        Op::Le => low.is_le(),
-        Op::Gt => high.is_gt(),
-        Op::Ge => high.is_ge(),
+        Op::Eq => !is_above(low, value) && !is_below(high, value),
+        Op::Ne => differs(low, value) || differs(high, value),
+        Op::Lt => is_below(low, value),
+        Op::Le => !is_above(low, value),
+        Op::Gt => is_above(high, value),
+        Op::Ge => !is_below(high, value),
     }
 }
 
 // Whether it may be false.
-fn may_fail(op: Op, low: Ordering, high: Ordering) -> bool
-    ensures { result ≡ spec.may_fail op low high }
+fn may_fail(op: Op, value: Bound, low: Cell, high: Cell) -> bool
+    ensures { result ≡ spec.may_fail op (order_of low value) (order_of high value) }
 {
     match op {
-        Op::Eq => !(low.is_eq() && high.is_eq()),
-        Op::Ne => low.is_le() && high.is_ge(),
-        Op::Lt => high.is_ge(),
-        Op::Le => high.is_gt(),
-        Op::Gt => low.is_le(),
-        Op::Ge => low.is_lt(),
+        Op::Eq => differs(low, value) || differs(high, value),
+        Op::Ne => !is_above(low, value) && !is_below(high, value),
+        Op::Lt => !is_below(high, value),
+        Op::Le => is_above(high, value),
+        Op::Gt => !is_above(low, value),
+        Op::Ge => is_below(low, value),
     }
 }
 
 fn ranged(op: Op, value: Bound, zone: &Zone) -> TruthSet
     ensures { result ≡ spec.ranged op value zone.now.has_null zone.now.range }
 {
+    let can_unknown = zone.has_null;
     match zone.range {
         None => TruthSet {
             can_false: false,
-            can_unknown: zone.has_null,
+            can_unknown,
             can_true: false,
         },
-        Some((low, high)) => {
-            let low = order_of(low, value);
-            let high = order_of(high, value);
-            TruthSet {
-                can_false: may_fail(op, low, high),
-                can_unknown: zone.has_null,
-                can_true: may_hold(op, low, high),
-            }
-        }
+        Some((low, high)) => TruthSet {
+            can_false: may_fail(op, value, low, high),
+            can_unknown,
+            can_true: may_hold(op, value, low, high),
+        },
     }
 }
 
@@ -70,7 +76,7 @@ fn null_tests(negated: bool, zone: &Zone) -> TruthSet
 }
 
 fn zone_at(zones: &[Zone; 16], column: u32) -> &Zone
-    requires { column < 16 }
+    requires { column < length zones.now }
     ensures { result.now ≡ zone_of_column zones.now column }
 {
     &zones[column as usize]
@@ -100,4 +106,46 @@ pub fn may_be(cond: &Cond, zones: &ChunkZones) -> TruthSet
     ensures each_row { spec.HoldsEachRow cond.now zones.now.zones result }
 {
     truths(cond, zones)
+}
+
+// The truths that a comparison may have in each of at most 64 chunks.
+fn ranged_in_each(column: u32, op: Op, value: Bound, chunks: &[ChunkZones]) -> Masks
+    requires few { length chunks.now ≤ 64 }
+    requires there { All (λ chunk. column < length chunk.zones) chunks.now }
+    ensures { AreTruths (λ chunk. let zone = zone_of_column chunk.zones column in spec.ranged op value zone.has_null zone.range) chunks.now result }
+{
+    let mut masks = Masks::NONE;
+    for (k, chunk) in chunks.iter().enumerate() {
+        masks.add(k as u32, ranged(op, value, zone_at(&chunk.zones, column)));
+    }
+    masks
+}
+
+// The truths that IS NULL, or IS NOT NULL, may have in each of at most 64 chunks.
+fn null_tests_in_each(column: u32, negated: bool, chunks: &[ChunkZones]) -> Masks
+    requires few { length chunks.now ≤ 64 }
+    requires there { All (λ chunk. column < length chunk.zones) chunks.now }
+    ensures { AreTruths (λ chunk. spec.null_tests negated (zone_of_column chunk.zones column)) chunks.now result }
+{
+    let mut masks = Masks::NONE;
+    for (k, chunk) in chunks.iter().enumerate() {
+        masks.add(k as u32, null_tests(negated, zone_at(&chunk.zones, column)));
+    }
+    masks
+}
+
+// The truths that a condition may have in each of at most 64 chunks: each part of the condition is visited once for
+// all of them.
+pub(crate) fn truths_in_each(cond: &Cond, chunks: &[ChunkZones]) -> Masks
+    requires few { length chunks.now ≤ 64 }
+    requires fits { All (λ chunk. spec.FitsZones cond.now chunk.zones) chunks.now }
+    ensures { AreTruths (λ chunk. spec.possible cond.now chunk.zones) chunks.now result }
+{
+    match cond {
+        Cond::Compare { column, op, value } => ranged_in_each(*column, *op, *value, chunks),
+        Cond::IsNull { column, negated } => null_tests_in_each(*column, *negated, chunks),
+        Cond::And(a, b) => truths_in_each(a, chunks).and(truths_in_each(b, chunks)),
+        Cond::Or(a, b) => truths_in_each(a, chunks).or(truths_in_each(b, chunks)),
+        Cond::Not(a) => truths_in_each(a, chunks).opposites(),
+    }
 }

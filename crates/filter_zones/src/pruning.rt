@@ -1,20 +1,42 @@
 // The chunks that a query needs.
-ghost use Rattle.std.specs.Prelude.{◌≡◌, ◌<◌, ◌≤◌, ℕ, All, IfSome, length, false, option_copied, slice_get};
+ghost use Rattle.std.specs.Prelude.{◌≡◌, ◌<◌, ◌≤◌, ◌+◌, ℕ, All, IfSome, length, false, option_copied};
 ghost use Rattle.table_core.specs.Sets.{has};
+ghost use Rattle.filter_zones.specs.Masks.{is_set};
 ghost use Rattle.filter_zones.specs.Possible as spec;
 
 use crate::cond::Cond;
-use crate::possible::may_be;
+use crate::possible::truths_in_each;
 use crate::zone::ChunkZones;
 use table_core::ChunkSet;
 
-fn is_needed(cond: Option<&Cond>, chunk: &ChunkZones) -> bool
-    requires { IfSome (option_copied cond) (λ c. spec.FitsZones c chunk.now.zones) }
-    ensures { result ≡ spec.is_needed (option_copied cond.entry) chunk.now }
+// So many chunks are looked at together: one bit of a word for each.
+const TOGETHER: usize = 64;
+
+// Of at most 64 chunks, the bits of those that are needed.
+fn needed_bits(cond: Option<&Cond>, chunks: &[ChunkZones]) -> u64
+    requires few { length chunks.now ≤ 64 }
+    requires fits { IfSome (option_copied cond) (λ c. All (λ chunk. spec.FitsZones c chunk.zones) chunks.now) }
+    ensures { (k : ℕ) → k < length chunks.now → is_set result k ≡ spec.is_needed (option_copied cond.entry) (spec.chunk_at chunks.now k) }
 {
     match cond {
-        None => true,
-        Some(cond) => may_be(cond, chunk).can_true,
+        None => u64::MAX,
+        Some(cond) => truths_in_each(cond, chunks).can_true,
+    }
+}
+
+// Puts `from + k` into the set for each bit `k` that is set, of so many; the set has no number from `from` on.
+fn insert_bits(found: &mut ChunkSet, from: u32, count: u32, bits: u64)
+    requires few { count ≤ 64 }
+    requires below { from + count ≤ 1024 }
+    requires none { (c : ℕ) → from ≤ c → has found.old c ≡ false }
+    ensures kept { (c : ℕ) → c < from → has found.new c ≡ has found.old c }
+    ensures put { (k : ℕ) → k < count → has found.new (from + k) ≡ is_set bits k }
+    ensures none { (c : ℕ) → from + count ≤ c → has found.new c ≡ false }
+{
+    for k in 0..count {
+        if bits >> k & 1 == 1 {
+            found.insert(from + k);
+        }
     }
 }
 
@@ -29,10 +51,12 @@ pub fn needed(cond: Option<&Cond>, zones: &[ChunkZones]) -> ChunkSet
     ensures outside { IfSome (option_copied cond.entry) (λ c. spec.NoneTrueOutside c zones.now result) }
 {
     let mut found = ChunkSet::empty();
-    for (number, chunk) in zones.iter().enumerate() {
-        if is_needed(cond, chunk) {
-            found.insert(number as u32);
-        }
+    let mut from = 0;
+    while from < zones.len() {
+        let to = zones.len().min(from + TOGETHER);
+        let bits = needed_bits(cond, &zones[from..to]);
+        insert_bits(&mut found, from as u32, (to - from) as u32, bits);
+        from = to;
     }
     // Its contract says that the members of a set rise, so the set is the list that the definition names.
     let _count = found.len();
