@@ -4,18 +4,18 @@ ghost use Rattle.csv_load.specs.Gathered.{IsPut};
 ghost use Rattle.csv_load.specs.Seen.{AreSound};
 ghost use Rattle.csv_rows.specs.Judged.{Fields};
 
+use crate::seeded::Seeded;
 use std::alloc::{AllocError, Global};
 use std::collections::HashMap;
 use std::marker::Model;
 use table_core::{Cell, Texts};
 
 // How many texts of a column are looked up. Once there are more, each is kept as it comes, and a sort finds the equal
-// ones. The hash of the look-up has no seed, since none is at hand here, so this also bounds what texts that were
-// chosen to have one hash cost.
+// ones.
 const MOST_SEEN: usize = 32768;
 
 // The place of a text among the first `count` texts, where it was remembered and they aren't too many.
-fn place_seen(seen: &HashMap<Vec<u8>, u32>, field: &[u8], count: usize) -> Option<u32>
+fn place_seen(seen: &HashMap<Vec<u8>, u32, Seeded>, field: &[u8], count: usize) -> Option<u32>
     ensures { (texts : Fields) → AreSound texts seen.now.entries → IfSome result (λ c. (c < length texts) × (slice_index_or texts c [] ≡ field.now)) }
 {
     if count > MOST_SEEN {
@@ -30,7 +30,7 @@ fn place_seen(seen: &HashMap<Vec<u8>, u32>, field: &[u8], count: usize) -> Optio
 // Remembers the place of a text, unless there are too many.
 fn remember(
     alloc: Global,
-    seen: &mut HashMap<Vec<u8>, u32>,
+    seen: &mut HashMap<Vec<u8>, u32, Seeded>,
     field: &[u8],
     place: u32,
 ) -> Result<(), AllocError>
@@ -51,7 +51,7 @@ fn remember(
 pub(crate) struct Gathered {
     alloc: Global,
     texts: Texts,
-    seen: HashMap<Vec<u8>, u32>,
+    seen: HashMap<Vec<u8>, u32, Seeded>,
 }
 
 impl Model for Gathered {
@@ -63,13 +63,14 @@ impl Model for Gathered {
 }
 
 impl Gathered {
-    pub(crate) fn new(alloc: Global) -> Self
+    // Without texts. The hash is the look-up's.
+    pub(crate) fn new(alloc: Global, hash: Seeded) -> Self
         ensures { result ≡ [] }
     {
         Gathered {
             alloc,
             texts: Texts::new(alloc),
-            seen: HashMap::new(alloc),
+            seen: HashMap::with_hasher(alloc, hash),
         }
     }
 

@@ -6,6 +6,7 @@
 mod gathered;
 mod loading;
 mod reading;
+mod seeded;
 #[cfg(test)]
 mod tests;
 mod typed;

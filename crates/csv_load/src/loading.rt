@@ -8,9 +8,11 @@ ghost use Rattle.csv_rows.specs.Rows.{table_records};
 ghost use Rattle.csv_rows.specs.declared.refusal.LoadRefusal.TheVariants as refusal;
 
 use crate::reading::{Read, read_rows};
+use crate::seeded::Seeded;
 use crate::typed::{Typed, finish_cells, type_columns};
 use csv_rows::LoadRefusal;
 use std::alloc::{AllocError, Global};
+use std::hash::RandomState;
 use table_core::{Bytes, Column, Dict, Schema, Table};
 
 /// A table with the dictionaries of its columns.
@@ -55,14 +57,16 @@ fn dicts_of(alloc: Global, typed: Vec<Typed>) -> Result<Vec<Dict>, AllocError>
 /// first place where it holds, or want of memory, which may come in place of any other answer.
 ///
 /// The text is read once. The call keeps the texts of each column until its kind is known, and of a column with
-/// up to 32768 different texts each just once. After a refusal nothing is left of the table.
+/// up to 32768 different texts each just once. After a refusal nothing is left of the table. The keys are those of
+/// the hash by which texts are looked up, `RandomState::new(&rt)`: no answer depends on them but want of memory, and
+/// nobody who doesn't know them can choose texts that have one hash and so slow the call down.
 /// docs/TABLES.md says which texts are tables and what their cells are.
-pub fn load(alloc: Global, bytes: &[u8]) -> Result<Loaded, LoadRefusal>
+pub fn load(alloc: Global, keys: RandomState, bytes: &[u8]) -> Result<Loaded, LoadRefusal>
     requires small { length bytes.now ≤ 268435456 }
     ensures loaded { IfOk result (λ t. IsLoaded (table_records bytes.now) t.table t.dicts.items) }
     ensures refused { IfErr result (λ e. e ≢ refusal.Memory → refusal_of (table_records bytes.now) ≡ Some e) }
 {
-    let read = match read_rows(alloc, bytes) {
+    let read = match read_rows(alloc, Seeded::with_keys(keys), bytes) {
         Ok(read) => read,
         Err(refusal) => return Err(refusal),
     };

@@ -8,6 +8,7 @@ ghost use Rattle.csv_rows.specs.Rows.{table_records};
 ghost use Rattle.csv_rows.specs.declared.refusal.LoadRefusal.TheVariants as refusal;
 
 use crate::gathered::Gathered;
+use crate::seeded::Seeded;
 use csv::ByteRecord;
 use csv_rows::{LoadRefusal, Rows, field, judge_header};
 use std::alloc::{AllocError, Global};
@@ -35,25 +36,25 @@ fn names_of(alloc: Global, row: &ByteRecord) -> Result<Vec<Bytes>, AllocError>
     Ok(names)
 }
 
-fn no_columns(alloc: Global, width: usize) -> Result<Vec<Gathered>, AllocError>
+fn no_columns(alloc: Global, hash: Seeded, width: usize) -> Result<Vec<Gathered>, AllocError>
     ensures { IfOk result (λ v. v.items ≡ replicate width []) }
 {
     let mut columns = Vec::new(alloc);
     for _place in 0..width {
-        columns.push(Gathered::new(alloc))?;
+        columns.push(Gathered::new(alloc, hash))?;
     }
     Ok(columns)
 }
 
 // What is read with a header alone.
-fn no_rows(alloc: Global, header: &ByteRecord) -> Result<Read, AllocError>
+fn no_rows(alloc: Global, hash: Seeded, header: &ByteRecord) -> Result<Read, AllocError>
     ensures names { IfOk result (λ read. read.names.items ≡ fields_of header.now) }
     ensures columns { IfOk result (λ read. read.columns.items ≡ replicate (length (fields_of header.now)) []) }
     ensures cells { IfOk result (λ read. read.cells.items ≡ []) }
 {
     Ok(Read {
         names: names_of(alloc, header)?,
-        columns: no_columns(alloc, header.len())?,
+        columns: no_columns(alloc, hash, header.len())?,
         cells: Vec::new(alloc),
     })
 }
@@ -75,7 +76,7 @@ fn put_row(
 }
 
 // Reads each record once, and judges it.
-pub(crate) fn read_rows(alloc: Global, text: &[u8]) -> Result<Read, LoadRefusal>
+pub(crate) fn read_rows(alloc: Global, hash: Seeded, text: &[u8]) -> Result<Read, LoadRefusal>
     requires small { length text.now ≤ 268435456 }
     ensures read { IfOk result (λ r. IsRead (table_records text.now) r.names.items r.columns.items r.cells.items) }
     ensures refused { IfErr result (λ e. e ≢ refusal.Memory → refusal_of (table_records text.now) ≡ Some e) }
@@ -93,7 +94,7 @@ pub(crate) fn read_rows(alloc: Global, text: &[u8]) -> Result<Read, LoadRefusal>
     if width == 0 {
         return Err(LoadRefusal::Memory);
     }
-    let mut read = match no_rows(alloc, &row) {
+    let mut read = match no_rows(alloc, hash, &row) {
         Ok(read) => read,
         Err(_) => return Err(LoadRefusal::Memory),
     };

@@ -3,12 +3,14 @@ ghost use Rattle.std.specs.Prelude.{◌≤◌, length};
 
 use crate::{LoadRefusal, load};
 use std::alloc::Global;
+use std::hash::RandomState;
 use std::test::Fail;
 use table_core::{Cell, Kind};
 
 #[test]
 fn an_empty_field_and_an_empty_line(rt: HostRuntime) -> Result<(), Fail> {
-    let loaded = load(rt.alloc(), b"x\n1\n\"\"\n\n3\n");
+    let keys = RandomState::new(&rt)?;
+    let loaded = load(rt.alloc(), keys, b"x\n1\n\"\"\n\n3\n");
     let Ok(loaded) = loaded else {
         assert!(rt; false);
         return Ok(());
@@ -20,8 +22,10 @@ fn an_empty_field_and_an_empty_line(rt: HostRuntime) -> Result<(), Fail> {
 
 #[test]
 fn columns_are_typed_and_texts_are_codes(rt: HostRuntime) -> Result<(), Fail> {
+    let keys = RandomState::new(&rt)?;
     let loaded = load(
         rt.alloc(),
+        keys,
         b"\xef\xbb\xbfid,dept,pay,p,z\n1,b,10,1.50,01\n2,a,20,-0.25,1\n3,b,,3,\xff\xfe\n",
     );
     let Ok(loaded) = loaded else {
@@ -71,8 +75,10 @@ fn columns_are_typed_and_texts_are_codes(rt: HostRuntime) -> Result<(), Fail> {
 
 #[test]
 fn numbers_at_the_ends_of_64_bits_keep_their_values(rt: HostRuntime) -> Result<(), Fail> {
+    let keys = RandomState::new(&rt)?;
     let loaded = load(
         rt.alloc(),
+        keys,
         b"i,d,o\n9223372036854775807,-0,9223372036854775808\n-9223372036854775808,-92233720368547758.08,+1\n",
     );
     let Ok(loaded) = loaded else {
@@ -92,15 +98,16 @@ fn numbers_at_the_ends_of_64_bits_keep_their_values(rt: HostRuntime) -> Result<(
 }
 
 // The rows of a text's table, or why it is none.
-fn rows_loaded(alloc: Global, text: &[u8]) -> Result<usize, LoadRefusal>
+fn rows_loaded(alloc: Global, keys: RandomState, text: &[u8]) -> Result<usize, LoadRefusal>
     requires { length text.now ≤ 268435456 }
 {
-    let loaded = load(alloc, text)?;
+    let loaded = load(alloc, keys, text)?;
     Ok(loaded.table.len())
 }
 
 #[test]
 fn hostile_tables(rt: HostRuntime) -> Result<(), Fail> {
+    let keys = RandomState::new(&rt)?;
     for (text, want) in [
         (b"".as_slice(), Err(LoadRefusal::NoHeader)),
         (b"id\n".as_slice(), Ok(0)),
@@ -129,13 +136,14 @@ fn hostile_tables(rt: HostRuntime) -> Result<(), Fail> {
         ),
         (b"a\n\xff\xfe\n".as_slice(), Ok(1)),
     ] {
-        assert_eq!(rt; rows_loaded(rt.alloc(), text), want, "{text:?}");
+        assert_eq!(rt; rows_loaded(rt.alloc(), keys, text), want, "{text:?}");
     }
     Ok(())
 }
 
 #[test]
 fn the_length_of_a_name(rt: HostRuntime) -> Result<(), Fail> {
+    let keys = RandomState::new(&rt)?;
     for (size, want) in [
         (128, Ok(0)),
         (129, Err(LoadRefusal::LongName { column: 1 })),
@@ -146,7 +154,7 @@ fn the_length_of_a_name(rt: HostRuntime) -> Result<(), Fail> {
         }
         assert!(rt; text.len() <= 268435456);
         assert_eq!(rt;
-            rows_loaded(rt.alloc(), text.as_slice()),
+            rows_loaded(rt.alloc(), keys, text.as_slice()),
             want,
             "{size} bytes"
         );
@@ -156,6 +164,7 @@ fn the_length_of_a_name(rt: HostRuntime) -> Result<(), Fail> {
 
 #[test]
 fn the_number_of_rows(rt: HostRuntime) -> Result<(), Fail> {
+    let keys = RandomState::new(&rt)?;
     for (back, want) in [
         (b"".as_slice(), Ok(2097152)),
         (b"1,2\n".as_slice(), Err(LoadRefusal::TooManyRows)),
@@ -166,7 +175,11 @@ fn the_number_of_rows(rt: HostRuntime) -> Result<(), Fail> {
         }
         text.extend_from_slice(back)?;
         assert!(rt; text.len() <= 268435456);
-        assert_eq!(rt; rows_loaded(rt.alloc(), text.as_slice()), want, "{back:?}");
+        assert_eq!(rt;
+            rows_loaded(rt.alloc(), keys, text.as_slice()),
+            want,
+            "{back:?}"
+        );
     }
     Ok(())
 }
