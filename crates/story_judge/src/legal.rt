@@ -1,7 +1,8 @@
 ghost use Rattle.std.specs.Prelude.{◌≡◌, ◌↔◌, ℕ, IfOk, IsTrue};
 ghost use Rattle.scan_story.specs.Views.{past};
 ghost use Rattle.scan_story.specs.Loads.{underway};
-ghost use Rattle.scan_story.specs.Legal.{cursor_at, Legal};
+ghost use Rattle.scan_story.specs.MayFollow.{Allowed};
+ghost use Rattle.scan_story.specs.Legal.{cursor_at, Chosen, Legal};
 ghost use Rattle.story_judge.specs.Small.{IsSmall};
 ghost use Rattle.story_judge.specs.Tests.{follows, is_legal};
 ghost use Rattle.story_judge.specs.First.{IsFirstIllegal};
@@ -29,7 +30,7 @@ fn follows(
     allows(s, entries, load, entry) && chooses(s, entries, load, cursor, entry)
 }
 
-fn may_come(
+fn followed(
     alloc: Global,
     s: &Setting,
     entries: &[Entry],
@@ -43,6 +44,21 @@ fn may_come(
     Ok(follows(s, entries, &load, cursor.as_slice(), entry))
 }
 
+/// Whether the entry may come after the entries: it may follow them, and takes a choice of the policy. The error is
+/// want of memory.
+pub fn may_come(
+    alloc: Global,
+    s: &Setting,
+    entries: &[Entry],
+    entry: &Entry,
+) -> Result<bool, AllocError>
+    requires { IsSmall s.now }
+    ensures { IfOk result (λ b. IsTrue b ↔ (Allowed s.now (past entries.now) entry.now × Chosen s.now (past entries.now) entry.now)) }
+{
+    let may = followed(alloc, s, entries, entry)?;
+    Ok(may)
+}
+
 fn judged(alloc: Global, s: &Setting, entries: &[Entry]) -> Result<bool, AllocError>
     requires { IsSmall s.now }
     ensures { IfOk result (λ b. b ≡ is_legal s.now (past entries.now)) }
@@ -51,7 +67,7 @@ fn judged(alloc: Global, s: &Setting, entries: &[Entry]) -> Result<bool, AllocEr
         [] => Ok(true),
         [rest @ .., last] => {
             let before = judged(alloc, s, rest)?;
-            let here = may_come(alloc, s, rest, last)?;
+            let here = followed(alloc, s, rest, last)?;
             Ok(here && before)
         }
     }
@@ -77,7 +93,7 @@ pub fn first_illegal(
     ensures { IfOk result (λ place. IsFirstIllegal s.now entries.now place) }
 {
     for i in 0..entries.len() {
-        let may = may_come(alloc, s, &entries[..i], &entries[i])?;
+        let may = followed(alloc, s, &entries[..i], &entries[i])?;
         if !may {
             return Ok(Some(i));
         }

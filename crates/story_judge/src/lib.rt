@@ -17,9 +17,16 @@ mod undisturbed;
 mod views;
 mod whole;
 
-pub use legal::{first_illegal, is_legal};
+pub use candidates::is_victim;
+pub use legal::{first_illegal, is_legal, may_come};
 pub use licensed::is_licensed;
+pub use loads::{begins, free_frames, has_filled, is_free, misses, underway};
+pub use needs::asks_for;
+pub use numbers::{available, close, is_starved, needed};
 pub use undisturbed::is_undisturbed;
+pub use views::{
+    held_by, is_active, is_ended, is_framed, is_registered, is_stopped, is_wholly_framed, piece_in,
+};
 pub use whole::is_whole;
 
 #[cfg(test)]
