@@ -1,0 +1,5 @@
+pub mod Exchange
+pub mod Before
+pub mod Firsts
+pub mod Entries
+pub mod Stands
