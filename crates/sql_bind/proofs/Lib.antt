@@ -1,0 +1,9 @@
+pub mod Numbers
+pub mod Stands
+pub mod Rows
+pub mod Named
+pub mod Sound
+pub mod Matching
+pub mod Means
+pub mod Causes
+pub mod Reading

@@ -1,0 +1,10 @@
+pub mod Causes
+pub mod Names
+pub mod Places
+pub mod Refusals
+pub mod Plans
+pub mod Truth
+pub mod Bounds
+pub mod Reads
+pub mod Meaning
+pub mod Statements
