@@ -1,0 +1,10 @@
+// The two layouts of pieces.
+
+/// How the cells of a chunk are laid into pieces.
+#[derive(Clone, Copy, Debug, PartialEq, Eq)]
+pub enum Layout {
+    /// A chunk is one piece, which has its cells row by row.
+    Row,
+    /// Each column of a chunk is a piece of its own.
+    Column,
+}

@@ -1,0 +1,32 @@
+// Words as bytes.
+ghost use Rattle.std.specs.Prelude.{◌≡◌, ◌<◌, ◌≤◌, ◌+◌, ◌*◌, ℕ, IfOk, length, slice_index};
+ghost use Rattle.piece_format.specs.Bytes as spec;
+
+use byteorder::{ByteOrder, LittleEndian};
+use std::alloc::Global;
+use table_core::{Bytes, Memory};
+
+/// Words read back from their bytes: a law, for proofs. It does nothing.
+pub fn bytes_give_words(words: &[u64])
+    ensures { (i : ℕ) → i < length words.now → spec.word_of (spec.bytes_of words.now) i ≡ slice_index words.now i }
+{}
+
+/// The bytes of words: in order, each as 8 bytes with the lowest first.
+pub fn words_to_bytes(alloc: Global, words: &[u64]) -> Result<Bytes, Memory>
+    ensures bytes { IfOk result (λ b. b ≡ spec.bytes_of words.now) }
+    ensures len { IfOk result (λ b. length b ≡ 8 * length words.now) }
+    ensures back { IfOk result (λ b. (i : ℕ) → i < length words.now → spec.word_of b i ≡ slice_index words.now i) }
+{
+    bytes_give_words(words);
+    let mut bytes = vec![in alloc; 0u8; 8 * words.len()]?;
+    LittleEndian::write_u64_into(words, bytes.as_mut_slice());
+    Ok(Bytes::new(bytes))
+}
+
+/// The word at a place, from its 8 bytes.
+pub fn word_at(bytes: &[u8], i: u32) -> u64
+    requires { 8 * i + 8 ≤ length bytes.now }
+    ensures { result ≡ spec.word_of bytes.now i }
+{
+    LittleEndian::read_u64(&bytes[8 * i as usize..])
+}
