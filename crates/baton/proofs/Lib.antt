@@ -1,0 +1,4 @@
+mod Keeps
+mod Endings
+pub mod Turns
+mod Writers

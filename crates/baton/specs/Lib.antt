@@ -1,0 +1,5 @@
+pub mod Shares
+pub mod Rule
+pub mod Steps
+pub mod Passes
+pub mod Diaries

@@ -1,0 +1,19 @@
+//! A state that workers hand on, with one story.
+//!
+//! A `Baton` holds one value that has a story. Each worker has a `Pass`: it takes the value, adds entries of its own to
+//! the story, and gives the value back. What the workers did is then one story in which each worker's entries stand in
+//! its order. docs/BATON.md has the rules and an example.
+#![tactic(auto)]
+
+mod baton;
+pub mod example;
+mod line;
+mod pass;
+pub mod rule;
+pub mod view;
+
+pub use baton::Baton;
+pub use pass::Pass;
+
+#[cfg(test)]
+mod tests;
