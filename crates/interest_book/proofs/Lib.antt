@@ -1,0 +1,12 @@
+pub mod Below
+pub mod Needs
+pub mod Kept
+pub mod Following
+pub mod Buffering
+pub mod Counting
+pub mod Renewing
+pub mod OpenPieces
+pub mod Holding
+pub mod Inside
+pub mod Shown
+pub mod Beginning

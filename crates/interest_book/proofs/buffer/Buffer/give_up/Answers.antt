@@ -1,0 +1,12 @@
+use Rattle.std.proofs.Common.{◌∷◌, arith}
+use Rattle.scan_story.specs.declared.entry.Entry.TheVariants.{Failed}
+use Rattle.interest_book.proofs.Buffering.{frames_failed, frames_kept}
+use Rattle.interest_book.proofs.buffer.Buffer.give_up.Goals as goal
+
+pub returns : goal.returns
+returns c = λ s h w q p why is.
+    let b = c.args.self.now in
+    let e = c.settle.ensures in
+    let few = b.sized.groups.1 in
+    frames_kept s (Failed w q p why ∷ h) c.settle.new.self b.groups b.places.items b.begun.items e.groups e.places e.begun
+    (frames_failed s w q p why h b.groups b.frames.items c.settle.new.self.frames.items b.places.items b.begun.items b.sized.groups.0 (omega (arith, few, b.sized.begun)) e.length e.frames is)

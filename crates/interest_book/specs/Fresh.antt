@@ -1,0 +1,53 @@
+-- What a book is made for, and how its parts begin.
+use Rattle.std.specs.Prelude.{◌≡◌, ◌==◌, ◌<◌, ℕ, List, [], ◌∷◌, Option, None, find, map, if◌then◌else◌}
+use Rattle.scan_story.specs.declared.setting.Need as asked
+use Rattle.scan_story.specs.declared.setting.Setting.{Setting}
+use Rattle.scan_story.specs.declared.setting.PolicyName.TheVariants.{Relevance}
+use Rattle.scan_story.specs.declared.view.Phase.TheVariants.{Waiting}
+use Rattle.scan_story.specs.Counting.{has}
+use Rattle.scan_story.specs.Setting.{worker_in, chunks_in, columns_in}
+use Rattle.interest_book.specs.declared.need.Need.{Need}
+use Rattle.interest_book.specs.declared.client.Client.{Client}
+use Rattle.interest_book.specs.Clients.{client_at}
+
+-- the need, as a setting has it
+abbrev pub as_need : Need → asked.Need
+as_need n = record { query = n.query; worker = n.worker; chunks = n.chunks; columns = n.columns }
+
+-- the setting of a book; a book doesn't know the policy
+abbrev pub made_for : List Need → ℕ → ℕ → ℕ → ℕ → Setting
+made_for needs chunks workers frames groups = record {
+  needs = map as_need needs;
+  chunks = chunks;
+  workers = workers;
+  frames = frames;
+  groups = groups;
+  policy = Relevance;
+  cursor = [];
+}
+
+-- the setting is that of the book, under some policy and cursor
+pub record IsMadeFor (s : Setting) (ns : List Need) (c w f g : ℕ) : Type 0 where
+  pub needs : map as_need ns ≡ s.needs
+  pub chunks : c ≡ s.chunks
+  pub workers : w ≡ s.workers
+  pub frames : f ≡ s.frames
+  pub groups : g ≡ s.groups
+
+-- the need that names the query
+abbrev pub wanted : List Need → ℕ → Option asked.Need
+wanted needs q = find (λ n. n.query == q) (map as_need needs)
+
+-- a client before the first entry, with a need or without
+pub record IsFresh (groups : ℕ) (o : Option asked.Need) (k : Client) : Type 0 where
+  pub worker : k.worker ≡ worker_in o
+  pub columns : k.columns ≡ columns_in o
+  pub reads : (g : ℕ) → has k.reads g ≡ has (if groups == 1 then 0 ∷ [] else columns_in o) g
+  pub phase : k.phase ≡ Waiting
+  pub remaining : k.remaining ≡ chunks_in o
+  pub available : k.available ≡ []
+  pub began : k.began ≡ None
+
+-- each client below m is fresh, with the need that names its query
+abbrev pub AreFresh : ℕ → List Need → List Client → ℕ → Type 0
+AreFresh groups needs clients m = (q : ℕ) → q < m → IsFresh groups (wanted needs q) (client_at clients q)

@@ -1,0 +1,10 @@
+pub mod Clients
+pub mod Follows
+pub mod Frames
+pub mod Buffers
+pub mod Renewed
+pub mod Sizes
+pub mod Stands
+pub mod Counts
+pub mod Held
+pub mod Fresh

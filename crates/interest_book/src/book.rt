@@ -1,0 +1,73 @@
+//! The book: what a list of entries says of some needs.
+ghost use Rattle.std.specs.Prelude.{◌≡◌, ◌<◌, ◌≤◌, ◌^◌, ℕ, IfOk, None, length, slice_index_or};
+ghost use Rattle.interest_book.specs.Sizes.{AreParts};
+
+use crate::buffer::Buffer;
+use crate::client::Client;
+use crate::clients;
+use crate::loading::Loading;
+use crate::need::Need;
+use scan_story::Hold;
+use std::alloc::{AllocError, Global};
+use table_core::Memory;
+
+/// Stands for needs and the entries that it has noted.
+#[derive(Drop)]
+pub struct Book {
+    pub(crate) needs: Vec<Need>,
+    pub(crate) clients: Vec<Client>,
+    pub(crate) buffer: Buffer,
+    pub(crate) holds: Vec<Option<Hold>>,
+    pub(crate) loading: Option<Loading>,
+    pub(crate) chunks: u32,
+    pub(crate) workers: u32,
+    pub(crate) noted: u64,
+    ghost short: { noted < 2 ^ 63 },
+    ghost parts: { AreParts needs.items clients.items holds.items chunks workers },
+}
+
+fn no_holds(alloc: Global, n: usize) -> Result<Vec<Option<Hold>>, AllocError>
+    ensures length { IfOk result (λ v. length v.items ≡ n) }
+    ensures none { IfOk result (λ v. (w : ℕ) → slice_index_or v.items w None ≡ None) }
+{
+    vec![in alloc; None; n]
+}
+
+impl Book {
+    ghost use Rattle.std.specs.Prelude.{[]};
+    ghost use Rattle.scan_story.specs.declared.setting.Setting.{Setting};
+    ghost use Rattle.scan_story.specs.Setting.{IsSetting};
+    ghost use Rattle.interest_book.specs.Fresh.{made_for, IsMadeFor};
+    ghost use Rattle.interest_book.specs.Stands.{Stands};
+
+    /// A book for these needs, before the first entry. It takes all memory that the book ever needs.
+    ///
+    /// The needs name distinct queries from 1 to 256, workers below `workers` and chunks below `chunks`. There are 1
+    /// to 32 workers, at most 1024 chunks, at most 33554432 frames, and 1 to 16 groups. With more than one group each
+    /// need names columns, all below `groups`.
+    pub fn new(
+        alloc: Global,
+        needs: Vec<Need>,
+        chunks: u32,
+        workers: u32,
+        frames: u32,
+        groups: u32,
+    ) -> Result<Book, Memory>
+        requires { IsSetting (made_for needs.items chunks workers frames groups) }
+        ensures { IfOk result (λ b. (s : Setting) → IsMadeFor s needs.items chunks workers frames groups → Stands b s []) }
+    {
+        let clients = clients::fresh(alloc, &needs, groups)?;
+        let buffer = Buffer::new(alloc, frames, groups)?;
+        let holds = no_holds(alloc, 32)?;
+        Ok(Book {
+            needs,
+            clients,
+            buffer,
+            holds,
+            loading: None,
+            chunks,
+            workers,
+            noted: 0,
+        })
+    }
+}

@@ -1,0 +1,175 @@
+//! What the book keeps of one query.
+ghost use Rattle.std.specs.Prelude.{◌≡◌, ◌+◌, ◌<◌, ◌^◌, ◌∷◌, ◌==◌, ◌&&◌, ℕ, [], None, Some, length, false, if◌then◌else◌};
+ghost use Rattle.scan_story.specs.Counting.{has};
+ghost use Rattle.interest_book.specs.Frames.{missing_in};
+ghost use Rattle.interest_book.specs.Counts.{size_of};
+ghost use Rattle.interest_book.specs.Fresh.{IsFresh, as_need};
+ghost use Rattle.interest_book.specs.Renewed.{IsRenewed};
+ghost use Rattle.scan_story.specs.declared.entry.Why.{Why};
+ghost use Rattle.scan_story.specs.declared.entry.Entry.TheVariants.{Register, Failed, Deliver, Release, Stop, End};
+ghost use Rattle.scan_story.specs.declared.setting.Setting.{Setting};
+ghost use Rattle.scan_story.specs.Views.{History, is_stopped};
+ghost use Rattle.interest_book.specs.Clients.{IsClient, IsReady, is_active_phase};
+
+use crate::buffer::Buffer;
+use crate::need::Need;
+use scan_story::Phase;
+use table_core::{ChunkSet, ColumnSet};
+
+/// The query with one number: its need, if it has one, and how far it has come.
+#[derive(Drop)]
+pub struct Client {
+    pub worker: Option<u32>,
+    pub columns: ColumnSet,
+    pub reads: ColumnSet,
+    pub phase: Phase,
+    pub remaining: ChunkSet,
+    pub available: ChunkSet,
+    pub began: Option<u64>,
+}
+
+// The groups that are read: the one group, or else the columns.
+fn groups_read(columns: &ColumnSet, groups: u32) -> ColumnSet
+    ensures { (g : ℕ) → has result g ≡ has (if groups == 1 then 0 ∷ [] else columns.now) g }
+{
+    if groups != 1 {
+        return columns.copy();
+    }
+    let mut one = ColumnSet::empty();
+    one.insert(0);
+    one
+}
+
+impl Client {
+    /// The query of a number without a need.
+    pub fn vacant(groups: u32) -> Client
+        ensures { IsFresh groups None result }
+    {
+        let columns = ColumnSet::empty();
+        Client {
+            worker: None,
+            reads: groups_read(&columns, groups),
+            columns,
+            phase: Phase::Waiting,
+            remaining: ChunkSet::empty(),
+            available: ChunkSet::empty(),
+            began: None,
+        }
+    }
+
+    /// Becomes the query of a need.
+    pub fn take(&mut self, need: &Need, groups: u32)
+        ensures { IsFresh groups (Some (as_need need.now)) self.new }
+    {
+        self.worker = Some(need.worker);
+        self.columns = need.columns.copy();
+        self.reads = groups_read(&need.columns, groups);
+        self.phase = Phase::Waiting;
+        self.remaining = need.chunks.copy();
+        self.available = ChunkSet::empty();
+        self.began = None;
+    }
+
+    /// Follows its Register, which has `noted` entries before it.
+    pub fn register(&mut self, noted: u64)
+        requires { noted < 2 ^ 63 }
+        ensures follows { (s : Setting) (h : History) (w q : ℕ) → length h ≡ noted → IsClient s h q self.old → IsClient s (Register w q ∷ h) q self.new }
+        ensures available { self.new.available ≡ self.old.available }
+    {
+        if self.phase == Phase::Waiting {
+            self.phase = Phase::Active;
+        }
+        self.began = Some(noted + 1);
+    }
+
+    /// Follows a Release of a chunk that was held for it.
+    pub fn release(&mut self, noted: u64)
+        requires { noted < 2 ^ 63 }
+        ensures follows { (s : Setting) (h : History) (w q c : ℕ) → length h ≡ noted → IsClient s h q self.old → IsClient s (Release w q c ∷ h) q self.new }
+        ensures available { self.new.available ≡ self.old.available }
+    {
+        let now = noted + 1;
+        self.began = Some(now);
+    }
+
+    /// Follows a Deliver of the chunk to it.
+    pub fn deliver(&mut self, c: u32)
+        requires { c < 1024 }
+        ensures follows { (s : Setting) (h : History) (w q : ℕ) → IsClient s h q self.old → IsClient s (Deliver w q c ∷ h) q self.new }
+        ensures ready { (s : Setting) (h : History) (w q : ℕ) → IsReady s h q self.old → IsReady s (Deliver w q c ∷ h) q self.new }
+    {
+        self.remaining.remove(c);
+        self.available.remove(c);
+    }
+
+    /// Follows its Stop, or the Failed of a load that it triggered.
+    pub fn stop(&mut self)
+        ensures stop { (s : Setting) (h : History) (w q : ℕ) → IsClient s h q self.old → IsClient s (Stop w q ∷ h) q self.new }
+        ensures failed { (s : Setting) (h : History) (w q p : ℕ) (why : Why) → IsClient s h q self.old → IsClient s (Failed w q p why ∷ h) q self.new }
+        ensures stop_ready { (s : Setting) (h : History) (w q : ℕ) → IsReady s (Stop w q ∷ h) q self.new }
+        ensures failed_ready { (s : Setting) (h : History) (w q p : ℕ) (why : Why) → IsReady s (Failed w q p why ∷ h) q self.new }
+    {
+        self.phase = Phase::Stopped;
+        self.remaining = ChunkSet::empty();
+        self.available = ChunkSet::empty();
+    }
+
+    /// Follows its End.
+    pub fn end(&mut self)
+        ensures follows { (s : Setting) (h : History) (w q : ℕ) → is_stopped h q ≡ false → IsClient s h q self.old → IsClient s (End w q ∷ h) q self.new }
+        ensures ready { (s : Setting) (h : History) (w q : ℕ) → IsReady s (End w q ∷ h) q self.new }
+    {
+        self.phase = Phase::Ended;
+        self.remaining = ChunkSet::empty();
+        self.available = ChunkSet::empty();
+    }
+
+    /// Whether it is registered, neither stopped nor ended.
+    pub fn is_active(&self) -> bool
+        ensures { result ≡ is_active_phase self.now.phase }
+    {
+        matches!(self.phase, Phase::Active)
+    }
+
+    // Whether it needs the chunk, and no piece of it that it reads is missing.
+    fn can_take(&self, buffer: &Buffer, c: u32) -> bool
+        requires { c < 1024 }
+        ensures { result ≡ (has self.now.remaining c && missing_in buffer.now.places.items buffer.now.groups self.now.reads c == 0) }
+    {
+        self.remaining.has(c) && buffer.missing_for(&self.reads, c) == 0
+    }
+
+    /// Looks up anew whether the chunk is available.
+    pub fn renew(&mut self, buffer: &Buffer, c: u32)
+        requires { c < 1024 }
+        ensures { IsRenewed buffer.now.places.items buffer.now.groups c self.old self.new }
+    {
+        if self.can_take(buffer, c) {
+            self.available.insert(c);
+        } else {
+            self.available.remove(c);
+        }
+    }
+
+    /// How many chunks it needs.
+    pub fn needed(&self) -> u32
+        ensures { result ≡ size_of self.now.remaining }
+    {
+        size(&self.remaining)
+    }
+
+    /// How many chunks are available to it.
+    pub fn ready(&self) -> u32
+        ensures { result ≡ size_of self.now.available }
+    {
+        size(&self.available)
+    }
+}
+
+// How many members the set has.
+#[tactic(auto, using(crate::proofs::Counting::members_size))]
+fn size(set: &ChunkSet) -> u32
+    ensures { result ≡ size_of set.now }
+{
+    set.len()
+}

@@ -1,0 +1,54 @@
+//! What workers hold, and how long queries wait.
+ghost use Rattle.std.specs.Prelude.{◌≡◌, ◌-◌, ◌<◌, ◌≤◌, ℕ, None, length, slice_index_or, unwrap_or};
+ghost use Rattle.std.specs.Option.{option_map};
+ghost use Rattle.scan_story.specs.Counting.{any_below};
+ghost use Rattle.scan_story.specs.Views.{is_hold_of};
+ghost use Rattle.interest_book.specs.Held.{hold_for};
+
+use scan_story::Hold;
+
+fn is_of(hold: Option<Hold>, c: u32) -> bool
+    ensures { result ≡ is_hold_of c hold }
+{
+    match hold {
+        Some(hold) => hold.chunk == c,
+        None => false,
+    }
+}
+
+/// Whether one of the first n workers holds the chunk.
+#[tactic(auto, using(crate::proofs::Below::any_below_more))]
+pub fn holds_chunk(holds: &[Option<Hold>], n: u32, c: u32) -> bool
+    requires { n ≤ length holds.now }
+    ensures { result ≡ any_below (λ w. is_hold_of c (slice_index_or holds.now w None)) n }
+{
+    let mut found = false;
+    for w in 0..n {
+        found = is_of(holds[w as usize], c) || found;
+    }
+    found
+}
+
+/// Whether the worker, if there is one, holds a chunk for the query.
+pub fn holds_query(holds: &[Option<Hold>], worker: Option<u32>, q: u32) -> bool
+    ensures { result ≡ hold_for holds.now q worker }
+{
+    match worker {
+        Some(w) => match holds.get(w as usize) {
+            Some(Some(hold)) => hold.query == q,
+            _ => false,
+        },
+        None => false,
+    }
+}
+
+/// How many entries came after this one; none where there is none.
+pub fn since(noted: u64, began: Option<u64>) -> u64
+    ensures value { result ≡ unwrap_or (option_map (λ b. noted - b) began) 0 }
+    ensures within { result ≤ noted }
+{
+    match began {
+        Some(b) => noted.saturating_sub(b),
+        None => 0,
+    }
+}

@@ -1,0 +1,145 @@
+-- The best of the numbers below a bound is a best one.
+use Rattle.std.proofs.Common.{◌≡◌, ◌<◌, ◌≤◌, ◌+◌, ◌*◌, ◌≤ℤ◌, ℕ, zero, suc, ℤ, Bool, true, false, if◌then◌else◌, Option, None, Some, nat_lt, int_lt, add-one, refl, sym, ◌∙◌, ap, subst, arith, inl, inr}
+use Rattle.std.proofs.lemmas.Bool.{cases_eq}
+use Rattle.std.proofs.lemmas.Bool.Decides.{nat_tests}
+use Rattle.std.proofs.lemmas.Int.{ints}
+use Rattle.std.proofs.Math.Nat.{mul-le-mul, mul-le-mul_right, le_of_mul-le-mul_right, mul_right_comm}
+use Rattle.scan_story.specs.declared.ratio.Ratio.{Ratio}
+use Rattle.scan_story.specs.Ratios.{IsAtMost}
+use Rattle.relevance.specs.Best.{better_of, best_below, is_greater, is_less, is_higher}
+
+-- what beats is better, and ranks go on through candidates
+pub record IsOrder {K : Type 0} (beats : K → K → Bool) (AtMost : K → K → Type 0) (test : ℕ → Bool) (rank : ℕ → K) : Type 0 where
+  pub wins : (a b : K) → beats a b ≡ true → AtMost b a
+  pub loses : (a b : K) → beats a b ≡ false → AtMost a b
+  pub same : (a : K) → AtMost a a
+  pub through : (x y z : ℕ) → test y ≡ true → AtMost (rank x) (rank y) → AtMost (rank y) (rank z) → AtMost (rank x) (rank z)
+
+-- a best one of those below n that pass, or none passes
+abbrev pub IsBestBelow : {B K : Type 0} → (B → ℕ) → (B → K) → (K → K → Type 0) → (ℕ → Bool) → (ℕ → K) → ℕ → Option B → Type 0
+IsBestBelow number key AtMost test rank n None = (y : ℕ) → y < n → test y ≡ false
+IsBestBelow number key AtMost test rank n (Some b) = (test (number b) ≡ true) × (key b ≡ rank (number b)) × ((y : ℕ) → y < n → test y ≡ true → AtMost (rank y) (rank (number b)))
+
+true_false : (b : Bool) → b ≡ true → b ≡ false → ⊥
+true_false b t f = cc
+
+-- one number more
+last : (n y : ℕ) (R : Type 0) → y < suc n → (y ≡ n → R) → (y < n → R) → R
+last n y R lt here before = elim (cases_eq y n) [
+  | inl at ↦ here at
+  | inr ne ↦ before (omega (arith, lt, ne))
+]
+
+step : {B K : Type 0} (made : ℕ → K → B) (number : B → ℕ) (key : B → K) → ((x : ℕ) (k : K) → number (made x k) ≡ x) → ((x : ℕ) (k : K) → key (made x k) ≡ k)
+    → (beats : K → K → Bool) (AtMost : K → K → Type 0) (test : ℕ → Bool) (rank : ℕ → K) → IsOrder beats AtMost test rank
+    → (n : ℕ) (t : Bool) → test n ≡ t → (o : Option B) → IsBestBelow number key AtMost test rank n o → IsBestBelow number key AtMost test rank (suc n) (if t then better_of made key beats o n (rank n) else o)
+step made number key numbered keyed beats AtMost test rank order n true t None best =
+    let x = number (made n (rank n)) in
+    let is : x ≡ n = numbered n (rank n) in (
+      ap test is ∙ t,
+      keyed n (rank n) ∙ ap rank (sym is),
+      λ y lt e. last n y (AtMost (rank y) (rank x)) lt (λ at. subst (λ z. AtMost (rank y) (rank z)) (at ∙ sym is) (order.same (rank y))) (λ before. absurd (true_false (test y) e (best y before))),
+    )
+step made number key numbered keyed beats AtMost test rank order n false t None best =
+    λ y lt. last n y (test y ≡ false) lt (λ at. ap test at ∙ t) (best y)
+step {B} made number key numbered keyed beats AtMost test rank order n false t (Some b) best =
+    (best.0, best.1, λ y lt e. last n y (AtMost (rank y) (rank (number b))) lt (λ at. absurd (true_false (test y) e (ap test at ∙ t))) (λ before. best.2 y before e))
+step {B} made number key numbered keyed beats AtMost test rank order n true t (Some b) best = decide (beats (rank n) (key b)) refl
+  where
+    decide : (w : Bool) → beats (rank n) (key b) ≡ w → IsBestBelow number key AtMost test rank (suc n) (if w then Some (made n (rank n)) else Some b)
+    decide true w =
+        let x = number (made n (rank n)) in
+        let is : x ≡ n = numbered n (rank n) in
+        let won : AtMost (rank (number b)) (rank n) = subst (λ k. AtMost k (rank n)) best.1 (order.wins (rank n) (key b) w) in (
+          ap test is ∙ t,
+          keyed n (rank n) ∙ ap rank (sym is),
+          λ y lt e. subst (λ z. AtMost (rank y) (rank z)) (sym is) (last n y (AtMost (rank y) (rank n)) lt (λ at. subst (λ z. AtMost (rank y) (rank z)) at (order.same (rank y)))
+              (λ before. order.through y (number b) n best.0 (best.2 y before e) won)),
+        )
+    decide false w =
+        let lost : AtMost (rank n) (rank (number b)) = subst (λ k. AtMost (rank n) k) best.1 (order.loses (rank n) (key b) w) in
+        (best.0, best.1, λ y lt e. last n y (AtMost (rank y) (rank (number b))) lt (λ at. subst (λ z. AtMost (rank z) (rank (number b))) (sym at) lost) (λ before. best.2 y before e))
+
+pub best_is : {B K : Type 0} (made : ℕ → K → B) (number : B → ℕ) (key : B → K) → ((x : ℕ) (k : K) → number (made x k) ≡ x) → ((x : ℕ) (k : K) → key (made x k) ≡ k)
+    → (beats : K → K → Bool) (AtMost : K → K → Type 0) (test : ℕ → Bool) (rank : ℕ → K) → IsOrder beats AtMost test rank
+    → (n : ℕ) → IsBestBelow number key AtMost test rank n (best_below made key beats test rank n)
+best_is made number key numbered keyed beats AtMost test rank order zero = λ y lt. absurd (omega (arith, lt))
+best_is made number key numbered keyed beats AtMost test rank order (suc n) =
+    step made number key numbered keyed beats AtMost test rank order n (test n) refl (best_below made key beats test rank n)
+    (best_is made number key numbered keyed beats AtMost test rank order n)
+
+-- Ratios
+
+at_most_through : (a b c : Ratio) → 0 < b.den → IsAtMost a b → IsAtMost b c → IsAtMost a c
+at_most_through a b c some ab bc =
+    let left : a.num * b.den * c.den ≤ b.num * a.den * c.den = mul-le-mul_right c.den ab in
+    let right : b.num * c.den * a.den ≤ c.num * b.den * a.den = mul-le-mul_right a.den bc in
+    let one : a.num * b.den * c.den ≡ a.num * c.den * b.den = mul_right_comm a.num b.den c.den in
+    let two : b.num * a.den * c.den ≡ b.num * c.den * a.den = mul_right_comm b.num a.den c.den in
+    let three : c.num * b.den * a.den ≡ c.num * a.den * b.den = mul_right_comm c.num b.den a.den in
+    let both : a.num * c.den * b.den ≤ c.num * a.den * b.den = omega (arith, left, right, one, two, three) in
+    le_of_mul-le-mul_right both some
+
+wins : (a b : Ratio) → is_greater a b ≡ true → IsAtMost b a
+wins a b e = below (b.num * a.den) (a.num * b.den) e
+  where
+    below : (x y : ℕ) → nat_lt x y ≡ true → x ≤ y
+    below x y e = grind (arith, nat_tests)
+
+loses : (a b : Ratio) → is_greater a b ≡ false → IsAtMost a b
+loses a b e = not_below (b.num * a.den) (a.num * b.den) e
+  where
+    not_below : (x y : ℕ) → nat_lt x y ≡ false → y ≤ x
+    not_below x y e = grind (arith, nat_tests)
+
+same : (a : Ratio) → IsAtMost a a
+same a = itself (a.num * a.den)
+  where
+    itself : (x : ℕ) → x ≤ x
+    itself x = omega arith
+
+pub greater_order : (test : ℕ → Bool) (ratio : ℕ → Ratio) → ((y : ℕ) → test y ≡ true → 0 < (ratio y).den) → IsOrder is_greater IsAtMost test ratio
+greater_order test ratio some = record {
+  wins = wins;
+  loses = loses;
+  same = same;
+  through = λ x y z t xy yz. at_most_through (ratio x) (ratio y) (ratio z) (some y t) xy yz;
+}
+
+pub less_order : (test : ℕ → Bool) (ratio : ℕ → Ratio) → ((y : ℕ) → test y ≡ true → 0 < (ratio y).den) → IsOrder is_less (λ a b. IsAtMost b a) test ratio
+less_order test ratio some = record {
+  wins = λ a b e. wins b a e;
+  loses = λ a b e. loses b a e;
+  same = same;
+  through = λ x y z t xy yz. at_most_through (ratio z) (ratio y) (ratio x) (some y t) yz xy;
+}
+
+-- Ranks
+
+pub rank_order : (test : ℕ → Bool) (rank : ℕ → ℤ) → IsOrder is_higher (λ a b. a ≤ℤ b) test rank
+rank_order test rank = record {
+  wins = λ a b e. higher a b e;
+  loses = λ a b e. not_higher a b e;
+  same = λ a. itself a;
+  through = λ x y z t xy yz. on (rank x) (rank y) (rank z) xy yz;
+}
+  where
+    higher : (a b : ℤ) → int_lt b a ≡ true → b ≤ℤ a
+    higher a b e = grind (arith, ints)
+
+    not_higher : (a b : ℤ) → int_lt b a ≡ false → a ≤ℤ b
+    not_higher a b e = grind (arith, ints)
+
+    itself : (a : ℤ) → a ≤ℤ a
+    itself a = omega (arith, ints)
+
+    on : (a b c : ℤ) → a ≤ℤ b → b ≤ℤ c → a ≤ℤ c
+    on a b c x y = omega (arith, ints, x, y)
+
+-- counting on by one, for loops
+pub best_below_more : {B K : Type 0} (made : ℕ → K → B) (key : B → K) (beats : K → K → Bool) (test : ℕ → Bool) (rank : ℕ → K) (n : ℕ)
+    → best_below made key beats test rank (n + 1) ≡ (if test n then better_of made key beats (best_below made key beats test rank n) n (rank n) else best_below made key beats test rank n)
+best_below_more made key beats test rank n = rw add-one refl
+
+pub small_product : (a b : ℕ) → a ≤ 256 → b < 4294967296 → a * b ≤ 1099511627776
+small_product a b few small = let high : b ≤ 4294967296 = omega (arith, small) in let most : a * b ≤ 256 * 4294967296 = mul-le-mul few high in omega (arith, most)

@@ -1,0 +1,63 @@
+//! The rank of a query and the ratios of a chunk.
+ghost use Rattle.std.specs.Prelude.{◌≡◌, ◌*◌, ◌<◌, ◌≤◌};
+ghost use Rattle.scan_story.specs.declared.setting.Setting.{Setting};
+ghost use Rattle.scan_story.specs.Views.{History};
+ghost use Rattle.scan_story.specs.Ratios.{query_rank, load_ratio, use_ratio, keep_ratio};
+ghost use Rattle.interest_book.specs.Stands.{Stands};
+
+use interest_book::Book;
+use scan_story::Ratio;
+
+#[tactic(auto, using(crate::proofs::Choosing::small_product))]
+fn product(running: u32, needed: u32) -> u64
+    requires { running ≤ 256 }
+    ensures value { result ≡ running * needed }
+    ensures small { result ≤ 1099511627776 }
+{
+    running as u64 * needed as u64
+}
+
+/// How urgent a load for the query is: what it has waited, less the running queries times the chunks it needs.
+pub fn query_rank(book: &Book, q: u32) -> i64
+    requires { q ≤ 256 }
+    ensures { (s : Setting) (h : History) → Stands book.now s h → result ≡ query_rank s h q }
+{
+    let waited = book.waiting(q) as i64;
+    let wanted = product(book.running(), book.needed(q)) as i64;
+    waited - wanted
+}
+
+/// How much is gained by loading the chunk for the query.
+pub fn load_ratio(book: &Book, q: u32, c: u32) -> Ratio
+    requires query { q ≤ 256 }
+    requires chunk { c < 1024 }
+    ensures { (s : Setting) (h : History) → Stands book.now s h → result ≡ load_ratio s h q c }
+{
+    Ratio {
+        num: 1024 * book.starved_overlap(q, c) + book.overlap(q, c),
+        den: book.missing_for(q, c),
+    }
+}
+
+/// How much room is won by delivering the chunk to the query.
+pub fn use_ratio(book: &Book, q: u32, c: u32) -> Ratio
+    requires query { q ≤ 256 }
+    requires chunk { c < 1024 }
+    ensures { (s : Setting) (h : History) → Stands book.now s h → result ≡ use_ratio s h q c }
+{
+    Ratio {
+        num: book.cached(c),
+        den: book.overlap(q, c),
+    }
+}
+
+/// How much is lost by evicting the chunk.
+pub fn keep_ratio(book: &Book, c: u32) -> Ratio
+    requires { c < 1024 }
+    ensures { (s : Setting) (h : History) → Stands book.now s h → result ≡ keep_ratio s h c }
+{
+    Ratio {
+        num: 1024 * book.close(c) + book.interested(c),
+        den: book.cached(c),
+    }
+}
