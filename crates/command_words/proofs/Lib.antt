@@ -1,0 +1,11 @@
+mod Rules
+mod Steps
+mod Turns
+mod Walks
+mod Ends
+mod Whole
+mod App
+mod Adding
+mod Outcomes
+mod Digits
+mod Asking

@@ -1,0 +1,23 @@
+//! The words of the command line: what they ask for, or that they are refused.
+//!
+//! `clap` reads the words; numbers, names and what goes together are judged here. docs/COMMAND_LINE.md is the manual.
+#![tactic(auto)]
+
+mod call;
+mod command;
+mod layout;
+mod names;
+mod numbers;
+mod options;
+mod request;
+mod values;
+
+pub use call::{Call, Refused};
+pub use layout::Layout;
+pub use names::{Batch, Table};
+pub use options::{options_of, scratch_of};
+pub use request::Request;
+pub use scan_story::{Memory, PolicyName};
+
+#[cfg(test)]
+mod tests;

@@ -1,0 +1,11 @@
+-- One more row.
+use Rattle.std.proofs.Common.{◌≡◌, ◌∙◌, ◌+◌, ◌++◌, ℕ, List, ap, codes, add-one, append_assoc}
+use Rattle.generated_texts.specs.Draws.{draw, state}
+use Rattle.generated_texts.specs.Table.{row, rows_below, table_text}
+
+pub next_state : (seed i s : ℕ) → s ≡ state seed i → draw (draw (draw (draw s))) ≡ state seed (i + 1)
+next_state seed i s e = rw add-one (ap (λ x. draw (draw (draw (draw x)))) e)
+
+pub next_text : (seed i s : ℕ) (old new : List ℕ) → s ≡ state seed i → old ≡ table_text seed i → new ≡ old ++ row i s → new ≡ table_text seed (i + 1)
+next_text seed i s old new e before after =
+    rw add-one (after ∙ ap (λ t. t ++ row i s) before ∙ ap (λ x. table_text seed i ++ row i x) e ∙ append_assoc (codes "id,grp,val,tag\n") (rows_below seed i) (row i (state seed i)))

@@ -1,0 +1,2 @@
+mod Wrapping
+mod Growing

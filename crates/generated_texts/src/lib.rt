@@ -1,0 +1,14 @@
+//! The generated texts: a table by a seed and a number of rows, and a batch over it.
+//!
+//! docs/COMMAND_LINE.md tells how they are named and what is in them.
+#![tactic(auto)]
+
+mod batch;
+mod draws;
+mod table;
+
+pub use batch::batch_text;
+pub use table::table_text;
+
+#[cfg(test)]
+mod tests;
