@@ -1,7 +1,7 @@
 // A depot that gives one word of one piece wrong, for tests.
-ghost use Rattle.std.specs.Prelude.{◌≡◌, ◌≤◌, ◌<◌, ◌+◌, ◌*◌, ◌-◌, ◌^◌, ⊤, ℕ, nat_le, List, length, OnOk, OnErr, Some, None, IsTrue, if◌then◌else◌};
+ghost use Rattle.std.specs.Prelude.{◌≡◌, ◌≤◌, ◌<◌, ◌+◌, ◌*◌, ◌-◌, ◌^◌, ⊤, ℕ, nat_le, List, length, OnOk, OnErr, Err, Some, None, IsTrue, if◌then◌else◌};
 ghost use Rattle.coop_outside.specs.Causes.{Rose};
-ghost use Rattle.coop_outside.specs.Pieces.{HoldsPiece, bytes_of};
+ghost use Rattle.coop_outside.specs.Pieces.{HoldsPiece, bytes_of, with_piece};
 ghost use Rattle.coop_outside.specs.Spoilt.{spoilt_bytes, with_word};
 
 use crate::depot::{Depot, DepotFault};
@@ -52,7 +52,16 @@ impl Depot for SpoiltDepot {
 
     ghost faults = { λ s. s.inner.faults };
 
-    fn put(&mut self, piece: u32, bytes: &[u8]) -> Result<(), DepotFault> {
+    fn put(&mut self, piece: u32, bytes: &[u8]) -> Result<(), DepotFault>
+        ensures stored { OnOk result ⊤ }
+        ensures others { result ≡ Err DepotFault.Failed → ⊤ }
+        ensures failed { result ≡ Err DepotFault.Failed → Rose self.old.inner.faults self.new.inner.faults }
+        ensures memory { result ≡ Err DepotFault.Memory → self.new.inner.pieces.entries ≡ self.old.inner.pieces.entries }
+        ensures gets { self.new.inner.gets ≡ self.old.inner.gets }
+        ensures later { self.old.inner.faults ≤ self.new.inner.faults }
+        // the piece's bytes are kept as they are
+        ensures kept { OnOk result (Some self.new.inner.pieces.entries ≡ with_piece (Some self.old.inner.pieces.entries) piece bytes.now) }
+    {
         self.inner.put(piece, bytes)
     }
 
