@@ -18,14 +18,20 @@ mod views;
 mod whole;
 
 pub use candidates::is_victim;
+pub use choices::chooses;
+pub use cursors::cursor_at;
 pub use legal::{first_illegal, is_legal, may_come};
 pub use licensed::is_licensed;
-pub use loads::{begins, free_frames, has_filled, is_free, misses, underway};
-pub use needs::asks_for;
-pub use numbers::{available, close, is_starved, needed};
+pub use loads::{begins, free_frames, has_filled, is_free, misses, missing_for, underway};
+pub use needs::{asks_for, chunk_of, piece_at, reads_group};
+pub use numbers::{
+    available, cached, close, interested, is_starved, needed, overlap, running, starved_overlap,
+    waiting,
+};
 pub use undisturbed::is_undisturbed;
 pub use views::{
-    held_by, is_active, is_ended, is_framed, is_registered, is_stopped, is_wholly_framed, piece_in,
+    held_by, is_active, is_available, is_ended, is_framed, is_held, is_registered, is_stopped,
+    is_wholly_framed, needs_chunk, piece_in,
 };
 pub use whole::is_whole;
 
