@@ -13,4 +13,6 @@ pub use walks::walk;
 #[cfg(test)]
 mod numbers;
 #[cfg(test)]
+mod proper;
+#[cfg(test)]
 mod tests;

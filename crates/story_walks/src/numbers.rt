@@ -4,12 +4,13 @@ ghost use Rattle.scan_story.specs.Views.{past};
 ghost use Rattle.scan_story.specs.Loads.{underway};
 ghost use Rattle.story_judge.specs.Small.{IsSmall};
 
+use crate::proper::expect_proper;
 use scan_story::{Entry, Load, Setting, capacity};
 use std::alloc::Global;
 use std::process::Abort;
 use std::test::Fail;
 use story_judge::{
-    asks_for, available, close, free_frames, has_filled, held_by, is_active, is_ended, is_framed,
+    asks_for, available, chooses, close, cursor_at, free_frames, held_by, is_active, is_ended,
     is_starved, is_stopped, is_undisturbed, is_victim, is_whole, is_wholly_framed, piece_in,
     underway,
 };
@@ -115,26 +116,50 @@ fn paid_by(s: &Setting, entries: &[Entry], deliveries: u64) -> u64
     sum
 }
 
-/// What the load misses is in no frame, its trigger is starved or paid ahead, and it finds a victim.
+/// Where some candidate is close to no query, each victim that the policy may choose is.
+fn expect_choice<R: Abort>(
+    rt: &R,
+    alloc: Global,
+    s: &Setting,
+    entries: &[Entry],
+    load: &Option<Load>,
+    worker: u32,
+) -> Result<(), Fail>
+    requires small { IsSmall s.now }
+    requires load { load.now ≡ underway s.now (past entries.now) }
+{
+    let cursor = cursor_at(alloc, s, entries)?;
+    let mut far = false;
+    let mut chosen: u32 = 0;
+    for chunk in 0..s.chunks {
+        let close = close(s, entries, chunk);
+        far = far || (close == 0 && is_victim(s, entries, load, chunk));
+        let evict = Entry::Evict { worker, chunk };
+        if chooses(s, entries, load, cursor.as_slice(), &evict) {
+            assert_eq!(rt; close, 0, "chunk {chunk}");
+            chosen = chosen.saturating_add(1);
+        }
+    }
+    assert!(rt; far, "no victim");
+    assert!(rt; chosen > 0, "no choice");
+    Ok(())
+}
+
+/// The load is proper, its trigger is starved or paid ahead, and it finds a victim that is close to no query.
 fn expect_load<R: Abort>(
     rt: &R,
+    alloc: Global,
     s: &Setting,
     entries: &[Entry],
     load: &Option<Load>,
     l: &Load,
     rest: u64,
     seen: &mut Seen,
-)
+) -> Result<(), Fail>
     requires small { IsSmall s.now }
     requires load { load.now ≡ underway s.now (past entries.now) }
 {
-    for p in l.missing.iter() {
-        if let Ok(piece) = u32::try_from(*p) {
-            if !has_filled(l, piece) {
-                assert!(rt; !is_framed(s, entries, *p), "piece {p} is missing");
-            }
-        }
-    }
+    expect_proper(rt, s, entries, l);
     assert!(rt; !is_wholly_framed(s, entries, l.query, l.chunk));
     if is_active(entries, l.query) {
         assert!(rt; is_starved(s, entries, l.query), "trigger {}", l.query);
@@ -145,14 +170,9 @@ fn expect_load<R: Abort>(
     let free = free_frames(s, entries, load) as usize;
     if l.begun.is_empty() && free < l.missing.len() {
         one_more(&mut seen.lacking);
-        let mut found = false;
-        for c in 0..s.chunks {
-            if is_victim(s, entries, load, c) && close(s, entries, c) == 0 {
-                found = true;
-            }
-        }
-        assert!(rt; found, "no victim");
+        expect_choice(rt, alloc, s, entries, load, l.worker)?;
     }
+    Ok(())
 }
 
 /// The chunk that was evicted was close to nobody, a frame is free now, and nobody was starved by it.
@@ -201,6 +221,10 @@ fn expect_entry<R: Abort>(
             expect_eviction(rt, alloc, s, before, after, chunk)?;
             one_more(&mut seen.evictions);
         }
+        Entry::Fill { .. } => {
+            let taken = free_frames(s, before, &old).saturating_sub(free_frames(s, after, &load));
+            assert!(rt; taken <= 1, "{taken} frames");
+        }
         Entry::Filled { .. } => {
             if old.is_some() && load.is_none() {
                 one_more(&mut spent.loads);
@@ -215,15 +239,8 @@ fn expect_entry<R: Abort>(
         one_more(&mut seen.tight);
     }
     if let Some(l) = &load {
-        expect_load(
-            rt,
-            s,
-            after,
-            &load,
-            l,
-            paid.saturating_sub(spent.loads),
-            seen,
-        );
+        let rest = paid.saturating_sub(spent.loads);
+        expect_load(rt, alloc, s, after, &load, l, rest, seen)?;
     }
     expect_frames(rt, s, after);
     expect_holds(rt, s, after);
