@@ -1,4 +1,5 @@
 pub mod Bits
+pub mod Lanes
 pub mod Bytes
 pub mod Judging
 pub mod Places

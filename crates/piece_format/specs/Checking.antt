@@ -1,5 +1,5 @@
 -- What the check goes by: how far value words may go, and what stands at a place as code tells it.
-use Rattle.std.specs.Prelude.{◌≡◌, ◌<◌, ◌≤◌, ◌+◌, ◌^◌, ◌==◌, ◌&&◌, ℕ, zero, suc, Bool, true, not, nat_le, if◌then◌else◌, List, length, slice_index}
+use Rattle.std.specs.Prelude.{◌≡◌, ◌<◌, ◌≤◌, ◌^◌, ◌==◌, ℕ, Bool, not, nat_le, if◌then◌else◌, List, length, slice_index}
 use Rattle.std.specs.Int.{bit_at}
 use Rattle.table_core.specs.declared.schema.Kind.{Kind}
 use Rattle.table_core.specs.declared.schema.Kind.TheVariants as kinds
@@ -20,18 +20,9 @@ IsTop kind len top = (null : Bool) (w : ℕ) → w < 2 ^ 64 → nat_le w (if nul
 abbrev pub AreTops : TableShape → List ℕ → Type 0
 AreTops s tops = (x : ℕ) → x < length s.kinds → IsTop (kind_at s x) (dict_len_at s x) (slice_index tops x)
 
--- the same of one column for each of 64 rows
-abbrev pub AreTopsOf : TableShape → ℕ → List ℕ → Type 0
-AreTopsOf s x tops = (b : ℕ) → b < 64 → IsTop (kind_at s x) (dict_len_at s x) (slice_index tops b)
-
 -- how far a value word may go: to 0 where its null bit is set
-abbrev pub limit : ℕ → List ℕ → ℕ → ℕ
-limit word tops b = if bit_at word b == 1 then 0 else slice_index tops b
-
--- the first words from a place on, so many, go no further than they may
-unfoldable pub are_within : (ℕ → ℕ) → ℕ → ℕ → List ℕ → ℕ → Bool
-are_within word from null_word tops zero = true
-are_within word from null_word tops (suc b) = are_within word from null_word tops b && nat_le (word (from + b)) (limit null_word tops b)
+abbrev pub limit_of : ℕ → ℕ → ℕ → ℕ
+limit_of null_word b top = if bit_at null_word b == 1 then 0 else top
 
 -- no dictionary has a word for a column of texts, so each value word under a clear bit breaks the rules
 abbrev pub HasNoCodes : TableShape → ℕ → Type 0
@@ -47,3 +38,11 @@ IsSlot _ _ = ⊥
 abbrev pub IsInside : Piece → Stands → Type 0
 IsInside q (stands.Value row x) = (row < q.rows) × HasColumn q x
 IsInside q (stands.Nulls count) = count ≤ 64
+
+-- each place has the word with this bit alone
+abbrev pub AreBits : List ℕ → Type 0
+AreBits bits = (b : ℕ) → b < 64 → slice_index bits b ≡ 2 ^ b
+
+-- nothing was found in a lane
+abbrev pub IsClear : List ℕ → ℕ → Type 0
+IsClear found l = slice_index found l ≡ 0

@@ -6,13 +6,14 @@ ghost use Rattle.piece_format.specs.Bytes.{bytes_of, word_of};
 ghost use Rattle.piece_format.specs.Shape.{IsPieceOf, IsShape, piece_at, pieces, words_in};
 ghost use Rattle.piece_format.specs.Cells.{AreRowsOf, dict_len_at, kind_at};
 ghost use Rattle.piece_format.specs.Words.{piece_words};
-ghost use Rattle.piece_format.specs.Checking.{AreTops, AreTopsOf, HasNoCodes, IsTop, are_within, limit as limit_at};
+ghost use Rattle.piece_format.specs.Checking.{AreTops, HasNoCodes, IsTop};
 ghost use Rattle.piece_format.specs.Broken as spec;
 
 use crate::cells::{bit, has_bit_from};
 use crate::layout::Layout;
 use crate::pieces::{Piece, Stands};
 use crate::shape::Shape;
+use crate::sound::{rows_are_sound, runs_are_sound};
 use crate::word_bytes::word_at;
 use table_core::Kind;
 
@@ -99,7 +100,7 @@ fn row_tops(shape: &Shape) -> Option<[u64; 16]>
     requires { IsShape shape.now }
     ensures { IfSome result (λ tops. AreTops shape.now tops) }
 {
-    let mut tops = [0; 16];
+    let mut tops = [u64::MAX; 16];
     for column in 0..shape.columns() {
         match top_of(shape, column) {
             None => return None,
@@ -109,121 +110,69 @@ fn row_tops(shape: &Shape) -> Option<[u64; 16]>
     Some(tops)
 }
 
-// The same top for each of 64 rows.
-fn run_tops(top: u64) -> [u64; 64]
-    ensures { (b : ℕ) → b < 64 → slice_index result b ≡ top }
-{
-    [top; 64]
-}
-
-// How far a value word may go: to 0 where its null bit is set.
-fn limit(nulls: u64, b: u32, tops: &[u64]) -> u64
-    requires bit { b < 64 }
-    requires there { b < length tops.now }
-    ensures { result ≡ limit_at nulls tops.now b }
-{
-    if bit(nulls, b) { 0 } else { tops[b as usize] }
-}
-
-// Whether value words that stand one after another go no further than they may. It has no branch on what they are.
-fn are_sound(bytes: &[u8], from: u32, nulls: u64, tops: &[u64], count: u32) -> bool
-    requires few { count ≤ 64 }
-    requires tops { count ≤ length tops.now }
-    requires bytes { 8 * (from + count) ≤ length bytes.now }
-    requires small { from + count ≤ 524288 }
-    ensures { result ≡ are_within (word_of bytes.now) from nulls tops.now count }
-{
-    let mut sound = true;
-    for b in 0..count {
-        sound &= word_at(bytes, from + b) <= limit(nulls, b, tops);
-    }
-    sound
-}
-
-// Judges the words of a row.
-fn check_row(
-    shape: &Shape,
-    piece: Piece,
-    bytes: &[u8],
-    tops: &[u64; 16],
-    row: u32,
-) -> Result<(), Damage>
+// How many of the first words of a piece in the row layout are surely sound: 0 where a quick look doesn't tell.
+fn sound_rows(shape: &Shape, piece: Piece, bytes: &[u8]) -> u32
     requires shape { IsShape shape.now }
     requires piece { IsPieceOf shape.now piece }
     requires layout { piece.layout ≡ layouts.Row }
     requires bytes { length bytes.now ≡ 8 * words_in piece }
-    requires tops { AreTops shape.now tops.now }
-    requires row { row < piece.rows }
-    requires before { spec.NoneBroken shape.now piece (word_of bytes.now) (row * (piece.columns + 1)) }
-    ensures ok { OnOk result (spec.NoneBroken shape.now piece (word_of bytes.now) ((row + 1) * (piece.columns + 1))) }
-    ensures err { IfErr result (λ d. spec.IsLeastBroken shape.now piece (word_of bytes.now) d.word) }
+    ensures inside { result ≤ words_in piece }
+    ensures sound { spec.NoneBroken shape.now piece (word_of bytes.now) result }
 {
-    let start = row * (piece.columns + 1);
-    let mask = word_at(bytes, start);
-    let sound = are_sound(bytes, start + 1, mask, tops, piece.columns);
-    if sound && !has_bit_from(mask, piece.columns) {
-        return Ok(());
+    if piece.rows < 4 {
+        return 0;
     }
-    check_words(shape, piece, bytes, start, (row + 1) * (piece.columns + 1))
+    let rows = piece.rows - 3;
+    match row_tops(shape) {
+        Some(tops) if rows_are_sound(piece.columns, bytes, &tops, rows) => {
+            rows * (piece.columns + 1)
+        }
+        _ => 0,
+    }
 }
 
-// Judges a piece in the row layout, row by row.
-fn check_rows(shape: &Shape, piece: Piece, bytes: &[u8], tops: &[u64; 16]) -> Result<(), Damage>
+// How many of the value words of a column are surely sound: 0 where a quick look doesn't tell.
+fn sound_values(shape: &Shape, piece: Piece, bytes: &[u8]) -> u32
+    requires shape { IsShape shape.now }
+    requires piece { IsPieceOf shape.now piece }
+    requires layout { piece.layout ≡ layouts.Column }
+    requires bytes { length bytes.now ≡ 8 * words_in piece }
+    ensures inside { result ≤ piece.rows }
+    ensures sound { spec.NoneBroken shape.now piece (word_of bytes.now) result }
+{
+    match top_of(shape, piece.group) {
+        Some(top) if runs_are_sound(piece.rows, bytes, top) => piece.rows / 8 * 8,
+        _ => 0,
+    }
+}
+
+// Judges a piece in the row layout.
+fn check_rows(shape: &Shape, piece: Piece, bytes: &[u8]) -> Result<(), Damage>
     requires shape { IsShape shape.now }
     requires piece { IsPieceOf shape.now piece }
     requires layout { piece.layout ≡ layouts.Row }
     requires bytes { length bytes.now ≡ 8 * words_in piece }
-    requires tops { AreTops shape.now tops.now }
     ensures ok { OnOk result (spec.NoneBroken shape.now piece (word_of bytes.now) (words_in piece)) }
     ensures err { IfErr result (λ d. spec.IsLeastBroken shape.now piece (word_of bytes.now) d.word) }
 {
-    for row in 0..piece.rows {
-        check_row(shape, piece, bytes, tops, row)?;
-    }
-    Ok(())
+    let from = sound_rows(shape, piece, bytes);
+    check_words(shape, piece, bytes, from, piece.words())
 }
 
-// Judges the value words of 64 rows of a column, or of as many as there are.
-fn check_run(
-    shape: &Shape,
-    piece: Piece,
-    bytes: &[u8],
-    tops: &[u64; 64],
-    k: u32,
-) -> Result<(), Damage>
+// Judges a piece in the column layout: the value words, and then the null words. Each bit of a null word names a row,
+// but for those of the last word where it stands for fewer than 64.
+fn check_column(shape: &Shape, piece: Piece, bytes: &[u8]) -> Result<(), Damage>
     requires shape { IsShape shape.now }
     requires piece { IsPieceOf shape.now piece }
     requires layout { piece.layout ≡ layouts.Column }
     requires bytes { length bytes.now ≡ 8 * words_in piece }
-    requires tops { AreTopsOf shape.now piece.group tops.now }
-    requires run { 64 * k < piece.rows }
-    requires before { spec.NoneBroken shape.now piece (word_of bytes.now) (64 * k) }
-    ensures ok { OnOk result (spec.NoneBroken shape.now piece (word_of bytes.now) (min (64 * (k + 1)) piece.rows)) }
-    ensures err { IfErr result (λ d. spec.IsLeastBroken shape.now piece (word_of bytes.now) d.word) }
-{
-    let from = 64 * k;
-    let count = (piece.rows - from).min(64);
-    let nulls = word_at(bytes, piece.rows + k);
-    if are_sound(bytes, from, nulls, tops, count) {
-        return Ok(());
-    }
-    check_words(shape, piece, bytes, from, from + count)
-}
-
-// Judges a piece in the column layout: the value words, and then the null words.
-fn check_column(shape: &Shape, piece: Piece, bytes: &[u8], tops: &[u64; 64]) -> Result<(), Damage>
-    requires shape { IsShape shape.now }
-    requires piece { IsPieceOf shape.now piece }
-    requires layout { piece.layout ≡ layouts.Column }
-    requires bytes { length bytes.now ≡ 8 * words_in piece }
-    requires tops { AreTopsOf shape.now piece.group tops.now }
     ensures ok { OnOk result (spec.NoneBroken shape.now piece (word_of bytes.now) (words_in piece)) }
     ensures err { IfErr result (λ d. spec.IsLeastBroken shape.now piece (word_of bytes.now) d.word) }
 {
-    for k in 0..(piece.rows + 63) / 64 {
-        check_run(shape, piece, bytes, tops, k)?;
-    }
-    check_words(shape, piece, bytes, piece.rows, piece.words())
+    let from = sound_values(shape, piece, bytes);
+    check_words(shape, piece, bytes, from, piece.rows)?;
+    let whole_nulls = piece.rows / 64;
+    check_words(shape, piece, bytes, piece.rows + whole_nulls, piece.words())
 }
 
 // Judges a piece.
@@ -236,14 +185,9 @@ fn check_piece(shape: &Shape, piece: Piece, bytes: &[u8]) -> Result<(), Damage>
     ensures err { IfErr result (λ d. spec.IsLeastBroken shape.now piece (word_of bytes.now) d.word) }
 {
     match piece.layout {
-        Layout::Row => if let Some(tops) = row_tops(shape) {
-            return check_rows(shape, piece, bytes, &tops);
-        },
-        Layout::Column => if let Some(top) = top_of(shape, piece.group) {
-            return check_column(shape, piece, bytes, &run_tops(top));
-        },
+        Layout::Row => check_rows(shape, piece, bytes),
+        Layout::Column => check_column(shape, piece, bytes),
     }
-    check_words(shape, piece, bytes, 0, piece.words())
 }
 
 /// Whether no word of a piece breaks the rules; else the first one that does.

@@ -5,10 +5,12 @@
 mod cells;
 mod checking;
 mod encoding;
+mod fours;
 mod layout;
 mod pieces;
 mod reading;
 mod shape;
+mod sound;
 #[cfg(test)]
 mod tests;
 mod word_bytes;

@@ -438,6 +438,19 @@ const ROW_CHANGES: [Change; 15] = [
     (7, 41, None),
 ];
 
+// Of the first two of five rows, the words 0, 1, 0, 10 and 0, 2, 1, 20, which are looked at four at a time.
+const EARLY_CHANGES: [Change; 9] = [
+    (0, 8, Some(0)),
+    (0, 1, Some(1)),
+    (0, 2, None),
+    (1, u64::MAX, None),
+    (2, 3, Some(2)),
+    (4, 2, Some(6)),
+    (4, 4, Some(7)),
+    (6, 1 << 63, Some(6)),
+    (7, 0, None),
+];
+
 // Of the words 0, 40, 1.
 const NUMBER_CHANGES: [Change; 4] = [
     (0, 1, Some(0)),
@@ -455,6 +468,8 @@ fn each_kind_of_broken_word_is_found_at_its_place(rt: HostRuntime) -> Result<(),
     let table = table_of(&rt, alloc, &KINDS, &CELLS)?;
     let shape = shape_of(alloc, Layout::Row, &KINDS, &DICT_LENS, 5, 2)?;
     try_changes(&rt, alloc, &table, &shape, 1, &ROW_CHANGES)?;
+    let shape = shape_of(alloc, Layout::Row, &KINDS, &DICT_LENS, 5, 5)?;
+    try_changes(&rt, alloc, &table, &shape, 0, &EARLY_CHANGES)?;
     let shape = shape_of(alloc, Layout::Column, &KINDS, &DICT_LENS, 5, 2)?;
     try_changes(&rt, alloc, &table, &shape, 5, &NUMBER_CHANGES)?;
     try_changes(&rt, alloc, &table, &shape, 4, &CODE_CHANGES)
@@ -478,6 +493,32 @@ fn a_damage_is_found_behind_the_first_64_rows(rt: HostRuntime) -> Result<(), Fai
     let table = table_of(&rt, alloc, &[Kind::Int], cells.as_slice())?;
     let shape = shape_of(alloc, Layout::Column, &[Kind::Int], &[0], 70, 70)?;
     try_changes(&rt, alloc, &table, &shape, 0, &LATE_CHANGES)
+}
+
+// Of a column of 70 codes of 70 texts, each seventh NULL, whose value words are looked at eight at a time.
+const MANY_CODES_CHANGES: [Change; 6] = [
+    (8, 70, Some(8)),
+    (8, 69, None),
+    (9, 1 << 32, Some(9)),
+    (14, 1, Some(14)),
+    (64, 70, Some(64)),
+    (70, 1 << 62, Some(62)),
+];
+
+#[test]
+fn a_broken_code_is_found_among_many(rt: HostRuntime) -> Result<(), Fail> {
+    let alloc = rt.alloc();
+    let mut cells = Vec::new(alloc);
+    for row in 0..70 {
+        cells.push(if row % 7 == 0 {
+            Cell::Null
+        } else {
+            Cell::Code(row)
+        })?;
+    }
+    let table = table_of(&rt, alloc, &[Kind::Text], cells.as_slice())?;
+    let shape = shape_of(alloc, Layout::Column, &[Kind::Text], &[70], 70, 70)?;
+    try_changes(&rt, alloc, &table, &shape, 0, &MANY_CODES_CHANGES)
 }
 
 // Of the words 1, 0, 1, 0, in columns of texts without codes.
