@@ -7,7 +7,7 @@ use Rattle.std.proofs.lemmas.Bool.Decides.{nat_tests}
 use Rattle.std.proofs.lemmas.Nat.{mul-add-lt, mod-mul-add}
 use Rattle.std.proofs.Math.Nat.{mul-div_left, mul-le-mul_right}
 use Rattle.std.proofs.lemmas.List.{get_or-map, length-map, ext_get_or, length-take-le, length-drop, get_or-take, get_or-drop}
-use Rattle.std.proofs.lemmas.List.Elements.{All-nil, All-cons, All-from_get_or, All-get_or}
+use Rattle.std.proofs.lemmas.List.Elements.{All-nil, All-cons, All-head, All-tail, All-from_get_or, All-get_or}
 use Rattle.column_types.specs.Kinds.{is_of, kind_of, value_as}
 use Rattle.column_types.proofs.Holding.{same-kind, holds}
 use Rattle.csv_rows.specs.Judged.{Fields, max_columns, max_rows, refusal_of}
@@ -60,6 +60,18 @@ typed-few [] [] all = All-nil (λ (column : Typed). places_of column.kind ≤ 9)
 typed-few [] (y ∷ ys) all = absurd all
 typed-few (x ∷ xs) [] all = absurd all
 typed-few (x ∷ xs) (y ∷ ys) all = All-cons (λ (column : Typed). places_of column.kind ≤ 9) y ys all.0.few (typed-few xs ys all.1)
+
+with-few : (names : Fields) (typed : List Typed) → All (λ column. places_of column.kind ≤ 9) typed → All (λ (c : Column). places_of c.kind ≤ 9) (columns_with names typed)
+with-few [] typed few = All-nil (λ (c : Column). places_of c.kind ≤ 9)
+with-few (n ∷ ns) [] few = All-nil (λ (c : Column). places_of c.kind ≤ 9)
+with-few (n ∷ ns) (t ∷ ts) few =
+    All-cons (λ (c : Column). places_of c.kind ≤ 9) (column_with n t) (columns_with ns ts) (All-head (λ (column : Typed). places_of column.kind ≤ 9) t ts few)
+    (with-few ns ts (All-tail (λ (column : Typed). places_of column.kind ≤ 9) t ts few))
+
+-- the columns of a table have few places each
+pub columns-few : (names : Fields) (columns : List Fields) (typed : List Typed) (schema table : List Column) → AllZip IsTyped columns typed
+    → schema ≡ columns_with names typed → table ≡ schema → All (λ (c : Column). places_of c.kind ≤ 9) table
+columns-few names columns typed schema table all s t = rw (t, s) (with-few names typed (typed-few columns typed all))
 
 -- the kind that was found is that of the column's fields
 found-kind : (rows : List Fields) (width : ℕ) (columns : List Fields) (old : List Cell) (typed : List Typed) (d : Typed) (k : ℕ)

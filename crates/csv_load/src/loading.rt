@@ -1,11 +1,12 @@
 // The table of a text.
-ghost use Rattle.std.specs.Prelude.{◌≡◌, ◌≢◌, ◌≤◌, ◌<◌, ℕ, [], IfErr, IfOk, Some, length, map, slice_index_or};
+ghost use Rattle.std.specs.Prelude.{◌≡◌, ◌≢◌, ◌≤◌, ◌<◌, ℕ, [], All, IfErr, IfOk, Some, length, map, slice_index_or};
 ghost use Rattle.csv_load.specs.Finished.{columns_with};
 ghost use Rattle.csv_load.specs.Loaded.{IsLoaded};
 ghost use Rattle.csv_load.specs.declared.typed.Typed.{Typed};
 ghost use Rattle.csv_rows.specs.Judged.{refusal_of};
 ghost use Rattle.csv_rows.specs.Rows.{table_records};
 ghost use Rattle.csv_rows.specs.declared.refusal.LoadRefusal.TheVariants as refusal;
+ghost use Rattle.table_core.specs.Value.{places_of};
 
 use crate::reading::{Read, read_rows};
 use crate::seeded::Seeded;
@@ -64,6 +65,7 @@ fn dicts_of(alloc: Global, typed: Vec<Typed>) -> Result<Vec<Dict>, AllocError>
 pub fn load(alloc: Global, keys: RandomState, bytes: &[u8]) -> Result<Loaded, LoadRefusal>
     requires small { length bytes.now ≤ 268435456 }
     ensures loaded { IfOk result (λ t. IsLoaded (table_records bytes.now) t.table t.dicts.items) }
+    ensures places { IfOk result (λ t. All (λ c. places_of c.kind ≤ 9) t.table.columns) }
     ensures refused { IfErr result (λ e. e ≢ refusal.Memory → refusal_of (table_records bytes.now) ≡ Some e) }
 {
     let read = match read_rows(alloc, Seeded::with_keys(keys), bytes) {

@@ -1,6 +1,6 @@
 use Rattle.std.proofs.Common.{◌≡◌, arith, ap, length}
 use Rattle.csv_rows.specs.Rows.{table_records}
-use Rattle.csv_load.proofs.Assembled.{loaded, table-whole, typed-count, typed-few}
+use Rattle.csv_load.proofs.Assembled.{columns-few, loaded, table-whole, typed-count, typed-few}
 use Rattle.csv_load.proofs.Rowwise.{rest-none}
 use Rattle.csv_load.proofs.loading.load.Goals as goal
 
@@ -34,3 +34,8 @@ returns-clause-loaded c =
     (rw (c.as_slice.ensures.value, c.deref_mut.ensures.value) at c.finish_cells.ensures.finished)
     (rw c.as_slice-2.ensures.value at c.in-Ok-schema_of.ensures) c.new.ensures.columns
     (rw (rest-none new cells.items cells.len size (omega (arith, cells.ok.0))) at c.new.ensures.rows) c.in-Ok-dicts_of.ensures
+
+pub returns-clause-places : goal.returns-clause-places
+returns-clause-places c =
+    columns-few c.in-Ok.read.names.items c.in-Ok.read.columns.items c.in-Ok-type_columns.typed.items c.in-Ok-schema_of.schema c.new.result.columns
+    c.in-Ok-type_columns.ensures (rw c.as_slice-2.ensures.value at c.in-Ok-schema_of.ensures) c.new.ensures.columns
