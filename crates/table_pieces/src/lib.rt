@@ -1,0 +1,17 @@
+//! A table as its pieces: its shape, its pieces put into a depot one after another, and the zones of its chunks.
+//! docs/PIECES.md and docs/ZONES.md have the rules.
+#![tactic(auto)]
+
+mod chunk_rows;
+mod putting;
+mod refusal;
+mod shaping;
+#[cfg(test)]
+mod tests;
+mod zoning;
+
+pub use chunk_rows::rows_by_chunk;
+pub use putting::put_pieces;
+pub use refusal::BatchRefusal;
+pub use shaping::{chunks_of, shape_of};
+pub use zoning::zones_of_chunks;

@@ -1,0 +1,83 @@
+// What calls ask of a table, tested.
+ghost use Rattle.std.specs.Prelude.{◌≡◌, ◌<◌, ◌-◌, ℕ, [], length, slice_index_or, false};
+ghost use Rattle.std.specs.Bool.{OnTrue};
+ghost use Rattle.std.specs.Ordering.{is_gt};
+ghost use Rattle.piece_format.specs.Shape.{IsShape};
+ghost use Rattle.table_core.specs.Dict.{text_cmp};
+ghost use Rattle.table_core.specs.Table.{AreWholeRows};
+ghost use Rattle.table_core.specs.Value.{FitsColumn};
+ghost use Rattle.table_core.specs.declared.cell.Cell.TheVariants.{Null};
+ghost use Rattle.table_pieces.specs.Shaping.{FitsDicts, kind_of, shape_of};
+
+use piece_format::Layout;
+use table_core::{Cell, Column, Dict, Kind, Table, chunk_count};
+
+// Whether the table has a shape within the limits.
+pub(crate) fn has_shape(table: &Table, dicts: &[Dict], layout: Layout, per: u32) -> bool
+    ensures { OnTrue result (IsShape (shape_of table.now dicts.now layout per)) }
+{
+    let columns = table.schema().len();
+    if columns < 1 || columns > 16 || dicts.len() != columns {
+        return false;
+    }
+    if per < 1 || per > 16384 || table.len() > 2097152 {
+        return false;
+    }
+    chunk_count(table.len() as u32, per) <= 1024
+}
+
+fn fits_column(kind: Kind, dict: &Dict, cell: Cell) -> bool
+    ensures { OnTrue result (FitsColumn kind dict.now cell) }
+{
+    match (kind, cell) {
+        (_, Cell::Null) => true,
+        (Kind::Text, Cell::Code(code)) => code < dict.len(),
+        (Kind::Int, Cell::Int(_)) => true,
+        (Kind::Dec { places: _ }, Cell::Int(_)) => true,
+        _ => false,
+    }
+}
+
+fn fits_row(columns: &[Column], dicts: &[Dict], row: &[Cell]) -> bool
+    ensures { OnTrue result ((x : ℕ) → x < length columns.now → FitsColumn (kind_of columns.now x) (slice_index_or dicts.now x []) (slice_index_or row.now x Null)) }
+{
+    if row.len() != columns.len() || dicts.len() != columns.len() {
+        return false;
+    }
+    for x in 0..columns.len() {
+        if !fits_column(columns[x].kind, &dicts[x], row[x]) {
+            return false;
+        }
+    }
+    true
+}
+
+// Whether each cell is one that its column may have.
+pub(crate) fn fits_dicts(table: &Table, dicts: &[Dict]) -> bool
+    ensures { OnTrue result (FitsDicts table.now dicts.now) }
+{
+    for row in 0..table.len() {
+        if !fits_row(table.schema().columns(), dicts, table.row(row)) {
+            return false;
+        }
+    }
+    true
+}
+
+// Whether the cells are whole rows.
+pub(crate) fn are_whole_rows(width: usize, cells: &[Cell]) -> bool
+    ensures { OnTrue result (AreWholeRows width cells.now) }
+{
+    width > 0 && cells.len() % width == 0
+}
+
+// Whether the text may stand at the end of the dictionary.
+pub(crate) fn can_follow(dict: &Dict, text: &[u8]) -> bool
+    ensures { OnTrue result (0 < length dict.now → is_gt (text_cmp (slice_index_or dict.now (length dict.now - 1) []) text.now) ≡ false) }
+{
+    let len = dict.len();
+    if len == 0 {
+        return true;
+    }
+    !dict.text_of(len - 1).cmp(text).is_gt()
+}
