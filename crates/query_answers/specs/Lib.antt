@@ -1,0 +1,4 @@
+pub mod Partial
+pub mod Answer
+pub mod Agree
+pub mod Laws

@@ -1,0 +1,16 @@
+//! What a query's scan gathers of the rows that match, and what the query is answered.
+//!
+//! `docs/ANSWERS.md` says what is gathered, and how parts are joined.
+#![tactic(auto)]
+
+mod answer;
+mod cause;
+mod laws;
+mod partial;
+#[cfg(test)]
+mod tests;
+
+pub use answer::Answer;
+pub use cause::Cause;
+pub use laws::{alike_parts, answer_agrees, answer_of_table, any_order, can_be_written};
+pub use partial::{Partial, join_parts};
