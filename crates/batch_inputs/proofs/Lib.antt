@@ -1,0 +1,4 @@
+pub mod Spans
+pub mod Generated
+pub mod Texts
+pub mod Deciding

@@ -1,0 +1,5 @@
+pub mod Asked
+pub mod Sources
+pub mod Statements
+pub mod Order
+pub mod Ending
