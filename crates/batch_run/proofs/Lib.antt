@@ -1,0 +1,13 @@
+pub mod Holding
+pub mod Slots
+pub mod Numbers
+pub mod Takings
+pub mod Reading
+pub mod Gathering
+pub mod Finishing
+pub mod Together
+pub mod Tables
+pub mod Stored
+pub mod Matched
+pub mod Written
+pub mod Faultless
