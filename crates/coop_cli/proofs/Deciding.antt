@@ -1,59 +1,86 @@
--- A refusal of the table or of the batch is what the whole run decides.
-use Rattle.std.proofs.Common.{◌≡◌, ◌≤◌, ℕ, List, Option, Some, Result, Ok, Err, refl, ap, ◌∙◌, subst, inl, inr, arith}
-use Rattle.coop_outside.specs.Causes.{Rose}
-use Rattle.coop_outside.specs.declared.bytes.Bytes.{Bytes}
-use Rattle.coop_outside.specs.Held.{Held, ReadFails}
-use Rattle.coop_cli.specs.Decided.{batch_read, decided, table_read}
-use Rattle.coop_cli.specs.Ending.{Decides, Gives, IsDecision, IsOfBatch, IsOfTable}
-use Rattle.coop_cli.specs.declared.stop.Stop.{Stop}
-use Rattle.coop_cli.specs.declared.stop.Stop.TheVariants as stop
+-- What a run decides, from what it read and from what its batch came to.
+use Rattle.std.proofs.Common.{◌≡◌, ◌≢◌, ◌≤◌, ℕ, List, [], Option, Some, None, Result, Ok, Err, refl, ap, inl, inr, ◌⊎◌}
+use Rattle.command_words.specs.Options.{Request}
+use Rattle.run_texts.specs.declared.stop.Stop.{Stop}
+use Rattle.run_texts.specs.declared.stop.Stop.TheVariants as stop
+use Rattle.batch_inputs.specs.Ending.{Decides, IsRead, SourceFails}
+use Rattle.batch_inputs.specs.Sources.{batch_source, table_source}
+use Rattle.batch_inputs.specs.declared.inputs.Inputs.{Inputs}
+use Rattle.batch_run.specs.declared.taken.Taken.{Taken}
+use Rattle.coop_cli.specs.Deciding.{ComesOf, IsDecided, IsDecision}
+use Rattle.coop_cli.specs.Devices.{DepotAt, OverDepot, OverShelf, over_depot}
+use Rattle.coop_cli.specs.Running.{CanRun, Text}
+use Rattle.coop_cli.proofs.Given.{can-run}
+
+-- what was read, for each request that the words may ask for
+abbrev pub ReadFor : Option Request → OverShelf → Result Inputs Stop → Type 0
+ReadFor asked shelf result = (r : Request) → asked ≡ Some r → IsRead r shelf.held shelf.before shelf.now result
+
+abbrev pub FailsFor : Option Request → OverShelf → Result Inputs Stop → Type 0
+FailsFor asked shelf result =
+    (result ≡ Err stop.TableFault → (r : Request) → asked ≡ Some r → SourceFails shelf.held (table_source r.table) shelf.before shelf.now)
+    × (result ≡ Err stop.BatchFault → (r : Request) → asked ≡ Some r → SourceFails shelf.held (batch_source r.batch) shelf.before shelf.now)
 
 err-same : {T U : Type 0} (e s : Stop) → ◌≡◌ {A = Result T Stop} (Err e) (Err s) → ◌≡◌ {A = Result U Stop} (Err e) (Err s)
 err-same e s h = let q : e ≡ s = cc h in ap (λ (x : Stop). Err x) q
 
-not-ok : {T : Type 0} {P : Type 0} (x : T) (s : Stop) → ◌≡◌ {A = Result T Stop} (Ok x) (Err s) → P
-not-ok x s h = cc h
+-- a batch that runs stops for a piece or for want of memory alone
+comes-stop : (i : Inputs) (depot : OverDepot) (taken : List Taken) (d : Result Text Stop) (s : Stop) → ComesOf i depot taken d → d ≡ Err s → (s ≡ stop.Memory) ⊎ ((piece : ℕ) × (s ≡ stop.NotStored piece))
+comes-stop i depot taken (Ok o) s h e = cc e
+comes-stop i depot taken (Err t) s (inl memory) e = inl (cc (e, memory))
+comes-stop i depot taken (Err t) s (inr not) e = inr (not.piece, cc (e, not.stop_is))
 
-rose-since : (before mid now : ℕ) → before ≤ mid → Rose mid now → Rose before now
-rose-since before mid now h r = omega arith
+comes-no : (i : Inputs) (depot : OverDepot) (taken : List Taken) (d : Result Text Stop) (s : Stop) → ComesOf i depot taken d → s ≢ stop.Memory → ((piece : ℕ) → s ≢ stop.NotStored piece) → d ≢ Err s
+comes-no i depot taken d s h memory piece e = elim (comes-stop i depot taken d s h e) [
+  | inl is ↦ memory is
+  | inr p ↦ piece p.0 p.1
+]
 
-table-told : (a b : List ℕ) (files : List ℕ → Option (List ℕ)) (before now : ℕ) (e : Stop)
-    → Gives stop.TableFault before now (table_read (files a)) (Err e) → Decides before now (decided (Some (a, b)) files) (Err e)
-table-told a b files before now e (inl is) = inl (rw (← is) refl)
-table-told a b files before now e (inr (inl memory)) = inr (inl (err-same e stop.Memory memory))
-table-told a b files before now e (inr (inr (fault, rose))) = inr (inr (inl (err-same e stop.TableFault fault), rose))
-
-pub table-refused : (names : Option (List ℕ × List ℕ)) (a b : List ℕ) (held : Held) (before now : ℕ) (e : Stop) → Some (a, b) ≡ names
-    → ((files : List ℕ → Option (List ℕ)) → held ≡ Some files → Gives stop.TableFault before now (table_read (files a)) (Err e)) → IsOfTable e
-    → (◌≡◌ {A = Result ℕ Stop} (Err e) (Err stop.TableFault) → ReadFails held a before now) → IsDecision names held before now (Err e)
-table-refused names a b held before now e n told kind cause = record {
-  told = λ files h. rw (← n) (table-told a b files before now e (told files h));
-  answers = tt;
-  usage = (λ p. let q : e ≡ stop.Usage = cc p in absurd (subst IsOfTable q kind), λ p. cc (n, p));
-  table = λ m named p. let same : a ≡ m.0 = cc (n, named) in rw (← same) (cause (err-same e stop.TableFault p));
-  batch = λ m named p. let q : e ≡ stop.BatchFault = cc p in absurd (subst IsOfTable q kind);
+-- a request whose batch runs
+pub decided-runs : (r : Request) (shelf : OverShelf) (depot : OverDepot) (taken : List Taken) (d : Result Text Stop) (i : Inputs) → IsRead r shelf.held shelf.before shelf.now (Ok i)
+    → ComesOf i depot taken d → IsDecided r shelf depot taken d
+decided-runs r shelf depot taken d i read comes = record {
+  table = read.table;
+  batch = read.batch;
+  table_is = read.table_is;
+  batch_is = read.batch_is;
+  comes = inl (record { accepted = read.ends.0; given = i; is_given = read.ends.1; comes = comes });
+  table_fault = λ e. absurd (comes-no i depot taken d stop.TableFault comes (λ h. cc h) (λ p h. cc h) e);
+  batch_fault = λ e. absurd (comes-no i depot taken d stop.BatchFault comes (λ h. cc h) (λ p h. cc h) e);
+  no_usage = comes-no i depot taken d stop.Usage comes (λ h. cc h) (λ p h. cc h);
 }
 
-batch-told : (a b : List ℕ) (files : List ℕ → Option (List ℕ)) (before mid now rows : ℕ) (e : Stop) → before ≤ mid
-    → Gives stop.TableFault before mid (table_read (files a)) (Ok rows) → Gives stop.BatchFault mid now (batch_read (files b)) (Err e) → Decides before now (decided (Some (a, b)) files) (Err e)
-batch-told a b files before mid now rows e le (inl table) (inl is) = inl (rw (← table, ← is) refl)
-batch-told a b files before mid now rows e le (inl table) (inr (inl memory)) = inr (inl (err-same e stop.Memory memory))
-batch-told a b files before mid now rows e le (inl table) (inr (inr (fault, rose))) = inr (inr (inr (err-same e stop.BatchFault fault), rose-since before mid now le rose))
-batch-told a b files before mid now rows e le (inr (inl memory)) batch = not-ok rows stop.Memory memory
-batch-told a b files before mid now rows e le (inr (inr (fault, rose))) batch = not-ok rows stop.TableFault fault
-
-fails-since : (held held' : Held) (name : List ℕ) (before mid now : ℕ) → before ≤ mid → held' ≡ held → ReadFails held' name mid now → ReadFails held name before now
-fails-since held held' name before mid now h e (inl rose) = inl (rose-since before mid now h rose)
-fails-since held held' name before mid now h e (inr lacks) = inr (rw e at lacks)
-
-pub batch-refused : (names : Option (List ℕ × List ℕ)) (a b : List ℕ) (held held' : Held) (before mid now rows : ℕ) (e : Stop) → Some (a, b) ≡ names → before ≤ mid → held' ≡ held
-    → ((files : List ℕ → Option (List ℕ)) → held ≡ Some files → Gives stop.TableFault before mid (table_read (files a)) (Ok rows))
-    → ((files : List ℕ → Option (List ℕ)) → held' ≡ Some files → Gives stop.BatchFault mid now (batch_read (files b)) (Err e)) → IsOfBatch e
-    → (◌≡◌ {A = Result Bytes Stop} (Err e) (Err stop.BatchFault) → ReadFails held' b mid now) → IsDecision names held before now (Err e)
-batch-refused names a b held held' before mid now rows e n le same told told' kind cause = record {
-  told = λ files h. rw (← n) (batch-told a b files before mid now rows e le (told files h) (told' files (same ∙ h)));
-  answers = tt;
-  usage = (λ p. let q : e ≡ stop.Usage = cc p in absurd (subst IsOfBatch q kind), λ p. cc (n, p));
-  table = λ m named p. let q : e ≡ stop.TableFault = cc p in absurd (subst IsOfBatch q kind);
-  batch = λ m named p. let q : b ≡ m.1 = cc (n, named) in rw (← q) (fails-since held held' b before mid now le same (cause (err-same e stop.BatchFault p)));
+-- a request that stops before
+pub decided-stops : (r : Request) (shelf : OverShelf) (at : DepotAt) (s : Stop) → IsRead r shelf.held shelf.before shelf.now (Err s)
+    → (◌≡◌ {A = Result Inputs Stop} (Err s) (Err stop.TableFault) → SourceFails shelf.held (table_source r.table) shelf.before shelf.now)
+    → (◌≡◌ {A = Result Inputs Stop} (Err s) (Err stop.BatchFault) → SourceFails shelf.held (batch_source r.batch) shelf.before shelf.now)
+    → ◌≢◌ {A = Result Inputs Stop} (Err s) (Err stop.Usage) → IsDecided r shelf (over_depot at at) [] (Err s)
+decided-stops r shelf at s read table batch usage = record {
+  table = read.table;
+  batch = read.batch;
+  table_is = read.table_is;
+  batch_is = read.batch_is;
+  comes = inr (read.ends, (refl, refl));
+  table_fault = λ e. table (err-same s stop.TableFault e);
+  batch_fault = λ e. batch (err-same s stop.BatchFault e);
+  no_usage = λ e. usage (err-same s stop.Usage e);
 }
+
+-- the same for what words ask for
+pub decision-runs : (asked : Option Request) (shelf : OverShelf) (depot : OverDepot) (taken : List Taken) (d : Result Text Stop) (i : Inputs) → Decides asked (Ok i) → ReadFor asked shelf (Ok i)
+    → ComesOf i depot taken d → IsDecision asked shelf depot taken d
+decision-runs None shelf depot taken d i (inl h) read comes = cc h
+decision-runs None shelf depot taken d i (inr h) read comes = cc h
+decision-runs (Some r) shelf depot taken d i usage read comes = decided-runs r shelf depot taken d i (read r refl) comes
+
+pub decision-stops : (asked : Option Request) (shelf : OverShelf) (at : DepotAt) (s : Stop) → Decides asked (Err s) → ReadFor asked shelf (Err s) → FailsFor asked shelf (Err s)
+    → IsDecision asked shelf (over_depot at at) [] (Err s)
+decision-stops None shelf at s (inl h) read fails = (inl (err-same s stop.Usage h), (refl, refl))
+decision-stops None shelf at s (inr h) read fails = (inr (err-same s stop.Memory h), (refl, refl))
+decision-stops (Some r) shelf at s usage read fails = decided-stops r shelf at s (read r refl) (λ e. fails.0 e r refl) (λ e. fails.1 e r refl) usage
+
+-- what words give a run can run
+pub asked-runs : (asked : Option Request) (shelf : OverShelf) (i : Inputs) → Decides asked (Ok i) → ReadFor asked shelf (Ok i) → ((r : Request) → asked ≡ Some r → (1 ≤ r.per) × (r.per ≤ 16384)) → CanRun i
+asked-runs None shelf i (inl h) read per = cc h
+asked-runs None shelf i (inr h) read per = cc h
+asked-runs (Some r) shelf i usage read per = let is = read r refl in can-run r is.table is.batch i (per r refl) is.ends.0 is.ends.1

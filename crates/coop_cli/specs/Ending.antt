@@ -1,65 +1,68 @@
--- How a run ends: what it decided, and what of it was written.
-use Rattle.std.specs.Prelude.{◌≡◌, ◌<◌, ◌≤◌, ◌⊎◌, ◌↔◌, ⊤, ℕ, List, length, take, Option, Some, None, Result, Ok, Err, IfOk}
+-- How a run ends: its status, and what is written.
+use Rattle.std.specs.Prelude.{◌≡◌, ◌<◌, ◌⊎◌, ℕ, List, length, take, Option, Some, Result, Ok, Err, All}
 use Rattle.coop_outside.specs.Causes.{Rose}
-use Rattle.coop_outside.specs.Held.{Held, ReadFails}
 use Rattle.coop_outside.specs.Taken.{grown}
-use Rattle.coop_cli.specs.Decided.{Text, decided}
-use Rattle.coop_cli.specs.Stops.{line_of, status_of}
-use Rattle.coop_cli.specs.declared.output.Output.{Output}
-use Rattle.coop_cli.specs.declared.stop.Stop.{Stop}
-use Rattle.coop_cli.specs.declared.stop.Stop.TheVariants as stop
+use Rattle.command_words.specs.Options.{Request}
+use Rattle.csv_load.specs.Meaning.{Values, table_of}
+use Rattle.csv_rows.specs.Rows.{table_records}
+use Rattle.query_answers.specs.declared.cause.Cause.{Cause}
+use Rattle.run_texts.specs.Stops.{line_of, status_of}
+use Rattle.run_texts.specs.declared.stop.Stop.{Stop}
+use Rattle.batch_inputs.specs.Order.{first_stop}
+use Rattle.batch_inputs.specs.Sources.{batch_source, table_source, text_in}
+use Rattle.batch_inputs.specs.Statements.{statements_in}
+use Rattle.batch_run.specs.declared.taken.Taken.{Taken}
+use Rattle.batch_texts.specs.Output.{IsOutput}
+use Rattle.coop_cli.specs.Devices.{OverDepot, OverShelf, OverSink}
+use Rattle.coop_cli.specs.Losses.{AreCaused, OnlyForMemory}
+use Rattle.coop_cli.specs.Running.{Text}
+use Rattle.coop_cli.specs.Tasks.{totals_of}
 
--- a call gives what it should, or memory is wanting, or the shelf failed
-abbrev pub Gives : {T : Type 0} → Stop → ℕ → ℕ → Result T Stop → Result T Stop → Type 0
-Gives fault before now ideal result = (result ≡ ideal) ⊎ (result ≡ Err stop.Memory) ⊎ ((result ≡ Err fault) × Rose before now)
-
--- a run decides what it should, or memory is wanting, or the shelf failed
-abbrev pub Decides : ℕ → ℕ → Result Text Stop → Result Text Stop → Type 0
-Decides before now ideal result = (result ≡ ideal) ⊎ (result ≡ Err stop.Memory) ⊎ (((result ≡ Err stop.TableFault) ⊎ (result ≡ Err stop.BatchFault)) × Rose before now)
-
--- a refusal that comes of reading the table, or of reading the batch
-abbrev pub IsOfTable : Stop → Type 0
-IsOfTable stop.Usage = ⊥
-IsOfTable stop.NoHeader = ⊤
-IsOfTable stop.NotBuilt = ⊤
-IsOfTable stop.TableFault = ⊤
-IsOfTable stop.BatchFault = ⊥
-IsOfTable stop.BatchTooLong = ⊥
-IsOfTable stop.Memory = ⊤
-
-abbrev pub IsOfBatch : Stop → Type 0
-IsOfBatch stop.Usage = ⊥
-IsOfBatch stop.NoHeader = ⊥
-IsOfBatch stop.NotBuilt = ⊥
-IsOfBatch stop.TableFault = ⊥
-IsOfBatch stop.BatchFault = ⊤
-IsOfBatch stop.BatchTooLong = ⊤
-IsOfBatch stop.Memory = ⊤
-
--- what a decision to write shows
-abbrev pub shown : Result Output Stop → Result Text Stop
-shown (Ok output) = Ok (output.status, output.text)
-shown (Err s) = Err s
-
--- what a run decides, by the names in its words and by what the shelf tells; the shelf's count of faults went from `before` to `now`
-pub record IsDecision (names : Option (List ℕ × List ℕ)) (held : Held) (before now : ℕ) (d : Result Text Stop) : Type 0 where
-  pub told : (files : List ℕ → Option (List ℕ)) → held ≡ Some files → Decides before now (decided names files) d
-  pub answers : IfOk d (λ o. o.0 ≤ 1)
-  pub usage : (d ≡ Err stop.Usage) ↔ (names ≡ None)
-  pub table : (n : List ℕ × List ℕ) → names ≡ Some n → d ≡ Err stop.TableFault → ReadFails held n.0 before now
-  pub batch : (n : List ℕ × List ℕ) → names ≡ Some n → d ≡ Err stop.BatchFault → ReadFails held n.1 before now
-
--- the sink took less than the whole text, since it failed; its count of faults went from `before` to `now`
-abbrev pub IsCutShort : List ℕ → Option (List ℕ) → Option (List ℕ) → ℕ → ℕ → Type 0
-IsCutShort text old new before now = (k : ℕ) × (k < length text) × (new ≡ grown old (take k text)) × Rose before now
+-- the sink took less than the whole text, since it failed
+abbrev pub IsCutShort : List ℕ → OverSink → Type 0
+IsCutShort text sink = (k : ℕ) × (k < length text) × (sink.new ≡ grown sink.old (take k text)) × Rose sink.before sink.now
 
 -- what a decision writes, and the status that is answered: the whole text and its status, or a front of it and 6;
 -- the stop's line, or a front of it, and the stop's status
-abbrev pub Prints : Result Text Stop → ℕ → Option (List ℕ) → Option (List ℕ) → ℕ → ℕ → Type 0
-Prints (Ok o) status old new before now = ((status ≡ o.0) × (new ≡ grown old o.1)) ⊎ ((status ≡ 6) × IsCutShort o.1 old new before now)
-Prints (Err s) status old new before now = (status ≡ status_of s) × ((new ≡ grown old (line_of s)) ⊎ IsCutShort (line_of s) old new before now)
+abbrev pub Prints : Result Text Stop → ℕ → OverSink → Type 0
+Prints (Ok o) status sink = ((status ≡ o.0) × (sink.new ≡ grown sink.old o.1)) ⊎ ((status ≡ 6) × IsCutShort o.1 sink)
+Prints (Err s) status sink = (status ≡ status_of s) × ((sink.new ≡ grown sink.old (line_of s)) ⊎ IsCutShort (line_of s) sink)
 
--- the run ends as it should, or for want of memory with 7 and nothing written, or with 4 where the shelf failed
-abbrev pub EndsAs : Result Text Stop → ℕ → ℕ → ℕ → Option (List ℕ) → Option (List ℕ) → ℕ → ℕ → Type 0
-EndsAs ideal status read_before read_now old new before now =
-    Prints ideal status old new before now ⊎ ((status ≡ 7) × (new ≡ old)) ⊎ ((status ≡ 4) × Rose read_before read_now)
+-- the table of values of a text
+abbrev pub values_of : List ℕ → Values
+values_of table = table_of (table_records table)
+
+-- THE ANSWERS of a run are written: each query that isn't refused printed its SQL meaning over the whole table of values, each
+-- query that was lost its cause, each other statement its refusal; the status is 0 where each statement is answered, else 1
+pub record WritesOutput (r : Request) (files : List ℕ → Option (List ℕ)) (depot : OverDepot) (taken : List Taken) (status : ℕ) (sink : OverSink) : Type 0 where
+  pub table : List ℕ
+  pub table_is : text_in (table_source r.table) files ≡ Some table
+  pub batch : List ℕ
+  pub batch_is : text_in (batch_source r.batch) files ≡ Some batch
+  pub losses : List (Option Cause)
+  pub causes : AreCaused depot.old.held losses depot.old.faults depot.new.faults
+  pub text : List ℕ
+  pub output : IsOutput (values_of table).columns (values_of table).rows (statements_in batch) losses (totals_of r.summary taken (length (values_of table).rows)) status text
+  pub written : sink.new ≡ grown sink.old text
+
+-- the answers are written, and no query is lost but for want of memory
+pub record WritesAll (r : Request) (files : List ℕ → Option (List ℕ)) (depot : OverDepot) (taken : List Taken) (status : ℕ) (sink : OverSink) : Type 0 where
+  pub writes : WritesOutput r files depot taken status sink
+  pub lost : All OnlyForMemory writes.losses
+
+-- the first stop of a request over files, if there is one
+abbrev pub stop_over : Request → (List ℕ → Option (List ℕ)) → Option Stop
+stop_over r files = first_stop r (text_in (table_source r.table) files) (text_in (batch_source r.batch) files)
+
+-- this is a stop of the status
+abbrev pub HasStatus : ℕ → Option Stop → Type 0
+HasStatus status why = (s : Stop) × (why ≡ Some s) × (status_of s ≡ status)
+
+-- for want of memory the run ends with 7, and where the shelf failed with 4
+abbrev pub IsExcused : ℕ → OverShelf → Type 0
+IsExcused status shelf = (status ≡ 7) ⊎ ((status ≡ 4) × Rose shelf.before shelf.now)
+
+-- a run ends with this status exactly where its first stop has it, but for want of memory and where the shelf failed
+pub record ComesExactly (due : ℕ) (why : Option Stop) (status : ℕ) (shelf : OverShelf) : Type 0 where
+  pub only : status ≡ due → HasStatus due why
+  pub always : HasStatus due why → (status ≡ due) ⊎ IsExcused status shelf

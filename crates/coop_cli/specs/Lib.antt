@@ -1,5 +1,6 @@
-pub mod Decided
+pub mod Devices
+pub mod Tasks
+pub mod Losses
+pub mod Running
+pub mod Deciding
 pub mod Ending
-pub mod Names
-pub mod Statement
-pub mod Stops

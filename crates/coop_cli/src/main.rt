@@ -1,23 +1,29 @@
 //! `coop_cli TABLE BATCH`: answers a batch of statements over a table. docs/COMMAND_LINE.md is its manual.
-//! `run` is the whole program over any shelf and any sink, and carries the theorem; `main` hands it the
+//! `run` is the whole program over any shelf, depot and sink, and carries the theorem; `main` hands it the
 //! files of the system and standard output.
 #![tactic(auto)]
 
+ghost use Rattle.std.specs.Prelude.{◌≡◌, IfOk};
+ghost use Rattle.coop_outside.specs.Either.{any_gets};
+
+mod answering;
 mod decide;
-mod names;
+mod decision;
+mod ended;
 mod output;
-mod read;
+mod print;
 mod run;
-mod statement;
-mod stop;
+mod tasks;
 #[cfg(test)]
 mod tests;
 
-use coop_outside::{DiskShelf, StdoutSink, write_all};
+use command_words::scratch_of;
+use coop_outside::{AnyDepot, DiskShelf, MemDepot, ScratchDepot, StdoutSink, write_all};
 use run::run;
+use run_texts::Stop;
+use std::hash::RandomState;
 use std::process::ExitCode;
 use std::{env, io};
-use stop::Stop;
 
 // The words after the program's name.
 fn words_of(rt: &HostRuntime) -> io::Result<Vec<String>> {
@@ -37,16 +43,37 @@ fn stop_of(error: io::Error) -> Stop {
     }
 }
 
+// The depot that the words ask for: a file of this name, or memory.
+fn depot_of(rt: HostRuntime, words: &[String]) -> Result<AnyDepot<HostRuntime>, Stop>
+    ensures fresh { IfOk result (λ depot. any_gets depot ≡ 0) }
+{
+    let alloc = rt.alloc();
+    match scratch_of(alloc, words) {
+        Ok(Some(name)) => {
+            let name = String::from_str(alloc, name)?;
+            Ok(AnyDepot::Scratch(ScratchDepot::new(alloc, rt, name)))
+        }
+        Ok(None) => Ok(AnyDepot::Mem(MemDepot::new(alloc))),
+        Err(_) => Err(Stop::Memory),
+    }
+}
+
+// Runs the program over the devices of the system, and answers its status.
+fn run_on(rt: HostRuntime, out: &mut StdoutSink<HostRuntime>) -> Result<u8, Stop> {
+    let words = words_of(&rt).map_err(stop_of)?;
+    let keys = RandomState::new(&rt).map_err(stop_of)?;
+    let depot = depot_of(rt, &words)?;
+    let mut shelf = DiskShelf::new(rt);
+    let ended = run(rt.alloc(), keys, &words, &mut shelf, depot, out);
+    Ok(ended.status)
+}
+
 fn main(rt: HostRuntime) -> ExitCode {
     let mut out = StdoutSink::new(rt);
-    match words_of(&rt) {
-        Ok(words) => {
-            let mut shelf = DiskShelf::new(rt);
-            ExitCode::from(run(rt.alloc(), words.as_slice(), &mut shelf, &mut out))
-        }
-        Err(error) => {
-            let stop = stop_of(error);
-            let _ = write_all(&mut out, stop.line());
+    match run_on(rt, &mut out) {
+        Ok(status) => ExitCode::from(status),
+        Err(stop) => {
+            let _ = write_all(&mut out, stop.line().as_slice());
             ExitCode::from(stop.status())
         }
     }
