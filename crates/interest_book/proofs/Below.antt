@@ -3,7 +3,7 @@ use Rattle.std.proofs.Common.{◌≡◌, ◌≢◌, ◌<◌, ◌≤◌, ◌+◌,
 use Rattle.std.proofs.lemmas.Bool.{cases_Bool}
 use Rattle.std.proofs.lemmas.Bool.Decides.{nat_tests}
 use Rattle.scan_story.specs.Counting.{any_below, count_below, count_among, is_number}
-use Rattle.scan_story.proofs.Counts.{among_within, below_within}
+use Rattle.scan_story.proofs.Counts.{among_within}
 
 pub same_number : (a b : ℕ) → (a == b) ≡ true → a ≡ b
 same_number a b e = grind (arith, nat_tests)
@@ -68,9 +68,6 @@ any_below_more p n = rw add-one refl
 
 pub count_below_more : (p : ℕ → Bool) (n : ℕ) → count_below p (n + 1) ≡ (if p n then count_below p n + 1 else count_below p n)
 count_below_more p n = rw add-one refl
-
-pub count_below_within : (p : ℕ → Bool) (n : ℕ) → count_below p n ≤ n
-count_below_within p n = below_within p n
 
 pub count_among_cons : {X : Type 0} (p : X → Bool) (x : X) (xs : List X) → count_among p (x ∷ xs) ≡ (if p x then 1 else 0) + count_among p xs
 count_among_cons p x xs = at_head (p x)

@@ -338,9 +338,9 @@ frames_evict s w c h n fs new ps places bs ok k may chunk size frees leaves are 
         ]
 
 -- what a buffer has, by equations
-pub frames_kept : (s : Setting) (h : History) (b : Buffer) (n : ℕ) (ps bs : List (Option ℕ)) → b.groups ≡ n → b.places.items ≡ ps → b.begun.items ≡ bs → AreFrames s h n b.frames.items ps bs → AreFrames s h b.groups b.frames.items b.places.items b.begun.items
+pub frames_kept : (s : Setting) (h : History) (b : Buffer) (n : ℕ) (ps bs : List (Option ℕ)) → b.groups ≡ n → b.places.items ≡ ps → b.begun.items ≡ bs → AreFrames s h n b.frames ps bs → AreFrames s h b.groups b.frames b.places.items b.begun.items
 frames_kept s h b n ps bs groups places begun are =
-    let G : ℕ → Type 0 = λ x. AreFrames s h x b.frames.items b.places.items b.begun.items in
-    let P : List (Option ℕ) → Type 0 = λ x. AreFrames s h n b.frames.items x b.begun.items in
-    let B : List (Option ℕ) → Type 0 = λ x. AreFrames s h n b.frames.items ps x in
+    let G : ℕ → Type 0 = λ x. AreFrames s h x b.frames b.places.items b.begun.items in
+    let P : List (Option ℕ) → Type 0 = λ x. AreFrames s h n b.frames x b.begun.items in
+    let B : List (Option ℕ) → Type 0 = λ x. AreFrames s h n b.frames ps x in
     subst G (sym groups) (subst P (sym places) (subst B (sym begun) are))

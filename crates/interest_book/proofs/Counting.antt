@@ -1,5 +1,5 @@
 -- Members of rising lists are counted below a bound, and missing pieces by groups.
-use Rattle.std.proofs.Common.{◌≡◌, ◌≢◌, ◌<◌, ◌≤◌, ◌+◌, ◌*◌, ◌∷◌, [], ◌==◌, ◌&&◌, ◌||◌, not, ℕ, zero, suc, Bool, true, false, if◌then◌else◌, List, length, filter, map, Option, None, Some, is_some, refl, sym, ◌∙◌, ap, subst, arith, inl, inr}
+use Rattle.std.proofs.Common.{◌≡◌, ◌≢◌, ◌<◌, ◌≤◌, ◌+◌, ◌-◌, ◌*◌, ◌∷◌, [], ◌==◌, ◌&&◌, ◌||◌, not, ℕ, zero, suc, Bool, true, false, if◌then◌else◌, List, length, filter, map, Option, None, Some, is_some, refl, sym, ◌∙◌, ap, subst, arith, inl, inr}
 use Rattle.std.specs.List.{list_any, list_all, AllByRecursion}
 use Rattle.std.proofs.lemmas.Bool.{cases_Bool, cases_eq}
 use Rattle.scan_story.specs.declared.setting.Need.{Need}
@@ -9,10 +9,11 @@ use Rattle.scan_story.specs.Setting.{IsSetting, IsRising, need_of, chunks_in, as
 use Rattle.scan_story.specs.Views.{History, piece_in, is_framed, is_wholly_framed, needs_chunk, is_stopped, is_ended, delivers}
 use Rattle.scan_story.specs.Numbers.{missing_for, cached}
 use Rattle.table_core.specs.Sets.{Rising, AreMembers}
-use Rattle.interest_book.specs.Counts.{size_of}
+use Rattle.interest_book.specs.Counted.{size_of, IsCounted}
 use Rattle.interest_book.specs.declared.frame.Frame.{Frame}
 use Rattle.interest_book.specs.Frames.{place_at, IsPlace, missing_in, cached_in}
 use Rattle.interest_book.specs.Buffers.{AreFrames}
+use Rattle.scan_story.proofs.Counts.{below_within}
 use Rattle.interest_book.proofs.Below.{count_same, any_at, any_same, found, is_the_number, equal_number, other_number, same_number, true_false}
 use Rattle.interest_book.proofs.Needs.{groups_rise, is_need}
 use Rattle.interest_book.proofs.Buffering.{at_small_chunk}
@@ -39,6 +40,18 @@ count_add p q (suc n) x lt same out = elim (cases_eq n x) [
     swap true false k = refl
     swap false true k = refl
     swap false false k = refl
+
+-- what passes counts
+pub counted_one : (p : ℕ → Bool) (n x : ℕ) → x < n → p x ≡ true → 1 ≤ count_below p n
+counted_one p zero x lt e = absurd (omega (arith, lt))
+counted_one p (suc n) x lt e = elim (cases_eq n x) [
+  | inl at ↦ (let here : p n ≡ true = ap p at ∙ e in subst (λ (b : Bool). 1 ≤ (if b then count_below p n + 1 else count_below p n)) (sym here) (omega arith))
+  | inr ne ↦ (let rest = counted_one p n x (omega (arith, lt, ne)) e in wider (p n) rest)
+]
+  where
+    wider : (b : Bool) → 1 ≤ count_below p n → 1 ≤ (if b then count_below p n + 1 else count_below p n)
+    wider true k = omega (arith, k)
+    wider false k = k
 
 -- none passes from m on
 pub count_cut : (p : ℕ → Bool) (m n : ℕ) → m ≤ n → ((k : ℕ) → m ≤ k → p k ≡ false) → count_below p n ≡ count_below p m
@@ -79,7 +92,7 @@ count_passing t n (x ∷ xs) rise below base =
     longer false y ys = refl
 
 -- a rising list is as long as it has members below its bound
-above_start : (start : ℕ) (xs : List ℕ) (end x : ℕ) → Rising start xs end → x < start → has xs x ≡ false
+pub above_start : (start : ℕ) (xs : List ℕ) (end x : ℕ) → Rising start xs end → x < start → has xs x ≡ false
 above_start start [] end x rise lt = refl
 above_start start (y ∷ xs) end x rise lt = let low = rise.0 in rw (other_number y x (λ e. omega (arith, low, lt, e))) (above_start (y + 1) xs end x rise.1 (omega (arith, low, lt)))
 
@@ -105,6 +118,86 @@ count_members start (x ∷ xs) n rise =
 pub members_size : (xs : List ℕ) → AreMembers 1024 xs → length xs ≡ size_of xs
 unfolding size_of
 members_size xs rise = count_members 0 xs 1024 rise
+
+-- a set with one chunk more, and with one less
+pub size_more : (xs ys : List ℕ) (c : ℕ) → c < 1024 → has xs c ≡ false → ((x : ℕ) → has ys x ≡ (has xs x || x == c)) → size_of ys ≡ size_of xs + 1
+unfolding size_of
+size_more xs ys c lt out with_c =
+    let here : has ys c ≡ true = with_c c ∙ last_or (has xs c) (c == c) (equal_number c c refl) in
+    let more = count_add (has ys) (has xs) 1024 c lt (λ k ne. with_c k ∙ first_or (has xs k) (k == c) (other_number k c ne)) out in
+    more ∙ ap (λ (b : Bool). if b then count_below (has xs) 1024 + 1 else count_below (has xs) 1024) here
+  where
+    last_or : (a b : Bool) → b ≡ true → (a || b) ≡ true
+    last_or true b e = refl
+    last_or false b e = e
+
+    first_or : (a b : Bool) → b ≡ false → (a || b) ≡ a
+    first_or true b e = refl
+    first_or false b e = e
+
+pub size_less : (xs ys : List ℕ) (c : ℕ) → c < 1024 → has xs c ≡ true → ((x : ℕ) → has ys x ≡ (has xs x && not (x == c))) → size_of xs ≡ size_of ys + 1
+unfolding size_of
+size_less xs ys c lt there without_c =
+    let out : has ys c ≡ false = without_c c ∙ last_and (has xs c) (c == c) (equal_number c c refl) in
+    let less = count_add (has xs) (has ys) 1024 c lt (λ k ne. sym (without_c k ∙ first_and (has xs k) (k == c) (other_number k c ne))) out in
+    less ∙ ap (λ (b : Bool). if b then count_below (has ys) 1024 + 1 else count_below (has ys) 1024) there
+  where
+    last_and : (a b : Bool) → b ≡ true → (a && not b) ≡ false
+    last_and true true e = refl
+    last_and true false e = absurd (true_false false e refl)
+    last_and false b e = refl
+
+    first_and : (a b : Bool) → b ≡ false → (a && not b) ≡ a
+    first_and true true e = absurd (true_false true refl e)
+    first_and true false e = refl
+    first_and false b e = refl
+
+-- members are below the bound
+risen_within : (start n x : ℕ) (xs : List ℕ) → Rising start xs n → has xs x ≡ true → x < n
+risen_within start n x [] rise e = absurd (true_false false e refl)
+risen_within start n x (y ∷ xs) rise e = elim (cases_Bool (y == x)) [
+  | inl so ↦ (let same = same_number y x so in let end = ends_above (y + 1) xs n rise.1 in omega (arith, same, end))
+  | inr ne ↦ risen_within (y + 1) n x xs rise.1 (rw ne at e)
+]
+
+pub members_within : (xs : List ℕ) (x : ℕ) → AreMembers 1024 xs → has xs x ≡ true → x < 1024
+members_within xs x rise e = risen_within 0 1024 x xs rise e
+
+pub few_members : (xs : List ℕ) → size_of xs ≤ 1024
+unfolding size_of
+few_members xs = below_within (has xs) 1024
+
+-- a member counts
+pub some_members : (xs : List ℕ) (c : ℕ) → c < 1024 → has xs c ≡ true → 1 ≤ size_of xs
+unfolding size_of
+some_members xs c lt there = counted_one (has xs) 1024 c lt there
+
+pub counted_none : (xs : List ℕ) → xs ≡ [] → IsCounted xs 0
+unfolding size_of
+counted_none xs e = record {
+  size = sym (ap (λ (ys : List ℕ). count_below (has ys) 1024) e ∙ count_cut (λ g. false) 0 1024 (omega arith) (λ k le. refl));
+  within = λ x t. absurd (true_false (has xs x) t (ap (λ (ys : List ℕ). has ys x) e));
+}
+
+pub counted_more : (xs ys : List ℕ) (n c : ℕ) → c < 1024 → has xs c ≡ false → ((x : ℕ) → has ys x ≡ (has xs x || x == c)) → IsCounted xs n → IsCounted ys (n + 1)
+counted_more xs ys n c lt out with_c is = record {
+  size = ap (λ (k : ℕ). k + 1) is.size ∙ sym (size_more xs ys c lt out with_c);
+  within = λ x t. by_or (has xs x) (x == c) (is.within x) (λ e. subst (λ (k : ℕ). k < 1024) (sym (same_number x c e)) lt) (sym (with_c x) ∙ t);
+}
+  where
+    by_or : {R : Type 0} (a b : Bool) → (a ≡ true → R) → (b ≡ true → R) → (a || b) ≡ true → R
+    by_or true b f g e = f refl
+    by_or false b f g e = g e
+
+pub counted_less : (xs ys : List ℕ) (n c : ℕ) → c < 1024 → has xs c ≡ true → ((x : ℕ) → has ys x ≡ (has xs x && not (x == c))) → IsCounted xs n → IsCounted ys (n - 1)
+counted_less xs ys n c lt there without_c is = record {
+  size = (let less = size_less xs ys c lt there without_c in omega (arith, less, is.size));
+  within = λ x t. is.within x (first (has xs x) (not (x == c)) (sym (without_c x) ∙ t));
+}
+  where
+    first : (a b : Bool) → (a && b) ≡ true → a ≡ true
+    first true b e = refl
+    first false b e = e
 
 -- Pieces
 

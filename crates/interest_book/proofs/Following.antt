@@ -3,13 +3,12 @@ use Rattle.std.proofs.Common.{◌≡◌, ◌≢◌, ◌<◌, ◌+◌, ◌-◌, �
 use Rattle.std.specs.Option.{option_map}
 use Rattle.std.proofs.lemmas.Bool.{cases_eq}
 use Rattle.std.proofs.lemmas.Bool.Decides.{nat_tests}
-use Rattle.std.proofs.lemmas.List.{get_or-set_same, get_or-set_other, get_or_default, length-set}
+use Rattle.std.proofs.lemmas.List.{get_or-set_same, get_or-set_other, length-set}
 use Rattle.scan_story.specs.declared.entry.Entry.{Entry}
 use Rattle.scan_story.specs.declared.entry.Why.{Why}
 use Rattle.scan_story.specs.declared.entry.Entry.TheVariants.{Register, Plan, Evict, Fill, Filled, Failed, Deliver, Release, Stop, End}
 use Rattle.scan_story.specs.declared.setting.Setting.{Setting}
 use Rattle.std.specs.List.{list_all}
-use Rattle.scan_story.specs.Counting.{has}
 use Rattle.scan_story.specs.Setting.{pieces_read}
 use Rattle.scan_story.specs.Views.{History, needs_chunk, piece_in, is_framed, is_wholly_framed}
 use Rattle.interest_book.specs.declared.client.Client.{Client}
@@ -72,25 +71,6 @@ ready_on s e h q k spares same is = λ c.
 pub all_ready_on : (s : Setting) (e : Entry) (h : History) (ks : List Client) → ((q : ℕ) → Spares q e) → ((f : ℕ) → piece_in s (e ∷ h) f ≡ piece_in s h f) → AreReady s h ks → AreReady s (e ∷ h) ks
 all_ready_on s e h ks spares same are = λ q lt. ready_on s e h q (get_or ks q vacant) (spares q) same (are q lt)
 
-pub all_ready_set : (s : Setting) (e : Entry) (h : History) (ks : List Client) (q : ℕ) (k : Client) → q < length ks → ((r : ℕ) → r ≢ q → Spares r e) → ((f : ℕ) → piece_in s (e ∷ h) f ≡ piece_in s h f)
-    → AreReady s h ks → IsReady s (e ∷ h) q k → AreReady s (e ∷ h) (set ks q k)
-all_ready_set s e h ks q k there spares same are is = λ r lt.
-    (let inside : r < length ks = omega (arith, length-set ks q k, lt) in
-    elim (cases_eq r q) [
-      | inl at ↦ subst (λ (r : ℕ). IsReady s (e ∷ h) r (get_or (set ks q k) r vacant)) (sym at) (subst (IsReady s (e ∷ h) q) (sym (get_or-set_same ks q k vacant there)) is)
-      | inr other ↦ subst (IsReady s (e ∷ h) r) (sym (get_or-set_other ks q r k vacant other)) (ready_on s e h r (get_or ks r vacant) (spares r other) same (are r inside))
-    ])
-
-pub ready_read : (s : Setting) (h : History) (ks : List Client) (q : ℕ) (d : Client) → q < length ks → AreReady s h ks → IsReady s h q (get_or ks q d)
-ready_read s h ks q d there are = subst (IsReady s h q) (get_or_default ks q vacant d there) (are q there)
-
--- a query that needs what it needed has available what it had, where no frame changed
-pub ready_stays : (s : Setting) (e : Entry) (h : History) (q : ℕ) (old new : Client) → ((c : ℕ) → needs_chunk s (e ∷ h) q c ≡ needs_chunk s h q c) → ((f : ℕ) → piece_in s (e ∷ h) f ≡ piece_in s h f)
-    → new.available ≡ old.available → IsReady s h q old → IsReady s (e ∷ h) q new
-ready_stays s e h q old new needs same kept is = λ c.
-    ap (λ (xs : List ℕ). has xs c) kept ∙ (is c
-    ∙ sym (ap (λ (b : Bool). b && is_wholly_framed s (e ∷ h) q c) (needs c) ∙ ap (λ (b : Bool). needs_chunk s h q c && b) (framed_same s e h (pieces_read s q c) same)))
-
 -- which entries spare which queries
 differ : (q r : ℕ) → r ≢ q → (q == r) ≡ false
 differ q r ne = grind (arith, nat_tests)
@@ -116,10 +96,6 @@ spares_stop w q r ne = record { registers = refl; stops = differ q r ne; ends = 
 
 pub spares_end : (w q r : ℕ) → r ≢ q → Spares r (End w q)
 spares_end w q r ne = record { registers = refl; stops = refl; ends = differ q r ne; delivers = λ c. refl; begins_wait = refl }
-
--- the client that was read
-pub client_read : (s : Setting) (h : History) (ks : List Client) (q : ℕ) (d : Client) → q < length ks → AreClients s h ks → IsClient s h q (get_or ks q d)
-client_read s h ks q d there are = subst (IsClient s h q) (get_or_default ks q vacant d there) (are q there)
 
 -- the other kinds spare each query
 pub spares_plan : (w q c r : ℕ) → Spares r (Plan w q c)

@@ -1,15 +1,16 @@
 -- The numbers of an entry that may follow are within the book.
-use Rattle.std.proofs.Common.{◌≡◌, ◌<◌, ◌≤◌, ◌-◌, ◌/◌, ◌^◌, ◌∷◌, ◌&&◌, ℕ, Bool, true, false, nat_lt, length, refl, sym, ◌∙◌, ap, subst, arith}
+use Rattle.std.proofs.Common.{◌≡◌, ◌<◌, ◌≤◌, ◌-◌, ◌/◌, ◌^◌, ◌∷◌, ◌&&◌, ℕ, Bool, true, false, is_some, nat_lt, length, refl, sym, ◌∙◌, ap, subst, arith}
 use Rattle.std.proofs.lemmas.Bool.Decides.{nat_tests}
 use Rattle.scan_story.specs.declared.entry.Entry.{Entry}
 use Rattle.scan_story.specs.declared.entry.Why.{Why}
 use Rattle.scan_story.specs.declared.entry.Entry.TheVariants.{Register, Plan, Evict, Fill, Filled, Failed, Deliver, Release, Stop, End}
 use Rattle.scan_story.specs.declared.setting.Setting.{Setting}
+use Rattle.scan_story.specs.Setting.{need_of}
 use Rattle.scan_story.specs.Views.{History, is_available}
 use Rattle.scan_story.specs.MayFollow.{Allowed, is_ready}
 use Rattle.interest_book.specs.declared.book.Book.{Book}
 use Rattle.interest_book.specs.Stands.{Stands, MayFollow}
-use Rattle.interest_book.proofs.Needs.{worker_within}
+use Rattle.interest_book.proofs.Needs.{worker_within, has_need, need_small}
 use Rattle.interest_book.proofs.Kept.{Keeps, keeps, target_inside, victim_inside, active_registered, starved_active}
 
 few : (b : Book) (s : Setting) (h : History) → Stands b s h → length h < 2 ^ 63 - 1 → b.noted < 2 ^ 63 - 1
@@ -21,12 +22,15 @@ small b s h c st lt = let most = st.setting.chunks in omega (arith, lt, most)
 kept : (b : Book) (s : Setting) (h : History) → Stands b s h → Keeps s h
 kept b s h st = keeps s h st.setting st.followed
 
-pub register_inside : (b : Book) (w q : ℕ) → MayFollow b (Register w q) → (q ≤ 256) × (b.noted < 2 ^ 63 - 1)
-register_inside b w q m = ((worker_within m.setting q w m.stands.setting m.allowed.on).1, few b m.setting m.history m.stands m.short)
+pub register_inside : (b : Book) (w q : ℕ) → MayFollow b (Register w q) → (1 ≤ q) × (q ≤ 256) × (b.noted < 2 ^ 63 - 1)
+register_inside b w q m =
+    let n = has_need (need_of m.setting q) w m.allowed.on in
+    let small = need_small m.setting q m.stands.setting (ap is_some n.1) in
+    (small.0, small.1, few b m.setting m.history m.stands m.short)
 
 pub plan_inside : (b : Book) (w q c : ℕ) → MayFollow b (Plan w q c) → (q ≤ 256) × (c < 1024) × (b.noted < 2 ^ 63 - 1)
 plan_inside b w q c m = (
-  (kept b m.setting m.history m.stands).registered q (active_registered m.history q (starved_active m.setting m.history q m.allowed.starved)),
+  (need_small m.setting q m.stands.setting ((kept b m.setting m.history m.stands).registered q (active_registered m.history q (starved_active m.setting m.history q m.allowed.starved)))).1,
   small b m.setting m.history c m.stands (target_inside m.setting m.history q c m.allowed.target),
   few b m.setting m.history m.stands m.short,
 )
@@ -34,10 +38,10 @@ plan_inside b w q c m = (
 pub evict_inside : (b : Book) (w c : ℕ) → MayFollow b (Evict w c) → (c < 1024) × (b.noted < 2 ^ 63 - 1)
 evict_inside b w c m = (small b m.setting m.history c m.stands (victim_inside m.setting m.history c m.allowed.victim), few b m.setting m.history m.stands m.short)
 
-pub fill_inside : (b : Book) (w f p : ℕ) → MayFollow b (Fill w f p) → (f < length b.buffer.frames.items) × (b.noted < 2 ^ 63 - 1)
+pub fill_inside : (b : Book) (w f p : ℕ) → MayFollow b (Fill w f p) → (f < length b.buffer.frames) × (b.noted < 2 ^ 63 - 1)
 fill_inside b w f p m = (subst (λ (n : ℕ). f < n) (sym m.stands.buffer.frames) m.allowed.frame, few b m.setting m.history m.stands m.short)
 
-pub filled_inside : (b : Book) (w f p : ℕ) → MayFollow b (Filled w f p) → (f < length b.buffer.frames.items) × (p / b.buffer.groups < 1024) × (b.noted < 2 ^ 63 - 1)
+pub filled_inside : (b : Book) (w f p : ℕ) → MayFollow b (Filled w f p) → (f < length b.buffer.frames) × (p / b.buffer.groups < 1024) × (b.noted < 2 ^ 63 - 1)
 filled_inside b w f p m =
     let load = (kept b m.setting m.history m.stands).load m.allowed.load m.allowed.is_load.underway in
     let fill = load.fills f p m.allowed.begun in

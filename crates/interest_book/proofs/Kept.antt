@@ -1,5 +1,5 @@
 -- What every history keeps in which each entry may follow those before it.
-use Rattle.std.proofs.Common.{◌≡◌, ◌<◌, ◌≤◌, ◌∷◌, [], ◌==◌, ◌&&◌, ◌||◌, not, ℕ, Bool, true, false, if◌then◌else◌, List, Option, None, Some, is_none, nat_lt, refl, sym, ◌∙◌, ap, subst, arith, inl, inr}
+use Rattle.std.proofs.Common.{◌≡◌, ◌<◌, ◌≤◌, ◌∷◌, [], ◌==◌, ◌&&◌, ◌||◌, not, ℕ, Bool, true, false, if◌then◌else◌, List, Option, None, Some, is_none, is_some, nat_lt, refl, sym, ◌∙◌, ap, subst, arith, inl, inr}
 use Rattle.std.specs.List.{list_any}
 use Rattle.std.specs.Option.{option_map}
 use Rattle.std.proofs.lemmas.Bool.{cases_Bool}
@@ -11,14 +11,14 @@ use Rattle.scan_story.specs.declared.view.Hold.{Hold}
 use Rattle.scan_story.specs.declared.setting.Setting.{Setting}
 use Rattle.scan_story.specs.declared.entry.Why.{Why}
 use Rattle.scan_story.specs.Counting.{has, is_number}
-use Rattle.scan_story.specs.Setting.{IsSetting, chunk_of}
+use Rattle.scan_story.specs.Setting.{IsSetting, need_of, chunk_of}
 use Rattle.scan_story.specs.Views.{History, is_registered, is_stopped, is_ended, is_active, needs_chunk, held_by, is_held, piece_in, kept_from, is_framed, is_wholly_framed}
 use Rattle.scan_story.specs.Loads.{underway, missing_pieces, begin_fill, end_fill, is_open, if_open, begins_in, fills_frame, is_load_of}
 use Rattle.scan_story.specs.Numbers.{available, is_starved, cached}
 use Rattle.scan_story.specs.MayFollow.{Allowed, MayRegister, MayPlan, MayFill, MayFilled, MayDeliver, is_target, is_victim, feeds_starved}
 use Rattle.interest_book.specs.Follows.{AllMayFollow}
 use Rattle.interest_book.proofs.Below.{none_at, none_from, any_same, is_the_number, same_number, equal_number, same_some, none_some, true_false, either}
-use Rattle.interest_book.proofs.Needs.{worker_within, missing_apart, missing_of, NoneTwice}
+use Rattle.interest_book.proofs.Needs.{worker_within, has_need, need_small, missing_apart, missing_of, NoneTwice}
 
 -- a fill that the load began
 pub record IsFill (s : Setting) (h : History) (l : Load) (f p : ℕ) : Type 0 where
@@ -36,7 +36,7 @@ pub record IsKeptLoad (s : Setting) (h : History) (l : Load) : Type 0 where
   pub fills : (f p : ℕ) → begins_in l f p ≡ true → IsFill s h l f p
 
 pub record Keeps (s : Setting) (h : History) : Type 0 where
-  pub registered : (q : ℕ) → is_registered h q ≡ true → q ≤ 256
+  pub registered : (q : ℕ) → is_registered h q ≡ true → is_some (need_of s q) ≡ true
   pub holds : (w : ℕ) (o : Hold) → held_by h w ≡ Some o → (w < 32) × (o.query ≤ 256)
   pub apart : (f g p : ℕ) → f < s.frames → g < s.frames → piece_in s h f ≡ Some p → piece_in s h g ≡ Some p → f ≡ g
   pub within : (f p : ℕ) → piece_in s h f ≡ Some p → chunk_of s p < s.chunks
@@ -59,7 +59,7 @@ load_stays s e h l same k = record {
 }
 
 keeps_on : (s : Setting) (e : Entry) (h : History) → ((f : ℕ) → piece_in s (e ∷ h) f ≡ piece_in s h f) → underway s (e ∷ h) ≡ underway s h
-    → ((q : ℕ) → is_registered (e ∷ h) q ≡ true → q ≤ 256) → ((w : ℕ) (o : Hold) → held_by (e ∷ h) w ≡ Some o → (w < 32) × (o.query ≤ 256)) → Keeps s h → Keeps s (e ∷ h)
+    → ((q : ℕ) → is_registered (e ∷ h) q ≡ true → is_some (need_of s q) ≡ true) → ((w : ℕ) (o : Hold) → held_by (e ∷ h) w ≡ Some o → (w < 32) × (o.query ≤ 256)) → Keeps s h → Keeps s (e ∷ h)
 keeps_on s e h same load registered holds k = record {
   registered = registered;
   holds = holds;
@@ -78,7 +78,7 @@ or_registered false old e f = e
 keeps_register : (s : Setting) (h : History) (w q : ℕ) → IsSetting s → MayRegister s h w q → Keeps s h → Keeps s (Register w q ∷ h)
 keeps_register s h w q ok may k =
     keeps_on s (Register w q) h (λ f. refl) refl (λ r e. elim (cases_Bool (q == r)) [
-      | inl so ↦ subst (λ (x : ℕ). x ≤ 256) (same_number q r so) (worker_within s q w ok may.on).1
+      | inl so ↦ subst (λ (x : ℕ). is_some (need_of s x) ≡ true) (same_number q r so) (ap is_some (has_need (need_of s q) w may.on).1)
       | inr ne ↦ k.registered r (or_registered (q == r) (is_registered h r) e ne)
     ]) k.holds k
 
@@ -88,7 +88,7 @@ plan_first : (a b c : Bool) → (a && b && c) ≡ true → a ≡ true
 plan_first true b c e = refl
 plan_first false b c e = e
 
-and_first : (a b : Bool) → (a && b) ≡ true → a ≡ true
+pub and_first : (a b : Bool) → (a && b) ≡ true → a ≡ true
 and_first true b e = refl
 and_first false b e = e
 
@@ -110,7 +110,7 @@ planned s h w q c = record { worker = w; query = q; chunk = c; missing = missing
 planned_kept : (s : Setting) (h : History) (w q c : ℕ) → IsSetting s → MayPlan s h w q c → Keeps s h → IsKeptLoad s (Plan w q c ∷ h) (planned s h w q c)
 planned_kept s h w q c ok may k = record {
   chunk = target_inside s h q c may.target;
-  query = k.registered q (active_registered h q (starved_active s h q may.starved));
+  query = (need_small s q ok (k.registered q (active_registered h q (starved_active s h q may.starved)))).1;
   apart = missing_apart s h q c ok;
   of_chunk = λ p m. (missing_of s h q c p ok m).0;
   unframed = λ p m n. (missing_of s h q c p ok m).1;

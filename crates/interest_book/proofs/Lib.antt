@@ -10,3 +10,5 @@ pub mod Holding
 pub mod Inside
 pub mod Shown
 pub mod Beginning
+pub mod Tallying
+pub mod Named

@@ -1,5 +1,5 @@
 -- Needs and the pieces that queries read.
-use Rattle.std.proofs.Common.{◌≡◌, ◌≢◌, ◌<◌, ◌≤◌, ◌+◌, ◌*◌, ◌∷◌, [], ◌==◌, not, ℕ, Bool, true, false, if◌then◌else◌, List, filter, map, find, Option, None, Some, refl, sym, ◌∙◌, ap, subst, arith, inl, inr}
+use Rattle.std.proofs.Common.{◌≡◌, ◌≢◌, ◌<◌, ◌≤◌, ◌+◌, ◌*◌, ◌∷◌, [], ◌==◌, not, ℕ, Bool, true, false, if◌then◌else◌, List, filter, map, find, Option, None, Some, is_some, refl, sym, ◌∙◌, ap, subst, arith, inl, inr}
 use Rattle.std.specs.List.{AllByRecursion}
 use Rattle.std.proofs.lemmas.Bool.{cases_Bool}
 use Rattle.std.proofs.lemmas.Nat.{div-mul-add}
@@ -36,6 +36,14 @@ worker_within s q w ok e =
     let small = i.0.query.1 in
     let few = ok.workers.1 in
     (omega (arith, below, few, n.2), omega (arith, small, i.1))
+
+-- the queries of needs have the numbers 1 to 256
+pub need_small : (s : Setting) (q : ℕ) → IsSetting s → is_some (need_of s q) ≡ true → (1 ≤ q) × (q ≤ 256)
+need_small s q ok e = of_need (need_of s q) (λ n there. is_need s q n ok there) e
+  where
+    of_need : (o : Option Need) → ((n : Need) → o ≡ Some n → IsNeed s n × (n.query ≡ q)) → is_some o ≡ true → (1 ≤ q) × (q ≤ 256)
+    of_need None is some = absurd (true_false false some refl)
+    of_need (Some n) is some = let i = is n refl in let low = i.0.query.0 in let high = i.0.query.1 in (omega (arith, low, i.1), omega (arith, high, i.1))
 
 -- Groups
 

@@ -7,7 +7,7 @@ use Rattle.scan_story.specs.declared.view.Phase.TheVariants.{Waiting, Active, En
 use Rattle.scan_story.specs.declared.setting.Need as asked
 use Rattle.scan_story.specs.declared.setting.Setting.{Setting}
 use Rattle.scan_story.specs.Counting.{has, count_among, count_below, any_below}
-use Rattle.scan_story.specs.Setting.{IsSetting, IsNeed, need_of, worker_of, shares}
+use Rattle.scan_story.specs.Setting.{IsSetting, IsNeed, need_of, worker_of, columns_in, groups_read, reads_group, shares}
 use Rattle.scan_story.specs.Views.{History, is_registered, is_stopped, is_ended, is_active, needs_chunk, is_wholly_framed, is_available, held_by, is_hold_of, is_held}
 use Rattle.scan_story.specs.Numbers.{needed, available, is_starved, since_wait, is_hold_for, holds_by, holds_for, waiting, running, interested, starved_interested, close, overlap, starved_overlap}
 use Rattle.scan_story.specs.declared.view.Load.{Load}
@@ -18,29 +18,31 @@ use Rattle.interest_book.specs.declared.need.Need.{Need}
 use Rattle.interest_book.specs.declared.client.Client.{Client}
 use Rattle.interest_book.specs.declared.book.Book.{Book}
 use Rattle.interest_book.specs.Clients.{IsClient, IsReady, client_at, is_active_phase}
-use Rattle.interest_book.specs.Counts.{is_active_in, needs_in, is_available_in, size_of, needed_in, available_in, is_starved_in, shares_in, is_interested_in, is_starved_for, is_close_in, overlaps_in, starved_overlaps_in, feeds_in, count_queries, is_target_in, is_ready_in}
+use Rattle.interest_book.specs.Counted.{size_of}
+use Rattle.interest_book.specs.Counts.{is_active_in, needs_in, is_available_in, needed_in, available_in, is_starved_in, shares_in, is_interested_in, is_starved_for, is_close_in, overlaps_in, starved_overlaps_in, feeds_in, count_queries, is_target_in, is_ready_in}
 use Rattle.interest_book.specs.Fresh.{as_need}
 use Rattle.interest_book.specs.Stands.{Stands}
 use Rattle.interest_book.specs.Held.{hold_for}
-use Rattle.interest_book.proofs.Below.{any_same, count_same, true_false}
+use Rattle.interest_book.proofs.Below.{any_same, count_same, equal_number, true_false}
 use Rattle.scan_story.specs.Setting.{piece_at}
 use Rattle.scan_story.specs.Views.{piece_in, is_framed}
-use Rattle.scan_story.specs.Loads.{underway, fills_frame, is_free, free_frames, is_load_of}
+use Rattle.scan_story.specs.Loads.{underway, fills_frame, is_free, free_frames}
 use Rattle.scan_story.specs.Numbers.{missing, cached}
-use Rattle.scan_story.proofs.Counts.{below_all}
+use Rattle.scan_story.proofs.Counts.{among_same, below_all}
 use Rattle.std.proofs.lemmas.List.{get_or_past}
 use Rattle.interest_book.specs.declared.frame.Frame.TheVariants.{Free}
-use Rattle.interest_book.specs.Frames.{frame_at, frame_with, is_free_frame, free_in, held_piece, loading_of, loaded_in}
-use Rattle.interest_book.proofs.Kept.{keeps}
+use Rattle.interest_book.specs.Frames.{frame_at, frame_with, is_free_frame, free_in, held_piece, loading_of}
+use Rattle.interest_book.proofs.Kept.{keeps, active_registered, starved_active, and_first}
+use Rattle.interest_book.proofs.Named.{is_named, named_count, some_among, none_among}
 use Rattle.interest_book.proofs.Needs.{worker_within, is_need}
 use Rattle.interest_book.proofs.Counting.{count_cut, needed_inside, shares_is}
 
 -- Queries
 
-pub client_is : (b : Book) (s : Setting) (h : History) (q : ℕ) → Stands b s h → q ≤ 256 → IsClient s h q (client_at b.clients.items q)
+pub client_is : (b : Book) (s : Setting) (h : History) (q : ℕ) → Stands b s h → q ≤ 256 → IsClient s h q (client_at b.clients q)
 client_is b s h q st lt = st.clients q (omega (arith, lt, b.parts.clients))
 
-pub ready_is : (b : Book) (s : Setting) (h : History) (q : ℕ) → Stands b s h → q ≤ 256 → IsReady s h q (client_at b.clients.items q)
+pub ready_is : (b : Book) (s : Setting) (h : History) (q : ℕ) → Stands b s h → q ≤ 256 → IsReady s h q (client_at b.clients q)
 ready_is b s h q st lt = st.ready q (omega (arith, lt, b.parts.clients))
 
 active_tests : (a b r : Bool) → is_active_phase (if a then Stopped else (if b then Ended else (if r then Active else Waiting))) ≡ (r && not a && not b)
@@ -53,10 +55,10 @@ active_tests false true false = refl
 active_tests false false true = refl
 active_tests false false false = refl
 
-pub active_is : (b : Book) (s : Setting) (h : History) (q : ℕ) → Stands b s h → q ≤ 256 → is_active_in b.clients.items q ≡ is_active h q
+pub active_is : (b : Book) (s : Setting) (h : History) (q : ℕ) → Stands b s h → q ≤ 256 → is_active_in b.clients q ≡ is_active h q
 active_is b s h q st lt = ap is_active_phase (client_is b s h q st lt).phase ∙ active_tests (is_stopped h q) (is_ended h q) (is_registered h q)
 
-pub needs_is : (b : Book) (s : Setting) (h : History) (q c : ℕ) → Stands b s h → q ≤ 256 → needs_in b.clients.items q c ≡ needs_chunk s h q c
+pub needs_is : (b : Book) (s : Setting) (h : History) (q c : ℕ) → Stands b s h → q ≤ 256 → needs_in b.clients q c ≡ needs_chunk s h q c
 needs_is b s h q c st lt = (client_is b s h q st lt).remaining c
 
 -- how many members a set has that has what passes, where only chunks pass
@@ -70,22 +72,28 @@ unneeded s h q c ok le = elim (cases_Bool (needs_chunk s h q c)) [
   | inr not ↦ not
 ]
 
-pub needed_is : (b : Book) (s : Setting) (h : History) (q : ℕ) → Stands b s h → q ≤ 256 → needed_in b.clients.items q ≡ needed s h q
-needed_is b s h q st lt = set_size (client_at b.clients.items q).remaining (needs_chunk s h q) s.chunks st.setting.chunks (λ c. needs_is b s h q c st lt) (λ c le. unneeded s h q c st.setting le)
+pub needed_is : (b : Book) (s : Setting) (h : History) (q : ℕ) → Stands b s h → q ≤ 256 → needed_in b.clients q ≡ needed s h q
+needed_is b s h q st lt = set_size (client_at b.clients q).remaining (needs_chunk s h q) s.chunks st.setting.chunks (λ c. needs_is b s h q c st lt) (λ c le. unneeded s h q c st.setting le)
 
 first_out : (a b : Bool) → a ≡ false → (a && b) ≡ false
 first_out false b e = refl
 first_out true b e = absurd (true_false true refl e)
 
-pub available_is : (b : Book) (s : Setting) (h : History) (q : ℕ) → Stands b s h → q ≤ 256 → available_in b.clients.items q ≡ available s h q
-available_is b s h q st lt = set_size (client_at b.clients.items q).available (is_available s h q) s.chunks st.setting.chunks (ready_is b s h q st lt)
+beyond : (b : Book) (s : Setting) (h : History) (q c : ℕ) → Stands b s h → b.chunks ≤ c → needs_chunk s h q c ≡ false
+beyond b s h q c st out = unneeded s h q c st.setting (subst (λ (n : ℕ). n ≤ c) st.chunks out)
+
+unavailable : (b : Book) (s : Setting) (h : History) (q c : ℕ) → Stands b s h → b.chunks ≤ c → is_available s h q c ≡ false
+unavailable b s h q c st out = first_out (needs_chunk s h q c) (is_wholly_framed s h q c) (beyond b s h q c st out)
+
+pub available_is : (b : Book) (s : Setting) (h : History) (q : ℕ) → Stands b s h → q ≤ 256 → available_in b.clients q ≡ available s h q
+available_is b s h q st lt = set_size (client_at b.clients q).available (is_available s h q) s.chunks st.setting.chunks (ready_is b s h q st lt)
     (λ c le. first_out (needs_chunk s h q c) (is_wholly_framed s h q c) (unneeded s h q c st.setting le))
 
-pub starved_is : (b : Book) (s : Setting) (h : History) (q : ℕ) → Stands b s h → q ≤ 256 → is_starved_in b.clients.items q ≡ is_starved s h q
-starved_is b s h q st lt = ap (λ (x : Bool). x && nat_lt (available_in b.clients.items q) 2) (active_is b s h q st lt) ∙ ap (λ (n : ℕ). is_active h q && nat_lt n 2) (available_is b s h q st lt)
+pub starved_is : (b : Book) (s : Setting) (h : History) (q : ℕ) → Stands b s h → q ≤ 256 → is_starved_in b.clients q ≡ is_starved s h q
+starved_is b s h q st lt = ap (λ (x : Bool). x && nat_lt (available_in b.clients q) 2) (active_is b s h q st lt) ∙ ap (λ (n : ℕ). is_active h q && nat_lt n 2) (available_is b s h q st lt)
 
-pub share_is : (b : Book) (s : Setting) (h : History) (q r : ℕ) → Stands b s h → q ≤ 256 → r ≤ 256 → shares_in b.clients.items b.buffer.groups q r ≡ shares s q r
-share_is b s h q r st lt there = shares_is s q r b.buffer.groups (client_at b.clients.items q).reads (client_at b.clients.items r).reads st.setting st.buffer.groups (client_is b s h q st lt).reads (client_is b s h r st there).reads
+pub share_is : (b : Book) (s : Setting) (h : History) (q r : ℕ) → Stands b s h → q ≤ 256 → r ≤ 256 → shares_in b.clients b.buffer.groups q r ≡ shares s q r
+share_is b s h q r st lt there = shares_is s q r b.buffer.groups (client_at b.clients q).reads (client_at b.clients r).reads st.setting st.buffer.groups (client_is b s h q st lt).reads (client_is b s h r st there).reads
 
 -- Counts over the needs
 
@@ -101,46 +109,92 @@ same_among s t u same (n ∷ ns) all =
 pub count_is : (b : Book) (s : Setting) (h : History) (t u : ℕ → Bool) → Stands b s h → ((q : ℕ) → q ≤ 256 → t q ≡ u q) → count_queries t b.needs.items ≡ count_among (λ n. u n.query) s.needs
 count_is b s h t u st same = count_mapped t b.needs.items ∙ (ap (count_among (λ n. t n.query)) st.needs ∙ same_among s t u same s.needs st.setting.needs)
 
-pub running_is : (b : Book) (s : Setting) (h : History) → Stands b s h → count_queries (is_active_in b.clients.items) b.needs.items ≡ running s h
-running_is b s h st = count_is b s h (is_active_in b.clients.items) (is_active h) st (λ q lt. active_is b s h q st lt)
+implied : (a b : Bool) → (a ≡ true → b ≡ true) → a ≡ (a && b)
+implied true b f = sym (f refl)
+implied false b f = refl
 
-pub interested_is : (b : Book) (s : Setting) (h : History) (c : ℕ) → Stands b s h → count_queries (is_interested_in b.clients.items c) b.needs.items ≡ interested s h c
-interested_is b s h c st = count_is b s h (is_interested_in b.clients.items c) (λ q. is_active h q && needs_chunk s h q c) st
-    (λ q lt. ap (λ (x : Bool). x && needs_in b.clients.items q c) (active_is b s h q st lt) ∙ ap (λ (x : Bool). is_active h q && x) (needs_is b s h q c st lt))
+-- a count over all clients, of which only active ones count, is one over the needs
+pub counted_is : (b : Book) (s : Setting) (h : History) (t u : ℕ → Bool) → Stands b s h → ((q : ℕ) → q ≤ 256 → t q ≡ u q) → ((q : ℕ) → u q ≡ true → is_active h q ≡ true)
+    → count_below t (length b.clients) ≡ count_among (λ n. u n.query) s.needs
+counted_is b s h t u st same active =
+    ap (count_below t) b.parts.clients
+    ∙ (count_same t (λ q. u q && is_named s.needs q) 257
+    (λ q lt. same q (omega (arith, lt)) ∙ implied (u q) (is_named s.needs q) (λ e. (keeps s h st.setting st.followed).registered q (active_registered h q (active q e))))
+    ∙ sym (named_count s u s.needs st.setting.needs st.setting.distinct))
 
-starved_for_is : (b : Book) (s : Setting) (h : History) (q c : ℕ) → Stands b s h → q ≤ 256 → is_starved_for b.clients.items c q ≡ (is_starved s h q && needs_chunk s h q c)
-starved_for_is b s h q c st lt = ap (λ (x : Bool). x && needs_in b.clients.items q c) (starved_is b s h q st lt) ∙ ap (λ (x : Bool). is_starved s h q && x) (needs_is b s h q c st lt)
+pub running_is : (b : Book) (s : Setting) (h : History) → Stands b s h → count_below (is_active_in b.clients) (length b.clients) ≡ running s h
+running_is b s h st = counted_is b s h (is_active_in b.clients) (is_active h) st (λ q lt. active_is b s h q st lt) (λ q e. e)
 
-pub starved_interested_is : (b : Book) (s : Setting) (h : History) (c : ℕ) → Stands b s h → count_queries (is_starved_for b.clients.items c) b.needs.items ≡ starved_interested s h c
-starved_interested_is b s h c st = count_is b s h (is_starved_for b.clients.items c) (λ q. is_starved s h q && needs_chunk s h q c) st (λ q lt. starved_for_is b s h q c st lt)
+pub interested_is : (b : Book) (s : Setting) (h : History) (c : ℕ) → Stands b s h → count_below (is_interested_in b.clients c) (length b.clients) ≡ interested s h c
+interested_is b s h c st = counted_is b s h (is_interested_in b.clients c) (λ q. is_active h q && needs_chunk s h q c) st
+    (λ q lt. ap (λ (x : Bool). x && needs_in b.clients q c) (active_is b s h q st lt) ∙ ap (λ (x : Bool). is_active h q && x) (needs_is b s h q c st lt))
+    (λ q e. and_first (is_active h q) (needs_chunk s h q c) e)
 
-pub close_is : (b : Book) (s : Setting) (h : History) (c : ℕ) → Stands b s h → count_queries (is_close_in b.clients.items c) b.needs.items ≡ close s h c
-close_is b s h c st = count_is b s h (is_close_in b.clients.items c) (λ q. is_active h q && is_available s h q c && nat_le (available s h q) 2) st (λ q lt.
-    ap (λ (x : Bool). x && is_available_in b.clients.items q c && nat_le (available_in b.clients.items q) 2) (active_is b s h q st lt)
-    ∙ (ap (λ (x : Bool). is_active h q && x && nat_le (available_in b.clients.items q) 2) (ready_is b s h q st lt c) ∙ ap (λ (n : ℕ). is_active h q && is_available s h q c && nat_le n 2) (available_is b s h q st lt)))
+starved_for_is : (b : Book) (s : Setting) (h : History) (q c : ℕ) → Stands b s h → q ≤ 256 → is_starved_for b.clients c q ≡ (is_starved s h q && needs_chunk s h q c)
+starved_for_is b s h q c st lt = ap (λ (x : Bool). x && needs_in b.clients q c) (starved_is b s h q st lt) ∙ ap (λ (x : Bool). is_starved s h q && x) (needs_is b s h q c st lt)
 
-pub overlap_is : (b : Book) (s : Setting) (h : History) (q c : ℕ) → Stands b s h → q ≤ 256 → count_queries (overlaps_in b.clients.items b.buffer.groups q c) b.needs.items ≡ overlap s h q c
-overlap_is b s h q c st lt = count_is b s h (overlaps_in b.clients.items b.buffer.groups q c) (λ r. is_active h r && needs_chunk s h r c && shares s q r) st (λ r there.
-    ap (λ (x : Bool). x && needs_in b.clients.items r c && shares_in b.clients.items b.buffer.groups q r) (active_is b s h r st there)
-    ∙ (ap (λ (x : Bool). is_active h r && x && shares_in b.clients.items b.buffer.groups q r) (needs_is b s h r c st there) ∙ ap (λ (x : Bool). is_active h r && needs_chunk s h r c && x) (share_is b s h q r st lt there)))
+pub starved_interested_is : (b : Book) (s : Setting) (h : History) (c : ℕ) → Stands b s h → count_below (is_starved_for b.clients c) (length b.clients) ≡ starved_interested s h c
+starved_interested_is b s h c st = counted_is b s h (is_starved_for b.clients c) (λ q. is_starved s h q && needs_chunk s h q c) st (λ q lt. starved_for_is b s h q c st lt)
+    (λ q e. starved_active s h q (and_first (is_starved s h q) (needs_chunk s h q c) e))
 
-pub starved_overlap_is : (b : Book) (s : Setting) (h : History) (q c : ℕ) → Stands b s h → q ≤ 256 → count_queries (starved_overlaps_in b.clients.items b.buffer.groups q c) b.needs.items ≡ starved_overlap s h q c
-starved_overlap_is b s h q c st lt = count_is b s h (starved_overlaps_in b.clients.items b.buffer.groups q c) (λ r. is_starved s h r && needs_chunk s h r c && shares s q r) st (λ r there.
-    ap (λ (x : Bool). x && shares_in b.clients.items b.buffer.groups q r) (starved_for_is b s h r c st there) ∙ ap (λ (x : Bool). is_starved s h r && needs_chunk s h r c && x) (share_is b s h q r st lt there))
+pub close_is : (b : Book) (s : Setting) (h : History) (c : ℕ) → Stands b s h → count_below (is_close_in b.clients c) (length b.clients) ≡ close s h c
+close_is b s h c st = counted_is b s h (is_close_in b.clients c) (λ q. is_active h q && is_available s h q c && nat_le (available s h q) 2) st (λ q lt.
+    ap (λ (x : Bool). x && is_available_in b.clients q c && nat_le (available_in b.clients q) 2) (active_is b s h q st lt)
+    ∙ (ap (λ (x : Bool). is_active h q && x && nat_le (available_in b.clients q) 2) (ready_is b s h q st lt c) ∙ ap (λ (n : ℕ). is_active h q && is_available s h q c && nat_le n 2) (available_is b s h q st lt)))
+    (λ q e. and_first (is_active h q) (is_available s h q c) (and_first (is_active h q && is_available s h q c) (nat_le (available s h q) 2) e))
 
-any_mapped : (t : ℕ → Bool) (ns : List Need) → list_any (λ n. t n.query) ns ≡ list_any (λ n. t n.query) (map as_need ns)
-any_mapped t [] = refl
-any_mapped t (n ∷ ns) = ap (λ (x : Bool). t n.query || x) (any_mapped t ns)
+pub fed_is : (b : Book) (s : Setting) (h : History) (c : ℕ) → Stands b s h → nat_lt 0 (count_below (feeds_in b.clients c) (length b.clients)) ≡ feeds_starved s h c
+fed_is b s h c st =
+    ap (nat_lt 0) (counted_is b s h (feeds_in b.clients c) (λ q. is_starved s h q && is_available s h q c) st
+    (λ q lt. ap (λ (x : Bool). x && is_available_in b.clients q c) (starved_is b s h q st lt) ∙ ap (λ (x : Bool). is_starved s h q && x) (ready_is b s h q st lt c))
+    (λ q e. starved_active s h q (and_first (is_starved s h q) (is_available s h q c) e)))
+    ∙ sym (some_among (λ n. is_starved s h n.query && is_available s h n.query c) s.needs)
 
-any_among : (s : Setting) (t u : ℕ → Bool) → ((q : ℕ) → q ≤ 256 → t q ≡ u q) → (ns : List asked.Need) → AllByRecursion (IsNeed s) ns → list_any (λ n. t n.query) ns ≡ list_any (λ n. u n.query) ns
-any_among s t u same [] all = refl
-any_among s t u same (n ∷ ns) all = ap (λ (x : Bool). x || list_any (λ n. t n.query) ns) (same n.query all.0.query.1) ∙ ap (λ (x : Bool). u n.query || x) (any_among s t u same ns all.1)
+-- no query needs a chunk that the table doesn't have
 
-pub feeds_is : (b : Book) (s : Setting) (h : History) (c : ℕ) → Stands b s h → list_any (λ n. feeds_in b.clients.items c n.query) b.needs.items ≡ feeds_starved s h c
-feeds_is b s h c st =
-    any_mapped (feeds_in b.clients.items c) b.needs.items ∙ (ap (list_any (λ n. feeds_in b.clients.items c n.query)) st.needs
-    ∙ any_among s (feeds_in b.clients.items c) (λ q. is_starved s h q && is_available s h q c) (λ q lt.
-    ap (λ (x : Bool). x && is_available_in b.clients.items q c) (starved_is b s h q st lt) ∙ ap (λ (x : Bool). is_starved s h q && x) (ready_is b s h q st lt c)) s.needs st.setting.needs)
+last_out : (a b : Bool) → b ≡ false → (a && b) ≡ false
+last_out true b e = e
+last_out false b e = refl
+
+pub none_interested : (b : Book) (s : Setting) (h : History) (c : ℕ) → Stands b s h → b.chunks ≤ c → 0 ≡ interested s h c
+none_interested b s h c st out = sym (none_among (λ n. is_active h n.query && needs_chunk s h n.query c) s.needs (λ n. last_out (is_active h n.query) (needs_chunk s h n.query c) (beyond b s h n.query c st out)))
+
+pub none_starved_interested : (b : Book) (s : Setting) (h : History) (c : ℕ) → Stands b s h → b.chunks ≤ c → 0 ≡ starved_interested s h c
+none_starved_interested b s h c st out = sym (none_among (λ n. is_starved s h n.query && needs_chunk s h n.query c) s.needs (λ n. last_out (is_starved s h n.query) (needs_chunk s h n.query c) (beyond b s h n.query c st out)))
+
+pub none_close : (b : Book) (s : Setting) (h : History) (c : ℕ) → Stands b s h → b.chunks ≤ c → 0 ≡ close s h c
+none_close b s h c st out = sym (none_among (λ n. is_active h n.query && is_available s h n.query c && nat_le (available s h n.query) 2) s.needs
+    (λ n. first_out (is_active h n.query && is_available s h n.query c) (nat_le (available s h n.query) 2) (last_out (is_active h n.query) (is_available s h n.query c) (unavailable b s h n.query c st out))))
+
+pub none_fed : (b : Book) (s : Setting) (h : History) (c : ℕ) → Stands b s h → b.chunks ≤ c → false ≡ feeds_starved s h c
+none_fed b s h c st out = sym (some_among (λ n. is_starved s h n.query && is_available s h n.query c) s.needs
+    ∙ ap (nat_lt 0) (none_among (λ n. is_starved s h n.query && is_available s h n.query c) s.needs (λ n. last_out (is_starved s h n.query) (is_available s h n.query c) (unavailable b s h n.query c st out))))
+
+pub overlap_is : (b : Book) (s : Setting) (h : History) (q c : ℕ) → Stands b s h → q ≤ 256 → count_queries (overlaps_in b.clients b.buffer.groups q c) b.needs.items ≡ overlap s h q c
+overlap_is b s h q c st lt = count_is b s h (overlaps_in b.clients b.buffer.groups q c) (λ r. is_active h r && needs_chunk s h r c && shares s q r) st (λ r there.
+    ap (λ (x : Bool). x && needs_in b.clients r c && shares_in b.clients b.buffer.groups q r) (active_is b s h r st there)
+    ∙ (ap (λ (x : Bool). is_active h r && x && shares_in b.clients b.buffer.groups q r) (needs_is b s h r c st there) ∙ ap (λ (x : Bool). is_active h r && needs_chunk s h r c && x) (share_is b s h q r st lt there)))
+
+pub starved_overlap_is : (b : Book) (s : Setting) (h : History) (q c : ℕ) → Stands b s h → q ≤ 256 → count_queries (starved_overlaps_in b.clients b.buffer.groups q c) b.needs.items ≡ starved_overlap s h q c
+starved_overlap_is b s h q c st lt = count_is b s h (starved_overlaps_in b.clients b.buffer.groups q c) (λ r. is_starved s h r && needs_chunk s h r c && shares s q r) st (λ r there.
+    ap (λ (x : Bool). x && shares_in b.clients b.buffer.groups q r) (starved_for_is b s h r c st there) ∙ ap (λ (x : Bool). is_starved s h r && needs_chunk s h r c && x) (share_is b s h q r st lt there))
+
+-- with one group each query reads what every other reads
+
+one_group : (s : Setting) (q r : ℕ) → s.groups ≡ 1 → shares s q r ≡ true
+one_group s q r one =
+    let groups : (x : ℕ) → groups_read s x ≡ 0 ∷ [] = λ x. ap (λ (b : Bool). if b then 0 ∷ [] else columns_in (need_of s x)) (equal_number s.groups 1 one) in
+    ap (λ (gs : List ℕ). list_any (reads_group s r) gs) (groups q) ∙ ap (λ (gs : List ℕ). has gs 0 || false) (groups r)
+
+and_yes : (a b : Bool) → b ≡ true → (a && b) ≡ a
+and_yes true b e = e
+and_yes false b e = refl
+
+pub one_overlap : (s : Setting) (h : History) (q c : ℕ) → s.groups ≡ 1 → overlap s h q c ≡ interested s h c
+one_overlap s h q c one = among_same (λ n. is_active h n.query && needs_chunk s h n.query c && shares s q n.query) (λ n. is_active h n.query && needs_chunk s h n.query c) (λ n. and_yes (is_active h n.query && needs_chunk s h n.query c) (shares s q n.query) (one_group s q n.query one)) s.needs
+
+pub one_starved_overlap : (s : Setting) (h : History) (q c : ℕ) → s.groups ≡ 1 → starved_overlap s h q c ≡ starved_interested s h c
+one_starved_overlap s h q c one = among_same (λ n. is_starved s h n.query && needs_chunk s h n.query c && shares s q n.query) (λ n. is_starved s h n.query && needs_chunk s h n.query c) (λ n. and_yes (is_starved s h n.query && needs_chunk s h n.query c) (shares s q n.query) (one_group s q n.query one)) s.needs
 
 -- Workers
 
@@ -163,9 +217,9 @@ free_state (Some p) b = refl
 free_state None true = refl
 free_state None false = refl
 
-pub free_is : (b : Book) (s : Setting) (h : History) → Stands b s h → free_in b.buffer.frames.items ≡ free_frames s h
+pub free_is : (b : Book) (s : Setting) (h : History) → Stands b s h → free_in b.buffer.frames ≡ free_frames s h
 free_is b s h st =
-    count_same (λ f. is_free_frame (frame_at b.buffer.frames.items f)) (is_free s h) (length b.buffer.frames.items)
+    count_same (λ f. is_free_frame (frame_at b.buffer.frames f)) (is_free s h) (length b.buffer.frames)
     (λ f lt. ap is_free_frame (st.buffer.each f (subst (λ (n : ℕ). f < n) st.buffer.frames lt)) ∙ free_state (piece_in s h f) (fills_frame f (underway s h)))
     ∙ ap (count_below (is_free s h)) st.buffer.frames
 
@@ -174,11 +228,11 @@ held_state (Some p) b = refl
 held_state None true = refl
 held_state None false = refl
 
-pub piece_is : (b : Book) (s : Setting) (h : History) (f : ℕ) → Stands b s h → held_piece (frame_at b.buffer.frames.items f) ≡ piece_in s h f
+pub piece_is : (b : Book) (s : Setting) (h : History) (f : ℕ) → Stands b s h → held_piece (frame_at b.buffer.frames f) ≡ piece_in s h f
 piece_is b s h f st = elim (cases_lt f s.frames) [
   | inl lt ↦ ap held_piece (st.buffer.each f lt) ∙ held_state (piece_in s h f) (fills_frame f (underway s h))
   | inr past ↦
-      ap held_piece (get_or_past b.buffer.frames.items f Free (omega (arith, past, st.buffer.frames)))
+      ap held_piece (get_or_past b.buffer.frames f Free (omega (arith, past, st.buffer.frames)))
       ∙ sym (nothing (piece_in s h f) (λ p e. (let lt = (keeps s h st.setting st.followed).inside f p e in omega (arith, lt, past))))
 ]
   where
@@ -194,7 +248,7 @@ missing_count s h c n k groups is = let all = below_all (λ g. is_framed s h (pi
 since_is : (n : ℕ) (h : History) (q : ℕ) (o : Option ℕ) → length h ≡ n → since_wait h q ≡ option_map (λ b. length h - b) o → unwrap_or (option_map (λ b. n - b) o) 0 ≡ unwrap_or (since_wait h q) 0
 since_is n h q o len is = sym (ap (λ x. unwrap_or x 0) is ∙ ap (λ (k : ℕ). unwrap_or (option_map (λ b. k - b) o) 0) len)
 
-pub wait_is : (b : Book) (s : Setting) (h : History) (q : ℕ) (k : Client) → Stands b s h → q ≤ 256 → k ≡ client_at b.clients.items q → holds_for s h q ≡ false
+pub wait_is : (b : Book) (s : Setting) (h : History) (q : ℕ) (k : Client) → Stands b s h → q ≤ 256 → k ≡ client_at b.clients q → holds_for s h q ≡ false
     → unwrap_or (option_map (λ x. b.noted - x) k.began) 0 ≡ waiting s h q
 wait_is b s h q k st lt is none =
     since_is b.noted h q k.began st.noted ((client_is b s h q st lt).began.since ∙ ap (λ (x : Client). option_map (λ y. length h - y) x.began) (sym is))
@@ -205,10 +259,10 @@ wait_none s h q some = sym (ap (λ (x : Bool). if x then 0 else unwrap_or (since
 
 -- Candidates
 
-pub target_is : (b : Book) (s : Setting) (h : History) (q c : ℕ) → Stands b s h → q ≤ 256 → is_target_in b.clients.items b.chunks q c ≡ is_target s h q c
+pub target_is : (b : Book) (s : Setting) (h : History) (q c : ℕ) → Stands b s h → q ≤ 256 → is_target_in b.clients b.chunks q c ≡ is_target s h q c
 target_is b s h q c st lt =
-    ap (λ (n : ℕ). nat_lt c n && needs_in b.clients.items q c && not (is_available_in b.clients.items q c)) st.chunks
-    ∙ (ap (λ (x : Bool). nat_lt c s.chunks && x && not (is_available_in b.clients.items q c)) (needs_is b s h q c st lt)
+    ap (λ (n : ℕ). nat_lt c n && needs_in b.clients q c && not (is_available_in b.clients q c)) st.chunks
+    ∙ (ap (λ (x : Bool). nat_lt c s.chunks && x && not (is_available_in b.clients q c)) (needs_is b s h q c st lt)
     ∙ (ap (λ (x : Bool). nat_lt c s.chunks && needs_chunk s h q c && not x) (ready_is b s h q st lt c) ∙ needed_rest (nat_lt c s.chunks) (needs_chunk s h q c) (is_wholly_framed s h q c)))
   where
     needed_rest : (a n w : Bool) → (a && n && not (n && w)) ≡ (a && n && not w)
@@ -216,8 +270,8 @@ target_is b s h q c st lt =
     needed_rest true false w = refl
     needed_rest false false w = refl
 
-pub deliverable_is : (b : Book) (s : Setting) (h : History) (q c : ℕ) → Stands b s h → q ≤ 256 → is_ready_in b.clients.items b.chunks q c ≡ is_ready s h q c
-deliverable_is b s h q c st lt = ap (λ (n : ℕ). nat_lt c n && is_available_in b.clients.items q c) st.chunks ∙ ap (λ (x : Bool). nat_lt c s.chunks && x) (ready_is b s h q st lt c)
+pub deliverable_is : (b : Book) (s : Setting) (h : History) (q c : ℕ) → Stands b s h → q ≤ 256 → is_ready_in b.clients b.chunks q c ≡ is_ready s h q c
+deliverable_is b s h q c st lt = ap (λ (n : ℕ). nat_lt c n && is_available_in b.clients q c) st.chunks ∙ ap (λ (x : Bool). nat_lt c s.chunks && x) (ready_is b s h q st lt c)
 
 -- some target is left where fewer chunks are available than needed
 parts : (p w : ℕ → Bool) (n : ℕ) → count_below p n ≡ count_below (λ c. p c && w c) n + count_below (λ c. p c && not (w c)) n
@@ -254,10 +308,6 @@ has_target s h q =
 
     inside : (c : ℕ) (n w : Bool) → nat_lt c s.chunks ≡ true → (n && not w) ≡ (nat_lt c s.chunks && n && not w)
     inside c n w e = sym (ap (λ (x : Bool). x && n && not w) e)
-
-pub loaded_is : (c : ℕ) (o : Option Load) (k : Option Loading) → k ≡ option_map loading_of o → loaded_in c k ≡ is_load_of c o
-loaded_is c None k e = ap (loaded_in c) e
-loaded_is c (Some l) k e = ap (loaded_in c) e
 
 idle_is : (o : Option Load) (k : Option Loading) → k ≡ option_map loading_of o → is_some k ≡ false → is_none o ≡ true
 idle_is None k e none = refl

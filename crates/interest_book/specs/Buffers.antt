@@ -16,4 +16,4 @@ pub record AreFrames (s : Setting) (h : History) (n : ℕ) (fs : List Frame) (ps
   pub begun : HasBegun s bs (underway s h)
 
 abbrev pub IsBuffer : Setting → History → Buffer → Type 0
-IsBuffer s h b = AreFrames s h b.groups b.frames.items b.places.items b.begun.items
+IsBuffer s h b = AreFrames s h b.groups b.frames b.places.items b.begun.items

@@ -1,6 +1,7 @@
 -- The numbers of what the book keeps.
 use Rattle.std.specs.Prelude.{◌&&◌, not, ℕ, Bool, List, nat_lt, nat_le}
-use Rattle.scan_story.specs.Counting.{has, count_among, count_below, any_below}
+use Rattle.scan_story.specs.Counting.{has, count_among, any_below}
+use Rattle.interest_book.specs.Counted.{size_of}
 use Rattle.interest_book.specs.declared.need.Need.{Need}
 use Rattle.interest_book.specs.declared.client.Client.{Client}
 use Rattle.interest_book.specs.Clients.{client_at, is_active_phase}
@@ -15,10 +16,6 @@ needs_in ks q c = has (client_at ks q).remaining c
 
 abbrev pub is_available_in : List Client → ℕ → ℕ → Bool
 is_available_in ks q c = has (client_at ks q).available c
-
--- how many members a set of chunks has
-unfoldable pub size_of : List ℕ → ℕ
-size_of members = count_below (has members) 1024
 
 abbrev pub needed_in : List Client → ℕ → ℕ
 needed_in ks q = size_of (client_at ks q).remaining

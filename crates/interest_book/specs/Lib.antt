@@ -8,3 +8,6 @@ pub mod Stands
 pub mod Counts
 pub mod Held
 pub mod Fresh
+pub mod Counted
+pub mod Tallied
+pub mod Freed

@@ -29,8 +29,8 @@ pub record Stands (b : Book) (s : Setting) (h : History) : Type 0 where
   pub chunks : b.chunks ≡ s.chunks
   pub workers : b.workers ≡ s.workers
   pub noted : length h ≡ b.noted
-  pub clients : AreClients s h b.clients.items
-  pub ready : AreReady s h b.clients.items
+  pub clients : AreClients s h b.clients
+  pub ready : AreReady s h b.clients
   pub buffer : IsBuffer s h b.buffer
   pub holds : AreHolds h b.holds.items
   pub loading : b.loading ≡ option_map loading_of (underway s h)

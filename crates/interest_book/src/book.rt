@@ -3,8 +3,7 @@ ghost use Rattle.std.specs.Prelude.{◌≡◌, ◌<◌, ◌≤◌, ◌^◌, ℕ,
 ghost use Rattle.interest_book.specs.Sizes.{AreParts};
 
 use crate::buffer::Buffer;
-use crate::client::Client;
-use crate::clients;
+use crate::clients::Clients;
 use crate::loading::Loading;
 use crate::need::Need;
 use scan_story::Hold;
@@ -15,7 +14,7 @@ use table_core::Memory;
 #[derive(Drop)]
 pub struct Book {
     pub(crate) needs: Vec<Need>,
-    pub(crate) clients: Vec<Client>,
+    pub(crate) clients: Clients,
     pub(crate) buffer: Buffer,
     pub(crate) holds: Vec<Option<Hold>>,
     pub(crate) loading: Option<Loading>,
@@ -23,7 +22,7 @@ pub struct Book {
     pub(crate) workers: u32,
     pub(crate) noted: u64,
     ghost short: { noted < 2 ^ 63 },
-    ghost parts: { AreParts needs.items clients.items holds.items chunks workers },
+    ghost parts: { AreParts needs.items clients holds.items chunks workers },
 }
 
 fn no_holds(alloc: Global, n: usize) -> Result<Vec<Option<Hold>>, AllocError>
@@ -56,7 +55,7 @@ impl Book {
         requires { IsSetting (made_for needs.items chunks workers frames groups) }
         ensures { IfOk result (λ b. (s : Setting) → IsMadeFor s needs.items chunks workers frames groups → Stands b s []) }
     {
-        let clients = clients::fresh(alloc, &needs, groups)?;
+        let clients = Clients::new(alloc, &needs, groups)?;
         let buffer = Buffer::new(alloc, frames, groups)?;
         let holds = no_holds(alloc, 32)?;
         Ok(Book {

@@ -4,36 +4,37 @@ ghost use Rattle.interest_book.specs.Frames.{IsSized, NamesFrames, frame_at, pla
 ghost use Rattle.interest_book.specs.declared.frame.Frame.TheVariants.{Free, Holds};
 
 use crate::frame::Frame;
+use crate::frames::Frames;
 use std::alloc::{AllocError, Global};
 use table_core::{ColumnSet, Memory};
 
 /// The frames and the places of pieces.
 #[derive(Drop)]
 pub struct Buffer {
-    pub frames: Vec<Frame>,
+    pub frames: Frames,
     pub places: Vec<Option<u32>>,
     pub begun: Vec<Option<u32>>,
     pub groups: u32,
-    ghost sized: { IsSized frames.items places.items begun.items groups },
+    ghost sized: { IsSized frames places.items begun.items groups },
 }
 
 // The frames that are named and have no piece are free.
-fn settle(frames: &mut [Frame], begun: &[Option<u32>])
+fn settle(frames: &mut Frames, begun: &[Option<u32>])
     requires inside { NamesFrames frames.old begun.now }
     ensures length { length frames.new ≡ length frames.old }
     ensures each { (f : ℕ) → frame_at frames.new f ≡ (if is_named begun.now (length begun.now) f then settled (frame_at frames.old f) else frame_at frames.old f) }
 {
     for g in 0..begun.len() {
         if let Some(f) = begun[g] {
-            if frames[f as usize] == Frame::Begun {
-                frames[f as usize] = Frame::Free;
+            if frames.at(f) == Frame::Begun {
+                frames.put(f, Frame::Free);
             }
         }
     }
 }
 
 // The n pieces from a piece on leave their frames.
-fn leave(frames: &mut [Frame], places: &mut [Option<u32>], from: usize, n: usize)
+fn leave(frames: &mut Frames, places: &mut [Option<u32>], from: usize, n: usize)
     requires inside { NamesFrames frames.old places.old }
     requires there { from + n ≤ length places.old }
     ensures length { length frames.new ≡ length frames.old }
@@ -43,17 +44,10 @@ fn leave(frames: &mut [Frame], places: &mut [Option<u32>], from: usize, n: usize
 {
     for g in 0..n {
         if let Some(f) = places[from + g] {
-            frames[f as usize] = Frame::Free;
+            frames.put(f, Frame::Free);
             places[from + g] = None;
         }
     }
-}
-
-fn free_frames(alloc: Global, n: usize) -> Result<Vec<Frame>, AllocError>
-    ensures length { IfOk result (λ v. length v.items ≡ n) }
-    ensures free { IfOk result (λ v. (f : ℕ) → frame_at v.items f ≡ Free) }
-{
-    vec![in alloc; Frame::Free; n]
 }
 
 fn no_numbers(alloc: Global, n: usize) -> Result<Vec<Option<u32>>, AllocError>
@@ -80,11 +74,11 @@ impl Buffer {
         requires frames { frames ≤ 33554432 }
         requires groups { (1 ≤ groups) × (groups ≤ 16) }
         ensures groups { IfOk result (λ b. b.groups ≡ groups) }
-        ensures length { IfOk result (λ b. length b.frames.items ≡ frames) }
-        ensures free { IfOk result (λ b. (f : ℕ) → frame_at b.frames.items f ≡ Free) }
+        ensures length { IfOk result (λ b. length b.frames ≡ frames) }
+        ensures free { IfOk result (λ b. (f : ℕ) → frame_at b.frames f ≡ Free) }
         ensures places { IfOk result (λ b. (p : ℕ) → place_at b.places.items p ≡ None) }
     {
-        let frames = free_frames(alloc, frames as usize)?;
+        let frames = Frames::new(alloc, frames)?;
         let places = no_numbers(alloc, 16384)?;
         let begun = no_numbers(alloc, 16)?;
         Ok(Buffer {
@@ -97,30 +91,30 @@ impl Buffer {
 
     /// Follows a Fill of the frame with the piece.
     pub fn begin(&mut self, frame: u32, piece: u32)
-        requires { frame < length self.old.frames.items }
+        requires { frame < length self.old.frames }
         ensures { (s : Setting) (h : History) (w : ℕ) → IsSetting s → AllMayFollow s h → MayFill s h w frame piece → IsBuffer s h self.old → IsBuffer s (Fill w frame piece ∷ h) self.new }
     {
-        self.frames[frame as usize] = Frame::Begun;
+        self.frames.put(frame, Frame::Begun);
         self.begun[(piece % self.groups) as usize] = Some(frame);
     }
 
     // The frame has the piece.
     fn hold(&mut self, frame: u32, piece: u32)
-        requires frame { frame < length self.old.frames.items }
+        requires frame { frame < length self.old.frames }
         requires piece { piece < 16384 }
-        ensures frames { self.new.frames.items ≡ set self.old.frames.items frame (Holds piece) }
+        ensures frames { self.new.frames ≡ set self.old.frames frame (Holds piece) }
         ensures places { self.new.places.items ≡ set self.old.places.items piece (Some frame) }
         ensures begun { self.new.begun.items ≡ self.old.begun.items }
         ensures groups { self.new.groups ≡ self.old.groups }
     {
-        self.frames[frame as usize] = Frame::Holds(piece);
+        self.frames.put(frame, Frame::Holds(piece));
         self.places[piece as usize] = Some(frame);
     }
 
     // The frames that the load began and that have no piece are free.
     fn settle(&mut self)
-        ensures length { length self.new.frames.items ≡ length self.old.frames.items }
-        ensures frames { (f : ℕ) → frame_at self.new.frames.items f ≡ (if is_named self.old.begun.items (length self.old.begun.items) f then settled (frame_at self.old.frames.items f) else frame_at self.old.frames.items f) }
+        ensures length { length self.new.frames ≡ length self.old.frames }
+        ensures frames { (f : ℕ) → frame_at self.new.frames f ≡ (if is_named self.old.begun.items (length self.old.begun.items) f then settled (frame_at self.old.frames f) else frame_at self.old.frames f) }
         ensures places { self.new.places.items ≡ self.old.places.items }
         ensures begun { self.new.begun.items ≡ self.old.begun.items }
         ensures groups { self.new.groups ≡ self.old.groups }
@@ -131,7 +125,7 @@ impl Buffer {
     /// Follows a Filled of the frame with the piece, which is the load's last one or not.
     #[tactic(auto, using(crate::proofs::Buffering::small_piece))]
     pub fn finish(&mut self, frame: u32, piece: u32, last: bool)
-        requires frame { frame < length self.old.frames.items }
+        requires frame { frame < length self.old.frames }
         requires piece { piece / self.old.groups < 1024 }
         ensures groups { self.new.groups ≡ self.old.groups }
         ensures follows { (s : Setting) (h : History) (w : ℕ) → IsSetting s → AllMayFollow s h → MayFilled s h w frame piece → is_none (underway s (Filled w frame piece ∷ h)) ≡ last → IsBuffer s h self.old → IsBuffer s (Filled w frame piece ∷ h) self.new }
@@ -200,39 +194,18 @@ impl Buffer {
 
     /// How many frames are free.
     pub fn free(&self) -> u32
-        ensures { result ≡ free_in self.now.frames.items }
+        ensures { result ≡ free_in self.now.frames }
     {
-        count_free(&self.frames)
+        self.frames.free()
     }
 
     /// The piece in the frame, if there is one.
     pub fn piece_in(&self, f: u32) -> Option<u32>
-        ensures { result ≡ held_piece (frame_at self.now.frames.items f) }
+        ensures { result ≡ held_piece (frame_at self.now.frames f) }
     {
-        match self.frames.get(f as usize) {
-            Some(Frame::Holds(piece)) => Some(*piece),
+        match self.frames.at(f) {
+            Frame::Holds(piece) => Some(piece),
             _ => None,
         }
     }
-}
-
-// How many frames are free.
-#[tactic(auto, using(crate::proofs::Below::count_below_more))]
-fn count_free(frames: &[Frame]) -> u32
-    requires { length frames.now ≤ 33554432 }
-    ensures { result ≡ free_in frames.now }
-{
-    let mut count = 0;
-    for f in 0..frames.len() {
-        if is_free(frames[f]) {
-            count += 1;
-        }
-    }
-    count
-}
-
-fn is_free(frame: Frame) -> bool
-    ensures { result ≡ is_free_frame frame }
-{
-    matches!(frame, Frame::Free)
 }

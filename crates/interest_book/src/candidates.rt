@@ -20,7 +20,7 @@ impl Book {
 
     fn may_load(&self, q: u32, c: u32) -> bool
         requires { q ≤ 256 }
-        ensures { result ≡ is_target_in self.now.clients.items self.now.chunks q c }
+        ensures { result ≡ is_target_in self.now.clients self.now.chunks q c }
     {
         let client = self.client(q);
         c < self.chunks && client.remaining.has(c) && !client.available.has(c)
@@ -36,7 +36,7 @@ impl Book {
 
     fn may_deliver(&self, q: u32, c: u32) -> bool
         requires { q ≤ 256 }
-        ensures { result ≡ is_ready_in self.now.clients.items self.now.chunks q c }
+        ensures { result ≡ is_ready_in self.now.clients self.now.chunks q c }
     {
         c < self.chunks && self.client(q).available.has(c)
     }

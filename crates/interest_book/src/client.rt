@@ -2,7 +2,7 @@
 ghost use Rattle.std.specs.Prelude.{◌≡◌, ◌+◌, ◌<◌, ◌^◌, ◌∷◌, ◌==◌, ◌&&◌, ℕ, [], None, Some, length, false, if◌then◌else◌};
 ghost use Rattle.scan_story.specs.Counting.{has};
 ghost use Rattle.interest_book.specs.Frames.{missing_in};
-ghost use Rattle.interest_book.specs.Counts.{size_of};
+ghost use Rattle.interest_book.specs.Counted.{size_of};
 ghost use Rattle.interest_book.specs.Fresh.{IsFresh, as_need};
 ghost use Rattle.interest_book.specs.Renewed.{IsRenewed};
 ghost use Rattle.scan_story.specs.declared.entry.Why.{Why};
@@ -10,11 +10,13 @@ ghost use Rattle.scan_story.specs.declared.entry.Entry.TheVariants.{Register, Fa
 ghost use Rattle.scan_story.specs.declared.setting.Setting.{Setting};
 ghost use Rattle.scan_story.specs.Views.{History, is_stopped};
 ghost use Rattle.interest_book.specs.Clients.{IsClient, IsReady, is_active_phase};
+ghost use Rattle.interest_book.specs.Tallied.{is_active, is_starved, is_near, IsNear};
 
 use crate::buffer::Buffer;
+use crate::counted_set::CountedSet;
 use crate::need::Need;
 use scan_story::Phase;
-use table_core::{ChunkSet, ColumnSet};
+use table_core::ColumnSet;
 
 /// The query with one number: its need, if it has one, and how far it has come.
 #[derive(Drop)]
@@ -23,8 +25,8 @@ pub struct Client {
     pub columns: ColumnSet,
     pub reads: ColumnSet,
     pub phase: Phase,
-    pub remaining: ChunkSet,
-    pub available: ChunkSet,
+    pub remaining: CountedSet,
+    pub available: CountedSet,
     pub began: Option<u64>,
 }
 
@@ -51,8 +53,8 @@ impl Client {
             reads: groups_read(&columns, groups),
             columns,
             phase: Phase::Waiting,
-            remaining: ChunkSet::empty(),
-            available: ChunkSet::empty(),
+            remaining: CountedSet::empty(),
+            available: CountedSet::empty(),
             began: None,
         }
     }
@@ -65,15 +67,31 @@ impl Client {
         self.columns = need.columns.copy();
         self.reads = groups_read(&need.columns, groups);
         self.phase = Phase::Waiting;
-        self.remaining = need.chunks.copy();
-        self.available = ChunkSet::empty();
+        self.remaining = CountedSet::of(&need.chunks);
+        self.available = CountedSet::empty();
         self.began = None;
+    }
+
+    /// The same once more.
+    pub fn copy(&self) -> Client
+        ensures { result ≡ self.now }
+    {
+        Client {
+            worker: self.worker,
+            columns: self.columns.copy(),
+            reads: self.reads.copy(),
+            phase: self.phase,
+            remaining: self.remaining.copy(),
+            available: self.available.copy(),
+            began: self.began,
+        }
     }
 
     /// Follows its Register, which has `noted` entries before it.
     pub fn register(&mut self, noted: u64)
         requires { noted < 2 ^ 63 }
         ensures follows { (s : Setting) (h : History) (w q : ℕ) → length h ≡ noted → IsClient s h q self.old → IsClient s (Register w q ∷ h) q self.new }
+        ensures remaining { self.new.remaining ≡ self.old.remaining }
         ensures available { self.new.available ≡ self.old.available }
     {
         if self.phase == Phase::Waiting {
@@ -86,6 +104,8 @@ impl Client {
     pub fn release(&mut self, noted: u64)
         requires { noted < 2 ^ 63 }
         ensures follows { (s : Setting) (h : History) (w q c : ℕ) → length h ≡ noted → IsClient s h q self.old → IsClient s (Release w q c ∷ h) q self.new }
+        ensures phase { self.new.phase ≡ self.old.phase }
+        ensures remaining { self.new.remaining ≡ self.old.remaining }
         ensures available { self.new.available ≡ self.old.available }
     {
         let now = noted + 1;
@@ -97,6 +117,8 @@ impl Client {
         requires { c < 1024 }
         ensures follows { (s : Setting) (h : History) (w q : ℕ) → IsClient s h q self.old → IsClient s (Deliver w q c ∷ h) q self.new }
         ensures ready { (s : Setting) (h : History) (w q : ℕ) → IsReady s h q self.old → IsReady s (Deliver w q c ∷ h) q self.new }
+        ensures phase { self.new.phase ≡ self.old.phase }
+        ensures near { IsNear c self.old self.new }
     {
         self.remaining.remove(c);
         self.available.remove(c);
@@ -108,20 +130,22 @@ impl Client {
         ensures failed { (s : Setting) (h : History) (w q p : ℕ) (why : Why) → IsClient s h q self.old → IsClient s (Failed w q p why ∷ h) q self.new }
         ensures stop_ready { (s : Setting) (h : History) (w q : ℕ) → IsReady s (Stop w q ∷ h) q self.new }
         ensures failed_ready { (s : Setting) (h : History) (w q p : ℕ) (why : Why) → IsReady s (Failed w q p why ∷ h) q self.new }
+        ensures over { is_active self.new ≡ false }
     {
         self.phase = Phase::Stopped;
-        self.remaining = ChunkSet::empty();
-        self.available = ChunkSet::empty();
+        self.remaining = CountedSet::empty();
+        self.available = CountedSet::empty();
     }
 
     /// Follows its End.
     pub fn end(&mut self)
         ensures follows { (s : Setting) (h : History) (w q : ℕ) → is_stopped h q ≡ false → IsClient s h q self.old → IsClient s (End w q ∷ h) q self.new }
         ensures ready { (s : Setting) (h : History) (w q : ℕ) → IsReady s (End w q ∷ h) q self.new }
+        ensures over { is_active self.new ≡ false }
     {
         self.phase = Phase::Ended;
-        self.remaining = ChunkSet::empty();
-        self.available = ChunkSet::empty();
+        self.remaining = CountedSet::empty();
+        self.available = CountedSet::empty();
     }
 
     /// Whether it is registered, neither stopped nor ended.
@@ -131,8 +155,22 @@ impl Client {
         matches!(self.phase, Phase::Active)
     }
 
-    // Whether it needs the chunk, and no piece of it that it reads is missing.
-    fn can_take(&self, buffer: &Buffer, c: u32) -> bool
+    /// Whether it is active, with fewer than two chunks available.
+    pub fn is_starved(&self) -> bool
+        ensures { result ≡ is_starved self.now }
+    {
+        self.is_active() && self.ready() < 2
+    }
+
+    /// Whether it is active, with at most two chunks available.
+    pub fn is_near(&self) -> bool
+        ensures { result ≡ is_near self.now }
+    {
+        self.is_active() && self.ready() <= 2
+    }
+
+    /// Whether it needs the chunk, and no piece of it that it reads is missing.
+    pub fn can_take(&self, buffer: &Buffer, c: u32) -> bool
         requires { c < 1024 }
         ensures { result ≡ (has self.now.remaining c && missing_in buffer.now.places.items buffer.now.groups self.now.reads c == 0) }
     {
@@ -155,21 +193,13 @@ impl Client {
     pub fn needed(&self) -> u32
         ensures { result ≡ size_of self.now.remaining }
     {
-        size(&self.remaining)
+        self.remaining.size()
     }
 
     /// How many chunks are available to it.
     pub fn ready(&self) -> u32
         ensures { result ≡ size_of self.now.available }
     {
-        size(&self.available)
+        self.available.size()
     }
-}
-
-// How many members the set has.
-#[tactic(auto, using(crate::proofs::Counting::members_size))]
-fn size(set: &ChunkSet) -> u32
-    ensures { result ≡ size_of set.now }
-{
-    set.len()
 }

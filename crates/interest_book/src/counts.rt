@@ -5,67 +5,26 @@ ghost use Rattle.scan_story.specs.Counting.{any_below, has};
 ghost use Rattle.interest_book.specs.Clients.{client_at};
 ghost use Rattle.interest_book.specs.Counts.{is_active_in, is_starved_in, shares_in, is_interested_in, is_starved_for, is_close_in, overlaps_in, starved_overlaps_in, feeds_in, count_queries};
 
-use crate::client::Client;
+use crate::clients::Clients;
 use crate::need::Need;
 use table_core::ColumnSet;
 
-/// The client of a query.
-pub fn client_of(clients: &[Client], q: u32) -> &Client
-    requires { q < length clients.now }
-    ensures { result.now ≡ client_at clients.now q }
-{
-    &clients[q as usize]
-}
-
-/// Whether the query is active.
-pub fn is_active(clients: &[Client], q: u32) -> bool
-    requires { q < length clients.now }
-    ensures { result ≡ is_active_in clients.now q }
-{
-    client_of(clients, q).is_active()
-}
-
-/// Whether the query is active, with fewer than two chunks available.
-pub fn is_starved(clients: &[Client], q: u32) -> bool
-    requires { q < length clients.now }
-    ensures { result ≡ is_starved_in clients.now q }
-{
-    let client = client_of(clients, q);
-    client.is_active() && client.ready() < 2
-}
-
 // Whether the query is active and needs the chunk.
-fn is_interested(clients: &[Client], q: u32, c: u32) -> bool
+fn is_interested(clients: &Clients, q: u32, c: u32) -> bool
     requires { q < length clients.now }
     ensures { result ≡ is_interested_in clients.now c q }
 {
-    let client = client_of(clients, q);
+    let client = clients.of(q);
     client.is_active() && client.remaining.has(c)
 }
 
 // Whether the query is starved and needs the chunk.
-fn is_starved_for(clients: &[Client], q: u32, c: u32) -> bool
+fn is_starved_for(clients: &Clients, q: u32, c: u32) -> bool
     requires { q < length clients.now }
     ensures { result ≡ is_starved_for clients.now c q }
 {
-    is_starved(clients, q) && client_of(clients, q).remaining.has(c)
-}
-
-// Whether the query is active, has the chunk available, and at most two available chunks.
-fn is_close(clients: &[Client], q: u32, c: u32) -> bool
-    requires { q < length clients.now }
-    ensures { result ≡ is_close_in clients.now c q }
-{
-    let client = client_of(clients, q);
-    client.is_active() && client.available.has(c) && client.ready() <= 2
-}
-
-// Whether a starved query has the chunk available.
-fn feeds(clients: &[Client], q: u32, c: u32) -> bool
-    requires { q < length clients.now }
-    ensures { result ≡ feeds_in clients.now c q }
-{
-    is_starved(clients, q) && client_of(clients, q).available.has(c)
+    let client = clients.of(q);
+    client.is_starved() && client.remaining.has(c)
 }
 
 // Whether some group below n is in both sets.
@@ -81,20 +40,16 @@ fn meet(a: &ColumnSet, b: &ColumnSet, n: u32) -> bool
 }
 
 // Whether r reads a group that q reads.
-fn shares(clients: &[Client], n: u32, q: u32, r: u32) -> bool
+fn shares(clients: &Clients, n: u32, q: u32, r: u32) -> bool
     requires q { q < length clients.now }
     requires r { r < length clients.now }
     ensures { result ≡ shares_in clients.now n q r }
 {
-    meet(
-        &client_of(clients, q).reads,
-        &client_of(clients, r).reads,
-        n,
-    )
+    meet(&clients.of(q).reads, &clients.of(r).reads, n)
 }
 
 // Whether r is active, needs the chunk and reads a group that q reads.
-fn overlaps(clients: &[Client], n: u32, q: u32, r: u32, c: u32) -> bool
+fn overlaps(clients: &Clients, n: u32, q: u32, r: u32, c: u32) -> bool
     requires q { q < length clients.now }
     requires r { r < length clients.now }
     ensures { result ≡ overlaps_in clients.now n q c r }
@@ -103,7 +58,7 @@ fn overlaps(clients: &[Client], n: u32, q: u32, r: u32, c: u32) -> bool
 }
 
 // Whether r is starved, needs the chunk and reads a group that q reads.
-fn starved_overlaps(clients: &[Client], n: u32, q: u32, r: u32, c: u32) -> bool
+fn starved_overlaps(clients: &Clients, n: u32, q: u32, r: u32, c: u32) -> bool
     requires q { q < length clients.now }
     requires r { r < length clients.now }
     ensures { result ≡ starved_overlaps_in clients.now n q c r }
@@ -111,81 +66,9 @@ fn starved_overlaps(clients: &[Client], n: u32, q: u32, r: u32, c: u32) -> bool
     is_starved_for(clients, r, c) && shares(clients, n, q, r)
 }
 
-/// How many queries are active.
-#[tactic(auto, using(crate::proofs::Below::count_among_cons, crate::proofs::Below::count_among_within))]
-pub fn running(needs: &[Need], clients: &[Client]) -> u32
-    requires few { length needs.now ≤ 256 }
-    requires queries { All (λ n. n.query ≤ 256) needs.now }
-    requires clients { length clients.now ≡ 257 }
-    ensures number { result ≡ count_queries (is_active_in clients.now) needs.now }
-    ensures few { result ≤ 256 }
-{
-    let mut count = 0;
-    for n in needs {
-        if is_active(clients, n.query) {
-            count += 1;
-        }
-    }
-    count
-}
-
-/// How many active queries need the chunk.
-#[tactic(auto, using(crate::proofs::Below::count_among_cons, crate::proofs::Below::count_among_within))]
-pub fn interested(needs: &[Need], clients: &[Client], c: u32) -> u32
-    requires few { length needs.now ≤ 256 }
-    requires queries { All (λ n. n.query ≤ 256) needs.now }
-    requires clients { length clients.now ≡ 257 }
-    ensures number { result ≡ count_queries (is_interested_in clients.now c) needs.now }
-    ensures few { result ≤ 256 }
-{
-    let mut count = 0;
-    for n in needs {
-        if is_interested(clients, n.query, c) {
-            count += 1;
-        }
-    }
-    count
-}
-
-/// How many starved queries need the chunk.
-#[tactic(auto, using(crate::proofs::Below::count_among_cons, crate::proofs::Below::count_among_within))]
-pub fn starved_interested(needs: &[Need], clients: &[Client], c: u32) -> u32
-    requires few { length needs.now ≤ 256 }
-    requires queries { All (λ n. n.query ≤ 256) needs.now }
-    requires clients { length clients.now ≡ 257 }
-    ensures number { result ≡ count_queries (is_starved_for clients.now c) needs.now }
-    ensures few { result ≤ 256 }
-{
-    let mut count = 0;
-    for n in needs {
-        if is_starved_for(clients, n.query, c) {
-            count += 1;
-        }
-    }
-    count
-}
-
-/// How many active queries have the chunk available, and at most two available chunks.
-#[tactic(auto, using(crate::proofs::Below::count_among_cons, crate::proofs::Below::count_among_within))]
-pub fn close(needs: &[Need], clients: &[Client], c: u32) -> u32
-    requires few { length needs.now ≤ 256 }
-    requires queries { All (λ n. n.query ≤ 256) needs.now }
-    requires clients { length clients.now ≡ 257 }
-    ensures number { result ≡ count_queries (is_close_in clients.now c) needs.now }
-    ensures few { result ≤ 256 }
-{
-    let mut count = 0;
-    for n in needs {
-        if is_close(clients, n.query, c) {
-            count += 1;
-        }
-    }
-    count
-}
-
 /// How many active queries need the chunk and read a piece of it that the query reads.
 #[tactic(auto, using(crate::proofs::Below::count_among_cons, crate::proofs::Below::count_among_within))]
-pub fn overlap(needs: &[Need], clients: &[Client], groups: u32, q: u32, c: u32) -> u32
+pub fn overlap(needs: &[Need], clients: &Clients, groups: u32, q: u32, c: u32) -> u32
     requires few { length needs.now ≤ 256 }
     requires queries { All (λ n. n.query ≤ 256) needs.now }
     requires clients { length clients.now ≡ 257 }
@@ -204,7 +87,7 @@ pub fn overlap(needs: &[Need], clients: &[Client], groups: u32, q: u32, c: u32) 
 
 /// How many of these are starved.
 #[tactic(auto, using(crate::proofs::Below::count_among_cons, crate::proofs::Below::count_among_within))]
-pub fn starved_overlap(needs: &[Need], clients: &[Client], groups: u32, q: u32, c: u32) -> u32
+pub fn starved_overlap(needs: &[Need], clients: &Clients, groups: u32, q: u32, c: u32) -> u32
     requires few { length needs.now ≤ 256 }
     requires queries { All (λ n. n.query ≤ 256) needs.now }
     requires clients { length clients.now ≡ 257 }
@@ -219,18 +102,4 @@ pub fn starved_overlap(needs: &[Need], clients: &[Client], groups: u32, q: u32, 
         }
     }
     count
-}
-
-/// Whether the chunk is available to some starved query.
-pub fn feeds_starved(needs: &[Need], clients: &[Client], c: u32) -> bool
-    requires queries { All (λ n. n.query ≤ 256) needs.now }
-    requires clients { length clients.now ≡ 257 }
-    ensures { result ≡ list_any (λ n. feeds_in clients.now c n.query) needs.now }
-{
-    for n in needs {
-        if feeds(clients, n.query, c) {
-            return true;
-        }
-    }
-    false
 }

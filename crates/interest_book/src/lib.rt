@@ -9,13 +9,17 @@ mod buffer;
 mod candidates;
 mod client;
 mod clients;
+mod counted_set;
 mod counts;
 mod frame;
+mod frames;
 mod holds;
 mod loading;
 mod need;
 mod noting;
 mod reading;
+mod shifting;
+mod tallies;
 
 pub use book::Book;
 pub use loading::Underway;

@@ -1,6 +1,5 @@
 //! A book follows entries, each kind in its own way.
 use crate::book::Book;
-use crate::clients;
 use crate::loading::{Loading, after_fill};
 use scan_story::{Entry, Hold};
 
@@ -15,10 +14,11 @@ impl Book {
 
     fn note_register(&mut self, query: u32)
         requires query { query ≤ 256 }
+        requires some { 0 < query }
         requires few { self.old.noted < 2 ^ 63 - 1 }
         ensures { (s : Setting) (h : History) (w : ℕ) → Stands self.old s h → Allowed s h (Register w query) → Stands self.new s (Register w query ∷ h) }
     {
-        clients::register(&mut self.clients, query, self.noted);
+        self.clients.register(query, self.noted);
         self.noted += 1;
     }
 
@@ -30,7 +30,7 @@ impl Book {
     {
         let left = self
             .buffer
-            .missing_for(&self.clients[query as usize].reads, chunk);
+            .missing_for(&self.clients.of(query).reads, chunk);
         self.loading = Some(Loading {
             worker,
             query,
@@ -46,12 +46,12 @@ impl Book {
         ensures { (s : Setting) (h : History) (w : ℕ) → Stands self.old s h → Allowed s h (Evict w chunk) → Stands self.new s (Evict w chunk ∷ h) }
     {
         self.buffer.evict(chunk);
-        clients::renew(&mut self.clients, &self.buffer, chunk);
+        self.clients.renew(&self.buffer, chunk);
         self.noted += 1;
     }
 
     fn note_fill(&mut self, frame: u32, piece: u32)
-        requires frame { frame < length self.old.buffer.frames.items }
+        requires frame { frame < length self.old.buffer.frames }
         requires few { self.old.noted < 2 ^ 63 - 1 }
         ensures { (s : Setting) (h : History) (w : ℕ) → Stands self.old s h → Allowed s h (Fill w frame piece) → Stands self.new s (Fill w frame piece ∷ h) }
     {
@@ -60,7 +60,7 @@ impl Book {
     }
 
     fn note_filled(&mut self, frame: u32, piece: u32)
-        requires frame { frame < length self.old.buffer.frames.items }
+        requires frame { frame < length self.old.buffer.frames }
         requires piece { piece / self.old.buffer.groups < 1024 }
         requires few { self.old.noted < 2 ^ 63 - 1 }
         ensures { (s : Setting) (h : History) (w : ℕ) → Stands self.old s h → Allowed s h (Filled w frame piece) → Stands self.new s (Filled w frame piece ∷ h) }
@@ -69,7 +69,7 @@ impl Book {
         let loading = after_fill(self.loading);
         self.loading = loading;
         self.buffer.finish(frame, piece, loading.is_none());
-        clients::renew(&mut self.clients, &self.buffer, chunk);
+        self.clients.renew(&self.buffer, chunk);
         self.noted += 1;
     }
 
@@ -78,7 +78,7 @@ impl Book {
         requires few { self.old.noted < 2 ^ 63 - 1 }
         ensures { (s : Setting) (h : History) (w p : ℕ) (why : Why) → Stands self.old s h → Allowed s h (Failed w query p why) → Stands self.new s (Failed w query p why ∷ h) }
     {
-        clients::stop(&mut self.clients, query);
+        self.clients.stop(query);
         self.buffer.give_up();
         self.loading = None;
         self.noted += 1;
@@ -91,7 +91,7 @@ impl Book {
         requires few { self.old.noted < 2 ^ 63 - 1 }
         ensures { (s : Setting) (h : History) → Stands self.old s h → Allowed s h (Deliver worker query chunk) → Stands self.new s (Deliver worker query chunk ∷ h) }
     {
-        clients::deliver(&mut self.clients, query, chunk);
+        self.clients.deliver(query, chunk);
         self.holds[worker as usize] = Some(Hold { query, chunk });
         self.noted += 1;
     }
@@ -102,7 +102,7 @@ impl Book {
         requires few { self.old.noted < 2 ^ 63 - 1 }
         ensures { (s : Setting) (h : History) (c : ℕ) → Stands self.old s h → Allowed s h (Release worker query c) → Stands self.new s (Release worker query c ∷ h) }
     {
-        clients::release(&mut self.clients, query, self.noted);
+        self.clients.release(query, self.noted);
         self.holds[worker as usize] = None;
         self.noted += 1;
     }
@@ -112,7 +112,7 @@ impl Book {
         requires few { self.old.noted < 2 ^ 63 - 1 }
         ensures { (s : Setting) (h : History) (w : ℕ) → Stands self.old s h → Allowed s h (Stop w query) → Stands self.new s (Stop w query ∷ h) }
     {
-        clients::stop(&mut self.clients, query);
+        self.clients.stop(query);
         self.noted += 1;
     }
 
@@ -121,7 +121,7 @@ impl Book {
         requires few { self.old.noted < 2 ^ 63 - 1 }
         ensures { (s : Setting) (h : History) (w : ℕ) → Stands self.old s h → Allowed s h (End w query) → Stands self.new s (End w query ∷ h) }
     {
-        clients::end(&mut self.clients, query);
+        self.clients.end(query);
         self.noted += 1;
     }
 

@@ -21,9 +21,9 @@ impl Book {
 
     pub(crate) fn client(&self, q: u32) -> &Client
         requires { q ≤ 256 }
-        ensures { result.now ≡ client_at self.now.clients.items q }
+        ensures { result.now ≡ client_at self.now.clients q }
     {
-        counts::client_of(&self.clients, q)
+        self.clients.of(q)
     }
 
     // Whether the query's worker holds a chunk for it.
@@ -79,7 +79,7 @@ impl Book {
         requires { q ≤ 256 }
         ensures { (s : Setting) (h : History) → Stands self.now s h → result ≡ is_starved s h q }
     {
-        counts::is_starved(&self.clients, q)
+        self.client(q).is_starved()
     }
 
     /// How many active queries need the chunk, at most 256.
@@ -87,7 +87,10 @@ impl Book {
         ensures number { (s : Setting) (h : History) → Stands self.now s h → result ≡ interested s h c }
         ensures few { result ≤ 256 }
     {
-        counts::interested(&self.needs, &self.clients, c)
+        if c >= self.chunks {
+            return 0;
+        }
+        self.clients.interested(c)
     }
 
     /// How many starved queries need the chunk, at most 256.
@@ -95,7 +98,10 @@ impl Book {
         ensures number { (s : Setting) (h : History) → Stands self.now s h → result ≡ starved_interested s h c }
         ensures few { result ≤ 256 }
     {
-        counts::starved_interested(&self.needs, &self.clients, c)
+        if c >= self.chunks {
+            return 0;
+        }
+        self.clients.starved_interested(c)
     }
 
     /// How many active queries have the chunk available and at most two available chunks; at most 256.
@@ -103,7 +109,10 @@ impl Book {
         ensures number { (s : Setting) (h : History) → Stands self.now s h → result ≡ close s h c }
         ensures few { result ≤ 256 }
     {
-        counts::close(&self.needs, &self.clients, c)
+        if c >= self.chunks {
+            return 0;
+        }
+        self.clients.close(c)
     }
 
     /// How many entries the query has waited: 0 before its Register, and while its worker holds a chunk for it.
@@ -123,7 +132,7 @@ impl Book {
         ensures number { (s : Setting) (h : History) → Stands self.now s h → result ≡ running s h }
         ensures few { result ≤ 256 }
     {
-        counts::running(&self.needs, &self.clients)
+        self.clients.running()
     }
 
     /// How many pieces of the chunk are in frames, at most 16.
@@ -159,6 +168,9 @@ impl Book {
         ensures number { (s : Setting) (h : History) → Stands self.now s h → result ≡ overlap s h q c }
         ensures few { result ≤ 256 }
     {
+        if self.buffer.groups == 1 {
+            return self.interested(c);
+        }
         counts::overlap(&self.needs, &self.clients, self.buffer.groups, q, c)
     }
 
@@ -168,6 +180,9 @@ impl Book {
         ensures number { (s : Setting) (h : History) → Stands self.now s h → result ≡ starved_overlap s h q c }
         ensures few { result ≤ 256 }
     {
+        if self.buffer.groups == 1 {
+            return self.starved_interested(c);
+        }
         counts::starved_overlap(&self.needs, &self.clients, self.buffer.groups, q, c)
     }
 
@@ -175,7 +190,10 @@ impl Book {
     pub fn feeds_starved(&self, c: u32) -> bool
         ensures { (s : Setting) (h : History) → Stands self.now s h → result ≡ feeds_starved s h c }
     {
-        counts::feeds_starved(&self.needs, &self.clients, c)
+        if c >= self.chunks {
+            return false;
+        }
+        self.clients.fed(c) > 0
     }
 
     /// How many frames are free.

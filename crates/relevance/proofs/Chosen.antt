@@ -16,7 +16,7 @@ use Rattle.scan_story.specs.MayFollow.{is_target, is_ready, is_trigger, is_victi
 use Rattle.interest_book.specs.declared.book.Book.{Book}
 use Rattle.interest_book.specs.Stands.{Stands}
 use Rattle.interest_book.proofs.Below.{equal_number, true_false}
-use Rattle.interest_book.proofs.Needs.{is_need}
+use Rattle.interest_book.proofs.Needs.{is_need, need_small}
 use Rattle.interest_book.proofs.Kept.{keeps, active_registered, target_inside, victim_inside}
 use Rattle.interest_book.proofs.Counting.{whole_is}
 use Rattle.interest_book.proofs.Beginning.{some_groups}
@@ -31,14 +31,12 @@ use Rattle.relevance.proofs.Choosing.{IsBestBelow, best_is, greater_order, less_
 -- Candidates are within their bounds
 
 pub active_small : (b : Book) (q : ℕ) → HasActive b q → q ≤ 256
-active_small b q a = (keeps a.setting a.history a.stands.setting a.stands.followed).registered q (active_registered a.history q a.active)
-
-need_small : (s : Setting) (q : ℕ) (o : Option Need) → IsSetting s → need_of s q ≡ o → is_some o ≡ true → q < 257
-need_small s q None ok e some = absurd (true_false false some refl)
-need_small s q (Some n) ok e some = let i = is_need s q n ok e in let most = i.0.query.1 in omega (arith, most, i.1)
+active_small b q a = (need_small a.setting q a.stands.setting ((keeps a.setting a.history a.stands.setting a.stands.followed).registered q (active_registered a.history q a.active))).1
 
 trigger_inside : (s : Setting) (h : History) (q : ℕ) → IsSetting s → is_trigger s h q ≡ true → q < 257
-trigger_inside s h q ok e = need_small s q (need_of s q) ok refl (front (is_some (need_of s q)) (is_none (underway s h)) (is_starved s h q) (any_below (is_target s h q) s.chunks) e)
+trigger_inside s h q ok e =
+    let most = (need_small s q ok (front (is_some (need_of s q)) (is_none (underway s h)) (is_starved s h q) (any_below (is_target s h q) s.chunks) e)).1 in
+    omega (arith, most)
   where
     front : (a b d f : Bool) → (a && b && d && f) ≡ true → a ≡ true
     front true b d f e = refl

@@ -6,8 +6,8 @@ use Rattle.interest_book.specs.Fresh.{made_for, IsFresh, AreFresh}
 use Rattle.interest_book.proofs.Beginning.{query_small, few_made, setting_of, fresh_client, fresh_ready, fresh_frames, fresh_as}
 use Rattle.interest_book.proofs.book.Book.new.Goals as goal
 
-pub fresh-requires : goal.fresh-requires
-fresh-requires c = record {
+pub new-requires : goal.new-requires
+new-requires c = record {
   queries = subst (λ (ns : List Need). All (λ n. n.query < 257) ns) (sym c.deref.ensures.value)
       (λ k d lt. (let low = query_small (made_for c.args.needs.items c.args.chunks c.args.workers c.args.frames c.args.groups) c.args.needs.items k d c.requires.needs lt in omega (arith, low)));
 }
@@ -28,7 +28,7 @@ invariant_of-result c = record {
 pub returns : goal.returns
 returns c = λ s is.
     let ok = setting_of s c.args.needs.items c.args.chunks c.args.workers c.args.frames c.args.groups is c.requires in
-    let ks = c.in_ok-clients.clients.items in
+    let ks = c.in_ok-clients.clients in
     let fresh : AreFresh c.args.groups c.args.needs.items ks 257 = subst (λ (ns : List Need). AreFresh c.args.groups ns ks 257) c.deref.ensures.value c.in_ok-clients.ensures.each in
     let b = c.in_ok-buffer.ensures in
     let each : (q : ℕ) → q < length ks → IsFresh s.groups (need_of s q) (client_at ks q) = λ q lt. fresh_as s c.args.needs.items c.args.chunks c.args.workers c.args.frames c.args.groups ks q is (fresh q (omega (arith, lt, c.in_ok-clients.ensures.length))) in
@@ -41,7 +41,7 @@ returns c = λ s is.
       noted = refl;
       clients = λ q lt. fresh_client s q (client_at ks q) (each q lt);
       ready = λ q lt. fresh_ready s q (client_at ks q) ok (each q lt).available;
-      buffer = fresh_frames s c.in_ok-buffer.buffer.groups c.in_ok-buffer.buffer.frames.items c.in_ok-buffer.buffer.places.items c.in_ok-buffer.buffer.begun.items (b.groups ∙ is.groups) (b.length ∙ is.frames) b.free b.places;
+      buffer = fresh_frames s c.in_ok-buffer.buffer.groups c.in_ok-buffer.buffer.frames c.in_ok-buffer.buffer.places.items c.in_ok-buffer.buffer.begun.items (b.groups ∙ is.groups) (b.length ∙ is.frames) b.free b.places;
       holds = λ w lt. c.in_ok-holds.ensures.none w;
       loading = refl;
     }

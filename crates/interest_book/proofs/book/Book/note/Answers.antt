@@ -6,7 +6,7 @@ use Rattle.interest_book.proofs.book.Book.note.Goals as goal
 pub note_register-requires : goal.note_register-requires
 note_register-requires c =
     let i = register_inside c.args.self.now _ _ (subst (MayFollow c.args.self.now) c.in-Register.is c.requires) in
-    record { query = i.0; few = i.1 }
+    record { query = i.1; some = i.0; few = i.2 }
 
 pub note_plan-requires : goal.note_plan-requires
 note_plan-requires c =

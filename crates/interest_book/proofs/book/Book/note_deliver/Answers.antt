@@ -1,8 +1,5 @@
-use Rattle.std.proofs.Common.{◌∷◌, arith, subst, sym, refl, List, Some}
-use Rattle.std.proofs.lemmas.List.{with_items_is}
+use Rattle.std.proofs.Common.{arith, refl, Some}
 use Rattle.scan_story.specs.declared.entry.Entry.TheVariants.{Deliver}
-use Rattle.interest_book.specs.declared.client.Client.{Client}
-use Rattle.interest_book.specs.Clients.{AreClients, AreReady}
 use Rattle.interest_book.proofs.Buffering.{frames_on}
 use Rattle.interest_book.proofs.Holding.{holds_set, delivered, delivered_other}
 use Rattle.interest_book.proofs.book.Book.note_deliver.Goals as goal
@@ -11,11 +8,6 @@ pub returns : goal.returns
 returns c = λ s h st may.
     let b = c.args.self.now in
     let q = c.args.query in
-    let ks = with_items_is b.clients c.deliver.new.clients (omega arith) in
-    let Clients : List Client → Type 0 = AreClients s (Deliver c.args.worker q c.args.chunk ∷ h) in
-    let Ready : List Client → Type 0 = AreReady s (Deliver c.args.worker q c.args.chunk ∷ h) in
-    let clients = subst (AreClients s h) (sym c.deref_mut.ensures.value) st.clients in
-    let ready = subst (AreReady s h) (sym c.deref_mut.ensures.value) st.ready in
     record {
       setting = st.setting;
       followed = (may, st.followed);
@@ -23,9 +15,9 @@ returns c = λ s h st may.
       chunks = st.chunks;
       workers = st.workers;
       noted = omega (arith, st.noted);
-      clients = subst Clients (sym ks) (c.deliver.ensures.follows s h c.args.worker clients);
-      ready = subst Ready (sym ks) (c.deliver.ensures.ready s h c.args.worker ready);
-      buffer = frames_on s (Deliver c.args.worker q c.args.chunk) h b.buffer.groups b.buffer.frames.items b.buffer.places.items b.buffer.begun.items (λ f. refl) refl st.buffer;
+      clients = c.deliver.ensures.follows s h c.args.worker st.clients;
+      ready = c.deliver.ensures.ready s h c.args.worker st.ready;
+      buffer = frames_on s (Deliver c.args.worker q c.args.chunk) h b.buffer.groups b.buffer.frames b.buffer.places.items b.buffer.begun.items (λ f. refl) refl st.buffer;
       holds = holds_set (Deliver c.args.worker q c.args.chunk) h b.holds.items c.args.worker (Some (record { query = q; chunk = c.args.chunk })) (λ v ne. delivered_other h c.args.worker q c.args.chunk v ne) (delivered h c.args.worker q c.args.chunk) (omega (arith, c.requires.worker, b.parts.holds)) st.holds;
       loading = st.loading;
     }

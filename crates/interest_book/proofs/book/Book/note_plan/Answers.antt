@@ -6,7 +6,7 @@ use Rattle.scan_story.specs.Counting.{has}
 use Rattle.scan_story.specs.Setting.{reads_group}
 use Rattle.interest_book.specs.declared.client.Client.{Client}
 use Rattle.interest_book.specs.declared.loading.Loading.{Loading}
-use Rattle.interest_book.proofs.Following.{client_read, clients_on, all_ready_on, spares_plan}
+use Rattle.interest_book.proofs.Following.{clients_on, all_ready_on, spares_plan}
 use Rattle.interest_book.proofs.Buffering.{frames_plan}
 use Rattle.interest_book.proofs.Counting.{missing_is}
 use Rattle.interest_book.proofs.OpenPieces.{all_open}
@@ -21,10 +21,10 @@ returns c = λ s h st may.
     let w = c.args.worker in
     let q = c.args.query in
     let d = c.args.chunk in
-    let inside : q < length b.clients.items = omega (arith, c.requires.query, b.parts.clients) in
-    let reads : (g : ℕ) → has c.index.result.now.reads g ≡ reads_group s q g = subst (λ (k : Client). (g : ℕ) → has k.reads g ≡ reads_group s q g) (sym c.index.ensures) (client_read s h b.clients.items q c.index.result.now inside st.clients).reads in
+    let inside : q < length b.clients = omega (arith, c.requires.query, b.parts.clients) in
+    let reads : (g : ℕ) → has c.of.result.now.reads g ≡ reads_group s q g = subst (λ (k : Client). (g : ℕ) → has k.reads g ≡ reads_group s q g) (sym c.of.ensures) (st.clients q inside).reads in
     let left : c.missing_for-left.result ≡ missing_for s h q d = c.missing_for-left.ensures.number
-    ∙ missing_is s h b.buffer.groups b.buffer.frames.items b.buffer.places.items b.buffer.begun.items q d c.index.result.now.reads st.setting st.buffer c.requires.chunk reads in
+    ∙ missing_is s h b.buffer.groups b.buffer.frames b.buffer.places.items b.buffer.begun.items q d c.of.result.now.reads st.setting st.buffer c.requires.chunk reads in
     record {
       setting = st.setting;
       followed = (may, st.followed);
@@ -32,9 +32,9 @@ returns c = λ s h st may.
       chunks = st.chunks;
       workers = st.workers;
       noted = omega (arith, st.noted);
-      clients = clients_on s (Plan w q d) h b.clients.items (spares_plan w q d) st.clients;
-      ready = all_ready_on s (Plan w q d) h b.clients.items (spares_plan w q d) (λ f. refl) st.ready;
-      buffer = frames_plan s w q d h b.buffer.groups b.buffer.frames.items b.buffer.places.items b.buffer.begun.items may.none_underway st.buffer;
+      clients = clients_on s (Plan w q d) h b.clients (spares_plan w q d) st.clients;
+      ready = all_ready_on s (Plan w q d) h b.clients (spares_plan w q d) (λ f. refl) st.ready;
+      buffer = frames_plan s w q d h b.buffer.groups b.buffer.frames b.buffer.places.items b.buffer.begun.items may.none_underway st.buffer;
       holds = st.holds;
       loading = ap (λ (n : ℕ). Some (kept_load w q d n)) (left ∙ sym (all_open (missing_pieces s h q d)));
     }

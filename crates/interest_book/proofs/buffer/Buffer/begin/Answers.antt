@@ -1,4 +1,7 @@
-use Rattle.std.proofs.Common.{arith}
+use Rattle.std.proofs.Common.{◌%◌, ◌∷◌, arith, List, Some, set, subst, sym}
+use Rattle.scan_story.specs.declared.entry.Entry.TheVariants.{Fill}
+use Rattle.interest_book.specs.declared.frame.Frame.{Frame}
+use Rattle.interest_book.specs.Buffers.{AreFrames}
 use Rattle.interest_book.proofs.Buffering.{frames_fill}
 use Rattle.interest_book.proofs.Kept.{keeps}
 use Rattle.interest_book.proofs.buffer.Buffer.begin.Goals as goal
@@ -7,4 +10,6 @@ pub returns : goal.returns
 returns c = λ s h w ok all may is.
     let b = c.args.self.now in
     let few = b.sized.groups.1 in
-    frames_fill s w c.args.frame c.args.piece h b.groups b.frames.items b.places.items b.begun.items b.sized.groups.0 (omega (arith, few, b.sized.begun)) (keeps s h ok all) may is
+    let p = c.args.piece in
+    let Frames : List Frame → Type 0 = λ x. AreFrames s (Fill w c.args.frame p ∷ h) b.groups x b.places.items (set b.begun.items (p % b.groups) (Some c.args.frame)) in
+    subst Frames (sym c.put.ensures) (frames_fill s w c.args.frame p h b.groups b.frames b.places.items b.begun.items b.sized.groups.0 (omega (arith, few, b.sized.begun)) (keeps s h ok all) may is)

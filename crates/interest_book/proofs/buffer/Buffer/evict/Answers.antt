@@ -1,8 +1,6 @@
-use Rattle.std.proofs.Common.{◌≡◌, ◌+◌, ◌*◌, ◌∷◌, ◌&&◌, ℕ, List, Option, None, nat_le, nat_lt, if◌then◌else◌, length, arith, subst, sym, ap, ◌∙◌}
-use Rattle.std.specs.Vec.{with_items}
+use Rattle.std.proofs.Common.{◌≡◌, ◌+◌, ◌*◌, ◌∷◌, ◌&&◌, ℕ, List, Option, None, nat_le, nat_lt, if◌then◌else◌, arith, subst, sym, ap, ◌∙◌}
 use Rattle.std.proofs.lemmas.List.{with_items_is}
 use Rattle.scan_story.specs.declared.entry.Entry.TheVariants.{Evict}
-use Rattle.interest_book.specs.declared.frame.Frame.{Frame}
 use Rattle.interest_book.specs.declared.frame.Frame.TheVariants.{Free}
 use Rattle.interest_book.specs.Frames.{frame_at, place_at, has_of}
 use Rattle.interest_book.specs.Buffers.{AreFrames}
@@ -15,16 +13,13 @@ returns c = λ s h w ok all may inside is.
     let b = c.args.self.now in
     let n = b.groups in
     let d = c.args.chunk in
-    let fs = with_items_is b.frames c.leave.new.frames (omega arith) in
     let ps = with_items_is b.places c.leave.new.places (omega arith) in
     let new_frames = c.leave.new.frames in
     let new_places = c.leave.new.places in
-    let frees : (f : ℕ) → frame_at new_frames f ≡ (if has_of b.places.items (d * n) n f then Free else frame_at b.frames.items f) = λ f.
-    c.leave.ensures.frames f ∙ (ap (λ (x : List (Option ℕ)). if has_of x (d * n) n f then Free else frame_at c.deref_mut.result.now f) c.deref_mut-2.ensures.value
-    ∙ ap (λ (x : List Frame). if has_of b.places.items (d * n) n f then Free else frame_at x f) c.deref_mut.ensures.value) in
+    let frees : (f : ℕ) → frame_at new_frames f ≡ (if has_of b.places.items (d * n) n f then Free else frame_at b.frames f) = λ f.
+    c.leave.ensures.frames f ∙ ap (λ (x : List (Option ℕ)). if has_of x (d * n) n f then Free else frame_at b.frames f) c.deref_mut.ensures.value in
     let leaves : (p : ℕ) → place_at new_places p ≡ (if nat_le (d * n) p && nat_lt p (d * n + n) then None else place_at b.places.items p) = λ p.
-    c.leave.ensures.places p ∙ ap (λ (x : List (Option ℕ)). if nat_le (d * n) p && nat_lt p (d * n + n) then None else place_at x p) c.deref_mut-2.ensures.value in
-    let size : length new_frames ≡ length b.frames.items = c.leave.ensures.length ∙ ap length c.deref_mut.ensures.value in
+    c.leave.ensures.places p ∙ ap (λ (x : List (Option ℕ)). if nat_le (d * n) p && nat_lt p (d * n + n) then None else place_at x p) c.deref_mut.ensures.value in
+    let size = c.leave.ensures.length in
     let Places : List (Option ℕ) → Type 0 = λ x. AreFrames s (Evict w d ∷ h) n new_frames x b.begun.items in
-    let Frames : List Frame → Type 0 = λ x. AreFrames s (Evict w d ∷ h) n x (with_items b.places new_places).items b.begun.items in
-    subst Frames (sym fs) (subst Places (sym ps) (frames_evict s w d h n b.frames.items new_frames b.places.items new_places b.begun.items ok (keeps s h ok all) may inside size frees leaves is))
+    subst Places (sym ps) (frames_evict s w d h n b.frames new_frames b.places.items new_places b.begun.items ok (keeps s h ok all) may inside size frees leaves is)

@@ -1,9 +1,0 @@
-use Rattle.std.proofs.Common.{◌≡◌, ◌+◌, ◌≤◌, drop}
-use Rattle.interest_book.specs.Counts.{is_starved_for, count_queries}
-use Rattle.interest_book.proofs.counts.starved_interested.Given as goal
-
-abbrev pub invariant-loop-n : goal.invariant-loop-n
-invariant-loop-n l = record {
-  value : l.count + count_queries (is_starved_for l.clients l.c) (drop l.n-index l.needs) ≡ count_queries (is_starved_for l.clients l.c) l.needs;
-  fits : count_queries (is_starved_for l.clients l.c) l.needs ≤ 256;
-}
