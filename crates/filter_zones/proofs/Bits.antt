@@ -1,9 +1,9 @@
 -- Words whose bits are those of chunks.
-use Rattle.std.proofs.Common.{◌≡◌, ◌<◌, ◌+◌, ◌==◌, ◌^◌, ◌*◌, ◌%◌, ℕ, zero, suc, Bool, true, false, bit_and, bit_or, refl, sym, ◌∙◌, arith, inl, inr}
-use Rattle.std.specs.Prelude.{◌&&◌, ◌||◌, if◌then◌else◌, nat_lt, min, max}
-use Rattle.std.specs.Int.{bit_at, w64}
+use Rattle.std.proofs.Common.{◌≡◌, ◌<◌, ◌+◌, ◌-◌, ◌==◌, ◌^◌, ◌*◌, ◌%◌, ◌/◌, ℕ, zero, suc, Bool, true, false, bit_and, bit_or, refl, sym, ap, ◌∙◌, arith, inl, inr}
+use Rattle.std.specs.Prelude.{◌&&◌, ◌||◌, if◌then◌else◌, nat_lt, not, min, max}
+use Rattle.std.specs.Int.{bit_at, bit_not, w64}
 use Rattle.std.proofs.lemmas.Bool.{cases_eq, cases_order, and_parts, eq-eqb, ne_eqb, lt-ltb, le-ltb}
-use Rattle.std.proofs.lemmas.Nat.Bits.{bit_at_and, bit_at_or, bit_at-lt, bit_at-zero, bit_at_set_same, bit_at_set_other}
+use Rattle.std.proofs.lemmas.Nat.Bits.{bit_at_and, bit_at_or, bit_at-lt, bit_at-zero, bit_at_lowest, bit_at_above, bit_at_cat_low, bit_at_cat_high, bit_at_not, bit_at_set_same, bit_at_set_other}
 use Rattle.filter_zones.specs.declared.masks.Masks.{Masks}
 use Rattle.filter_zones.specs.declared.truth.Truth.TheVariants as truth
 use Rattle.filter_zones.specs.declared.truth_set.TruthSet.{TruthSet}
@@ -69,12 +69,12 @@ in_set f s e =
     let y = in_each (λ y. each (λ z. f (record { can_false = s.can_false; can_unknown = y; can_true = z }))) s.can_unknown x in
     in_each (λ z. f (record { can_false = s.can_false; can_unknown = s.can_unknown; can_true = z })) s.can_true y
 
-abbrev alike : Bool → Bool → Bool
+abbrev pub alike : Bool → Bool → Bool
 alike false false = true
 alike true true = true
 alike _ _ = false
 
-alike_is : (a b : Bool) → alike a b ≡ true → a ≡ b
+pub alike_is : (a b : Bool) → alike a b ≡ true → a ≡ b
 alike_is false false e = refl
 alike_is true true e = refl
 alike_is false true e = e
@@ -129,3 +129,32 @@ one_more truths k old new was step j = elim (cases_order j k) [
 
 pub none_at : (j : ℕ) → truths_at (record { can_false = 0; can_unknown = 0; can_true = 0 }) j ≡ no_truths
 none_at j = rw (bit_at-zero j) refl
+
+-- ---- a word moved up by one bit, with a bit put in below
+
+moved_from : (x j : ℕ) → j < 64 → bit_at (x % 2 ^ 64) j ≡ bit_at x j
+moved_from x j low = sym (bit_at_cat_low (x / 2 ^ 64) 64 (x % 2 ^ 64) j low) ∙ ap (λ y. bit_at y j) (omega arith)
+
+pub pushed_first : (word b : ℕ) → b < 2 → bit_at (bit_or (word * 2 ^ 1 % 2 ^ 64) b) 0 ≡ b
+pushed_first word b small =
+    let low : bit_at (word * 2 ^ 1 % 2 ^ 64) 0 ≡ bit_at (word * 2 ^ 1 + 0) 0 = moved_from (word * 2 ^ 1) 0 (omega arith) ∙ ap (λ x. bit_at x 0) (omega arith) in
+    omega (arith, bit_at_or (word * 2 ^ 1 % 2 ^ 64) b 0, low, bit_at_cat_low word 1 0 0 (omega arith), bit_at-zero 0, bit_at_lowest b)
+
+pub pushed_rest : (word b j : ℕ) → b < 2 → j < 63 → bit_at (bit_or (word * 2 ^ 1 % 2 ^ 64) b) (j + 1) ≡ bit_at word j
+pushed_rest word b j small low =
+    let same : bit_at (word * 2 ^ 1 % 2 ^ 64) (j + 1) ≡ bit_at (word * 2 ^ 1 + 0) (j + 1) = moved_from (word * 2 ^ 1) (j + 1) (omega arith) ∙ ap (λ x. bit_at x (j + 1)) (omega arith) in
+    let up : bit_at (word * 2 ^ 1 + 0) (j + 1) ≡ bit_at word j = bit_at_cat_high word 1 0 (j + 1) (omega arith) (omega arith) ∙ ap (bit_at word) (omega arith) in
+    omega (arith, bit_at_or (word * 2 ^ 1 % 2 ^ 64) b (j + 1), same, up, bit_at_above b 1 (j + 1) (omega arith) (omega arith))
+
+pub pushed_bit : (word : ℕ) (b : ℕ) → b < 2 → is_set (bit_or (word * 2 ^ 1 % 2 ^ 64) b) 0 ≡ (b == 1)
+pushed_bit word b small = ap (λ x. x == 1) (pushed_first word b small)
+
+pub pushed_others : (word b j : ℕ) → b < 2 → j < 63 → is_set (bit_or (word * 2 ^ 1 % 2 ^ 64) b) (j + 1) ≡ is_set word j
+pushed_others word b j small low = ap (λ x. x == 1) (pushed_rest word b j small low)
+
+pub without_set : (a b k : ℕ) → b < 2 ^ 64 → k < 64 → is_set (bit_and a (bit_not w64 b)) k ≡ (is_set a k && not (is_set b k))
+without_set a b k fits low = and_set a (bit_not w64 b) k ∙ ap (λ x. is_set a k && (x == 1)) (bit_at_not w64 b k fits low) ∙ ap (λ x. is_set a k && x) (by (bit_at b k) (bit_at-lt b k)) where
+  by : (x : ℕ) → x < 2 → (1 - x == 1) ≡ not (x == 1)
+  by zero l = refl
+  by (suc zero) l = refl
+  by (suc (suc x)) l = absurd (omega (arith, l))

@@ -36,10 +36,10 @@ at_most Greater p = false
 
 -- ---- a comparison, by how the least cell, the cell and the greatest stand to the value
 
-abbrev each_order : (Ordering → Bool) → Bool
+abbrev pub each_order : (Ordering → Bool) → Bool
 each_order f = f Less && (f Equal && f Greater)
 
-order_in : (f : Ordering → Bool) (o : Ordering) → each_order f ≡ true → f o ≡ true
+pub order_in : (f : Ordering → Bool) (o : Ordering) → each_order f ≡ true → f o ≡ true
 order_in f Less e = (and_parts (f Less) (f Equal && f Greater) e).0
 order_in f Equal e = (and_parts (f Equal) (f Greater) (and_parts (f Less) (f Equal && f Greater) e).1).0
 order_in f Greater e = (and_parts (f Equal) (f Greater) (and_parts (f Less) (f Equal && f Greater) e).1).1

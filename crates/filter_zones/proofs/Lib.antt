@@ -5,3 +5,4 @@ pub mod Law
 pub mod Sets
 pub mod Fitting
 pub mod Bits
+pub mod Joined

@@ -2,3 +2,4 @@ pub mod Truth
 pub mod Zone
 pub mod Possible
 pub mod Masks
+pub mod Ends

@@ -2,6 +2,7 @@
 #![tactic(auto)]
 
 mod cond;
+mod ends;
 mod masks;
 mod possible;
 mod pruning;

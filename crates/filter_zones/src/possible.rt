@@ -7,9 +7,10 @@ ghost use Rattle.filter_zones.specs.Masks.{AreTruths};
 ghost use Rattle.filter_zones.specs.Possible as spec;
 
 use crate::cond::{Bound, Cond, is_above, is_below};
+use crate::ends::EndMasks;
 use crate::masks::Masks;
 use crate::truth_set::TruthSet;
-use crate::zone::{ChunkZones, Zone};
+use crate::zone::{ChunkZones, Zone, zone_at};
 use table_core::{Cell, Op};
 
 fn differs(cell: Cell, value: Bound) -> bool
@@ -75,13 +76,6 @@ fn null_tests(negated: bool, zone: &Zone) -> TruthSet
     if negated { nulls.opposites() } else { nulls }
 }
 
-fn zone_at(zones: &[Zone; 16], column: u32) -> &Zone
-    requires { column < length zones.now }
-    ensures { result.now ≡ zone_of_column zones.now column }
-{
-    &zones[column as usize]
-}
-
 // The possible truths, from the parts of the condition to the whole.
 fn truths(cond: &Cond, zones: &ChunkZones) -> TruthSet
     requires { spec.FitsZones cond.now zones.now.zones }
@@ -114,11 +108,7 @@ fn ranged_in_each(column: u32, op: Op, value: Bound, chunks: &[ChunkZones]) -> M
     requires there { All (λ chunk. column < length chunk.zones) chunks.now }
     ensures { AreTruths (λ chunk. let zone = zone_of_column chunk.zones column in spec.ranged op value zone.has_null zone.range) chunks.now result }
 {
-    let mut masks = Masks::NONE;
-    for (k, chunk) in chunks.iter().enumerate() {
-        masks.add(k as u32, ranged(op, value, zone_at(&chunk.zones, column)));
-    }
-    masks
+    EndMasks::of_chunks(column, value, chunks).truths(op)
 }
 
 // The truths that IS NULL, or IS NOT NULL, may have in each of at most 64 chunks.

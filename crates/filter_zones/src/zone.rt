@@ -26,6 +26,14 @@ pub struct ChunkZones {
     pub zones: [Zone; 16],
 }
 
+// The zone of a column.
+pub(crate) fn zone_at(zones: &[Zone; 16], column: u32) -> &Zone
+    requires { column < length zones.now }
+    ensures { result.now ≡ spec.zone_at zones.now column }
+{
+    &zones[column as usize]
+}
+
 // The zone of a column without cells.
 const NOTHING: Zone = Zone {
     has_null: false,

@@ -1,14 +1,11 @@
-use Rattle.std.proofs.Common.{◌≡◌, ◌==◌, ℕ}
-use Rattle.std.specs.Prelude.{if◌then◌else◌}
-use Rattle.filter_zones.specs.declared.truth_set.TruthSet.{TruthSet}
+use Rattle.std.proofs.Common.{ap, ◌∙◌, arith}
+use Rattle.filter_zones.specs.Ends.{truths_of}
 use Rattle.filter_zones.specs.Zone.{zone_at}
-use Rattle.filter_zones.specs.Possible.{chunk_at, ranged}
-use Rattle.filter_zones.specs.Masks.{truths_at}
-use Rattle.filter_zones.proofs.Bits.{one_more}
+use Rattle.filter_zones.specs.Possible.{chunk_at}
+use Rattle.filter_zones.proofs.Joined.{ends_truths}
 use Rattle.filter_zones.proofs.possible.ranged_in_each.Goals as goal
 
-pub loop-k-preserved : goal.loop-k-preserved
-loop-k-preserved c =
-    let truths : ℕ → TruthSet = λ j. ranged c.args.op c.args.value (zone_at (chunk_at c.args.chunks.now j).zones c.args.column).has_null (zone_at (chunk_at c.args.chunks.now j).zones c.args.column).range in
-    let step : (j : ℕ) → truths_at c.add.new.self j ≡ (if j == c.loop-k.k then truths c.loop-k.k else truths_at c.loop-k.masks j) = λ j. rw (c.ranged.ensures, c.zone_at.ensures) at (c.add.ensures j) in
-    one_more truths c.loop-k.k (truths_at c.loop-k.masks) (truths_at c.add.new.self) c.loop-k.invariant step
+pub returns : goal.returns
+returns c = λ k low.
+    let zone = zone_at (chunk_at c.args.chunks.now k).zones c.args.column in
+    c.truths.ensures k (omega (arith, low, c.requires.few)) ∙ ap (truths_of c.args.op) (c.of_chunks.ensures k low) ∙ ends_truths c.args.op c.args.value zone.has_null zone.range
