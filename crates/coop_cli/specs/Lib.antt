@@ -1,4 +1,5 @@
 pub mod Devices
+pub mod Chosen
 pub mod Tasks
 pub mod Losses
 pub mod Running

@@ -3,7 +3,10 @@
 //! files of the system and standard output.
 #![tactic(auto)]
 
-ghost use Rattle.std.specs.Prelude.{◌≡◌, IfOk};
+ghost use Rattle.std.specs.Prelude.{◌≡◌, IfOk, is_some};
+ghost use Rattle.command_words.specs.Matched.{texts};
+ghost use Rattle.command_words.specs.Options.{scratch_of as name_of_file};
+ghost use Rattle.coop_cli.specs.Chosen.{is_in_file};
 ghost use Rattle.coop_outside.specs.Either.{any_gets};
 
 mod answering;
@@ -46,6 +49,8 @@ fn stop_of(error: io::Error) -> Stop {
 // The depot that the words ask for: a file of this name, or memory.
 fn depot_of(rt: HostRuntime, words: &[String]) -> Result<AnyDepot<HostRuntime>, Stop>
     ensures fresh { IfOk result (λ depot. any_gets depot ≡ 0) }
+    ensures asked { IfOk result (λ depot. is_in_file depot ≡ is_some (name_of_file (texts words.now))) }
+    ensures refused { (stop : Stop) → result ≡ Err stop → stop ≡ Stop.Memory }
 {
     let alloc = rt.alloc();
     match scratch_of(alloc, words) {
