@@ -7,12 +7,14 @@
 mod candidates;
 mod choices;
 mod cursors;
+pub mod examples;
 mod legal;
 mod licensed;
 mod loads;
 mod may;
 mod needs;
 mod numbers;
+pub mod stories;
 mod undisturbed;
 mod views;
 mod whole;
@@ -23,7 +25,7 @@ pub use cursors::cursor_at;
 pub use legal::{first_illegal, is_legal, may_come};
 pub use licensed::is_licensed;
 pub use loads::{begins, free_frames, has_filled, is_free, misses, missing_for, underway};
-pub use needs::{asks_for, chunk_of, piece_at, reads_group};
+pub use needs::{asks_for, chunk_of, piece_at, reads_group, worker_of};
 pub use numbers::{
     available, cached, close, interested, is_starved, needed, overlap, running, starved_overlap,
     waiting,
@@ -35,7 +37,5 @@ pub use views::{
 };
 pub use whole::is_whole;
 
-#[cfg(test)]
-mod stories;
 #[cfg(test)]
 mod tests;

@@ -1,3 +1,5 @@
+//! Stories, for tests: the printed ones, and those of the worked examples.
+
 /// One query over three chunks, alone.
 pub const ONE_COUNT: &str = "register 0 1
 plan 0 1 0
@@ -316,4 +318,49 @@ failed 1 1 1 fault 0 1
 release 0 1 0
 plan 1 2 1
 fill 1 1 1
+";
+
+/// Query 1 has chunks 0 and 2, of which query 2 needs chunk 2 alone.
+pub const TWO_LOADED: &str = "register 0 1
+plan 0 1 0
+fill 0 0 0
+filled 0 0 0
+register 1 2
+plan 0 1 2
+fill 0 1 2
+filled 0 1 2
+";
+
+/// Seven frames are full, and worker 0 has to make room for chunk 8.
+pub const FULL: &str = "register 0 1
+register 1 2
+plan 0 1 0
+fill 0 0 0
+filled 0 0 0
+plan 0 1 1
+fill 0 1 1
+filled 0 1 1
+plan 1 2 2
+fill 1 2 2
+filled 1 2 2
+deliver 1 2 2
+release 1 2 2
+plan 1 2 3
+fill 1 3 3
+filled 1 3 3
+plan 1 2 4
+fill 1 4 4
+filled 1 4 4
+deliver 1 2 3
+release 1 2 3
+plan 1 2 5
+fill 1 5 5
+filled 1 5 5
+deliver 1 2 4
+release 1 2 4
+plan 1 2 6
+fill 1 6 6
+filled 1 6 6
+deliver 1 2 5
+plan 0 2 8
 ";

@@ -6,8 +6,10 @@
 #![tactic(auto)]
 
 mod moves;
+mod settings;
 mod walks;
 
+pub use settings::some_setting;
 pub use walks::walk;
 
 #[cfg(test)]

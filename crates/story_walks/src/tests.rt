@@ -1,89 +1,17 @@
-ghost use Rattle.std.specs.Prelude.{◌<◌, ◌≤◌, IfOk};
-ghost use Rattle.story_judge.specs.Small.{IsSmall};
+ghost use Rattle.std.specs.Prelude.{◌<◌, ◌≤◌};
 
 use crate::numbers::{Seen, expect_laws};
+use crate::settings::some_setting;
 use crate::walks::walk;
 use rand_core::Rng;
 use rand_pcg::Pcg32;
-use scan_story::{Need, PolicyName, Setting};
-use std::alloc::{AllocError, Global};
-use std::collections::LinkedList;
+use scan_story::PolicyName;
+use std::alloc::Global;
 use std::process::Abort;
 use std::test::Fail;
 
 /// One chunk more than fit into the frames of one worker.
 const CHUNKS: u32 = 5;
-
-fn first_cursor(alloc: Global, policy: PolicyName) -> Result<LinkedList<u32>, AllocError> {
-    let cursor: &[u32] = match policy {
-        PolicyName::Relevance | PolicyName::Normal => &[],
-        PolicyName::Elevator => &[0],
-        PolicyName::Attach => &[0; 257],
-    };
-    cursor.iter().copied().collect(alloc)
-}
-
-/// Some of the numbers below `n`, rising: each by the toss of a coin, and at least `n - 1`.
-fn some_of(alloc: Global, rng: &mut Pcg32, n: u32) -> Result<LinkedList<u32>, AllocError> {
-    let mut numbers = LinkedList::new(alloc);
-    for i in 0..n {
-        if i + 1 == n || rng.next_u32() % 4 != 0 {
-            numbers.push_back(i)?;
-        }
-    }
-    Ok(numbers)
-}
-
-fn need(
-    alloc: Global,
-    rng: &mut Pcg32,
-    query: u32,
-    worker: u32,
-    groups: u32,
-) -> Result<Need, AllocError> {
-    let chunks = some_of(alloc, rng, CHUNKS)?;
-    let columns = some_of(alloc, rng, groups)?;
-    Ok(Need {
-        query,
-        worker,
-        chunks,
-        columns,
-    })
-}
-
-/// A setting of one or two workers and two or three queries, with just the frames that it must have.
-fn setting(
-    alloc: Global,
-    policy: PolicyName,
-    groups: u32,
-    rng: &mut Pcg32,
-) -> Result<Setting, AllocError>
-    requires some { 0 < groups }
-    requires few { groups ≤ 16 }
-    ensures { IfOk result IsSmall }
-{
-    let workers: u32 = if rng.next_u32() % 4 == 0 { 2 } else { 1 };
-    let third = rng.next_u32() % 4 == 0;
-    let mut needs = LinkedList::new(alloc);
-    let one = need(alloc, rng, 1, 0, groups)?;
-    needs.push_back(one)?;
-    let two = need(alloc, rng, 2, workers - 1, groups)?;
-    needs.push_back(two)?;
-    if third {
-        let three = need(alloc, rng, 3, 0, groups)?;
-        needs.push_back(three)?;
-    }
-    let cursor = first_cursor(alloc, policy)?;
-    Ok(Setting {
-        needs,
-        chunks: CHUNKS,
-        workers,
-        frames: (3 * workers + 1) * groups,
-        groups,
-        policy,
-        cursor,
-    })
-}
 
 /// 150 walks under the policy, with so many pieces a chunk: each law holds of each beginning of each of them.
 fn expect_walks<R: Abort>(
@@ -106,7 +34,8 @@ fn expect_walks<R: Abort>(
     };
     for seed in 0..150u64 {
         let mut rng = Pcg32::new(seed, 7);
-        let s = setting(alloc, policy, groups, &mut rng)?;
+        let workers: u32 = if rng.next_u32() % 4 == 0 { 2 } else { 1 };
+        let s = some_setting(alloc, policy, CHUNKS, workers, groups, &mut rng)?;
         let story = walk(alloc, &s, seed, 64)?;
         expect_laws(rt, alloc, &s, story.as_slice(), &mut seen)?;
     }
