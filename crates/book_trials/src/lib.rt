@@ -10,10 +10,8 @@ mod trial;
 
 pub use compare::agrees;
 pub use picks::{delivery, load, victim};
-pub use settings::book_of;
+pub use settings::{book_needs, book_of, has_numbers};
 pub use trial::{Trial, played, try_story};
 
-#[cfg(test)]
-mod stories;
 #[cfg(test)]
 mod tests;

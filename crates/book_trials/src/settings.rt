@@ -103,8 +103,8 @@ fn is_new(needs: &[Need], q: u32) -> bool
     true
 }
 
-// The needs of the setting as a book takes them, where a setting may have them.
-fn book_needs(alloc: Global, s: &Setting) -> Result<Option<Vec<Need>>, Memory>
+/// The needs of the setting as a book takes them; `None` where no setting has them. The error is want of memory.
+pub fn book_needs(alloc: Global, s: &Setting) -> Result<Option<Vec<Need>>, Memory>
     requires chunks { s.now.chunks ≤ 1024 }
     requires groups { s.now.groups ≤ 16 }
     ensures { IfOk result (λ o. IfSome o (λ v. AreFit s.now v.items)) }
@@ -122,8 +122,8 @@ fn book_needs(alloc: Global, s: &Setting) -> Result<Option<Vec<Need>>, Memory>
     Ok(Some(needs))
 }
 
-// Whether the numbers are those of a setting.
-fn has_numbers(s: &Setting) -> bool
+/// Whether the numbers are those of a setting.
+pub fn has_numbers(s: &Setting) -> bool
     ensures { IsTrue result → IsFit s.now }
 {
     s.chunks <= 1024

@@ -4,113 +4,38 @@ ghost use Rattle.interest_book.specs.Stands.{Stands};
 ghost use Rattle.story_judge.specs.Small.{IsSmall};
 
 use super::*;
-use crate::stories::*;
 use interest_book::Book;
+use rand_pcg::Pcg32;
 use relevance::{Ratio, keep_ratio, load_ratio, query_rank, use_ratio};
-use scan_story::{Entry, Need, PolicyName, Setting, read_story};
+use scan_story::{Entry, PolicyName, Setting, read_story};
 use std::alloc::{AllocError, Global};
-use std::collections::LinkedList;
 use std::process::Abort;
 use std::test::Fail;
+use story_judge::examples::{
+    columns, need, nine_chunks, one_count, setting, shorter, six_chunks, trigger_stops, two_counts,
+};
+use story_judge::stories::*;
+use story_walks::{some_setting, walk};
 
-fn need(
-    alloc: Global,
-    query: u32,
-    worker: u32,
-    chunks: &[u32],
-    columns: &[u32],
-) -> Result<Need, AllocError> {
-    let chunks = chunks.iter().copied().collect(alloc)?;
-    let columns = columns.iter().copied().collect(alloc)?;
-    Ok(Need {
-        query,
-        worker,
-        chunks,
-        columns,
-    })
-}
+/// How many walks there are of a kind, and of how many steps.
+const WALKS: u64 = 2;
 
-fn first_cursor(alloc: Global, policy: PolicyName) -> Result<LinkedList<u32>, AllocError> {
-    let cursor: &[u32] = match policy {
-        PolicyName::Relevance | PolicyName::Normal => &[],
-        PolicyName::Elevator => &[0],
-        PolicyName::Attach => &[0; 257],
-    };
-    cursor.iter().copied().collect(alloc)
-}
+const STEPS: u32 = 40;
 
-/// A setting of two queries; `numbers` are chunks, workers and frames.
-fn setting(
-    alloc: Global,
-    policy: PolicyName,
-    numbers: [u32; 3],
-    groups: u32,
-    first: Need,
-    second: Need,
-) -> Result<Setting, AllocError>
-    requires some { 0 < groups }
-    requires few { groups ≤ 16 }
+/// A setting of three chunks and four frames, in which these are the chunks of the first query.
+fn with_first(alloc: Global, workers: u32, chunks: &[u32]) -> Result<Setting, AllocError>
     ensures { IfOk result IsSmall }
 {
-    let mut needs = LinkedList::new(alloc);
-    needs.push_back(first)?;
-    needs.push_back(second)?;
-    let cursor = first_cursor(alloc, policy)?;
-    let [chunks, workers, frames] = numbers;
-    Ok(Setting {
-        needs,
-        chunks,
-        workers,
-        frames,
-        groups,
-        policy,
-        cursor,
-    })
-}
-
-fn six_chunks(alloc: Global, policy: PolicyName) -> Result<Setting, AllocError>
-    ensures { IfOk result IsSmall }
-{
-    let first = need(alloc, 1, 0, &[0, 1, 2, 3, 4, 5], &[])?;
-    let second = need(alloc, 2, 0, &[0, 1, 2, 3, 4, 5], &[])?;
-    setting(alloc, policy, [6, 1, 4], 1, first, second)
-}
-
-fn three_chunks(
-    alloc: Global,
-    workers: u32,
-    frames: u32,
-    first: &[u32],
-    second: &[u32],
-) -> Result<Setting, AllocError>
-    ensures { IfOk result IsSmall }
-{
-    let first = need(alloc, 1, 0, first, &[])?;
-    let second = need(alloc, 2, if workers > 1 { 1 } else { 0 }, second, &[])?;
+    let first = need(alloc, 1, 0, chunks, &[])?;
+    let second = need(alloc, 2, 0, &[2], &[])?;
     setting(
         alloc,
         PolicyName::Relevance,
-        [3, workers, frames],
+        [3, workers, 4],
         1,
         first,
-        second,
+        Some(second),
     )
-}
-
-fn columns(alloc: Global) -> Result<Setting, AllocError>
-    ensures { IfOk result IsSmall }
-{
-    let first = need(alloc, 1, 0, &[0, 1], &[0])?;
-    let second = need(alloc, 2, 1, &[1, 2], &[0, 1])?;
-    setting(alloc, PolicyName::Relevance, [3, 2, 14], 2, first, second)
-}
-
-fn nine_chunks(alloc: Global) -> Result<Setting, AllocError>
-    ensures { IfOk result IsSmall }
-{
-    let first = need(alloc, 1, 0, &[0, 1, 2, 7], &[])?;
-    let second = need(alloc, 2, 1, &[2, 3, 4, 5, 6, 8], &[])?;
-    setting(alloc, PolicyName::Elevator, [9, 2, 7], 1, first, second)
 }
 
 fn story<R: Abort>(rt: &R, alloc: Global, text: &str) -> Vec<Entry> {
@@ -128,13 +53,14 @@ fn trial<R: Abort>(rt: &R, alloc: Global, s: &Setting, text: &str) -> Result<Tri
 #[test]
 fn the_book_agrees_with_the_judge_after_each_entry(rt: HostRuntime) -> Result<(), Fail> {
     let alloc = rt.alloc();
-    let s = three_chunks(alloc, 1, 4, &[0, 1, 2], &[0, 1, 2])?;
+    let s = one_count(alloc)?;
     assert_eq!(rt; trial(&rt, alloc, &s, ONE_COUNT)?, Trial::Agrees);
+    let s = two_counts(alloc)?;
     assert_eq!(rt; trial(&rt, alloc, &s, FAULT)?, Trial::Agrees);
-    let s = three_chunks(alloc, 2, 7, &[0, 1, 2], &[2])?;
+    let s = shorter(alloc, PolicyName::Relevance)?;
     assert_eq!(rt; trial(&rt, alloc, &s, SHORTER)?, Trial::Agrees);
     assert_eq!(rt; trial(&rt, alloc, &s, TWO_LOADED)?, Trial::Agrees);
-    let s = three_chunks(alloc, 2, 7, &[0, 1], &[0, 1, 2])?;
+    let s = trigger_stops(alloc)?;
     assert_eq!(rt; trial(&rt, alloc, &s, TRIGGER_STOPS)?, Trial::Agrees);
     let s = columns(alloc)?;
     assert_eq!(rt; trial(&rt, alloc, &s, COLUMNS)?, Trial::Agrees);
@@ -157,15 +83,55 @@ fn so_it_does_under_each_policy(rt: HostRuntime) -> Result<(), Fail> {
     Ok(())
 }
 
+const POLICIES: [PolicyName; 4] = [
+    PolicyName::Relevance,
+    PolicyName::Elevator,
+    PolicyName::Normal,
+    PolicyName::Attach,
+];
+
+/// Walks at random under each policy, with so many workers and so many pieces a chunk: the book, which knows no
+/// policy, has each number as the judge has it.
+fn expect_walks<R: Abort>(rt: &R, alloc: Global, workers: u32, groups: u32) -> Result<(), Fail>
+    requires workers { (0 < workers) × (workers ≤ 32) }
+    requires groups { (0 < groups) × (groups ≤ 16) }
+{
+    for policy in POLICIES {
+        for seed in 0..WALKS {
+            let mut rng = Pcg32::new(seed, 11);
+            let s = some_setting(alloc, policy, 5, workers, groups, &mut rng)?;
+            let story = walk(alloc, &s, seed, STEPS)?;
+            assert_eq!(rt;
+                try_story(alloc, &s, story.as_slice())?,
+                Trial::Agrees,
+                "seed {seed}"
+            );
+        }
+    }
+    Ok(())
+}
+
+#[test]
+fn walks_over_rows(rt: HostRuntime) -> Result<(), Fail> {
+    expect_walks(&rt, rt.alloc(), 1, 1)?;
+    expect_walks(&rt, rt.alloc(), 2, 1)
+}
+
+#[test]
+fn walks_over_columns(rt: HostRuntime) -> Result<(), Fail> {
+    expect_walks(&rt, rt.alloc(), 1, 2)?;
+    expect_walks(&rt, rt.alloc(), 2, 3)
+}
+
 #[test]
 fn what_no_book_can_follow_is_told(rt: HostRuntime) -> Result<(), Fail> {
     let alloc = rt.alloc();
     // chunks that fall, a chunk that the table lacks, no worker
-    let s = three_chunks(alloc, 1, 4, &[1, 0], &[2])?;
+    let s = with_first(alloc, 1, &[1, 0])?;
     assert_eq!(rt; trial(&rt, alloc, &s, ONE_COUNT)?, Trial::Unfit);
-    let s = three_chunks(alloc, 1, 4, &[0, 3], &[2])?;
+    let s = with_first(alloc, 1, &[0, 3])?;
     assert_eq!(rt; trial(&rt, alloc, &s, ONE_COUNT)?, Trial::Unfit);
-    let s = three_chunks(alloc, 0, 4, &[0], &[2])?;
+    let s = with_first(alloc, 0, &[0])?;
     assert_eq!(rt; trial(&rt, alloc, &s, ONE_COUNT)?, Trial::Unfit);
     let s = six_chunks(alloc, PolicyName::Elevator)?;
     assert_eq!(rt; trial(&rt, alloc, &s, SIX_ATTACH)?, Trial::Illegal(35));
@@ -189,7 +155,7 @@ fn ratio(num: u32, den: u32) -> Ratio {
 fn ranks_and_load_ratios(rt: HostRuntime) -> Result<(), Fail> {
     let alloc = rt.alloc();
     let registers = "register 0 1\nregister 1 2\n";
-    let s = three_chunks(alloc, 2, 7, &[0, 1, 2], &[2])?;
+    let s = shorter(alloc, PolicyName::Relevance)?;
     let entries = story(&rt, alloc, registers);
     let b = book(&rt, alloc, &s, entries.as_slice())?;
     assert_eq!(rt; (query_rank(&b, 1), query_rank(&b, 2)), (-5, -2));
@@ -215,7 +181,7 @@ fn ranks_and_load_ratios(rt: HostRuntime) -> Result<(), Fail> {
 #[test]
 fn a_delivery_prefers_what_nobody_else_needs(rt: HostRuntime) -> Result<(), Fail> {
     let alloc = rt.alloc();
-    let s = three_chunks(alloc, 2, 7, &[0, 1, 2], &[2])?;
+    let s = shorter(alloc, PolicyName::Relevance)?;
     let entries = story(&rt, alloc, TWO_LOADED);
     let b = book(&rt, alloc, &s, entries.as_slice())?;
     assert_eq!(rt;

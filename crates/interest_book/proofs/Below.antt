@@ -61,6 +61,11 @@ pub count_same : (p q : ℕ → Bool) (n : ℕ) → ((k : ℕ) → k < n → p k
 count_same p q zero h = refl
 count_same p q (suc n) h = let e = h n (omega arith) in let r = count_same p q n (λ k lt. h k (omega arith)) in rw (e, r) refl
 
+-- none counts
+pub count_none : (p : ℕ → Bool) (n : ℕ) → ((k : ℕ) → k < n → p k ≡ false) → count_below p n ≡ 0
+count_none p zero none = refl
+count_none p (suc n) none = let here = none n (omega arith) in let rest = count_none p n (λ k lt. none k (omega (arith, lt))) in rw (here, rest) refl
+
 -- counting on by one, for loops
 
 pub any_below_more : (p : ℕ → Bool) (n : ℕ) → any_below p (n + 1) ≡ (p n || any_below p n)

@@ -1,4 +1,5 @@
 pub mod Below
+pub mod Bits
 pub mod Needs
 pub mod Kept
 pub mod Following
@@ -10,5 +11,6 @@ pub mod Holding
 pub mod Inside
 pub mod Shown
 pub mod Beginning
-pub mod Tallying
+pub mod Marking
 pub mod Named
+pub mod ReadPieces

@@ -19,8 +19,8 @@ use Rattle.interest_book.specs.declared.client.Client.{Client}
 use Rattle.interest_book.specs.declared.book.Book.{Book}
 use Rattle.interest_book.specs.Clients.{IsClient, IsReady, client_at, is_active_phase}
 use Rattle.interest_book.specs.Counted.{size_of}
-use Rattle.interest_book.specs.Counts.{is_active_in, needs_in, is_available_in, needed_in, available_in, is_starved_in, shares_in, is_interested_in, is_starved_for, is_close_in, overlaps_in, starved_overlaps_in, feeds_in, count_queries, is_target_in, is_ready_in}
-use Rattle.interest_book.specs.Fresh.{as_need}
+use Rattle.interest_book.specs.Counts.{is_active_in, needs_in, is_available_in, needed_in, available_in, is_starved_in, shares_in, is_interested_in, is_starved_for, is_close_in, overlaps_by, starved_overlaps_by, feeds_in, is_target_in, is_ready_in}
+use Rattle.interest_book.specs.Marked.{row_at}
 use Rattle.interest_book.specs.Stands.{Stands}
 use Rattle.interest_book.specs.Held.{hold_for}
 use Rattle.interest_book.proofs.Below.{any_same, count_same, equal_number, true_false}
@@ -92,22 +92,7 @@ available_is b s h q st lt = set_size (client_at b.clients q).available (is_avai
 pub starved_is : (b : Book) (s : Setting) (h : History) (q : ℕ) → Stands b s h → q ≤ 256 → is_starved_in b.clients q ≡ is_starved s h q
 starved_is b s h q st lt = ap (λ (x : Bool). x && nat_lt (available_in b.clients q) 2) (active_is b s h q st lt) ∙ ap (λ (n : ℕ). is_active h q && nat_lt n 2) (available_is b s h q st lt)
 
-pub share_is : (b : Book) (s : Setting) (h : History) (q r : ℕ) → Stands b s h → q ≤ 256 → r ≤ 256 → shares_in b.clients b.buffer.groups q r ≡ shares s q r
-share_is b s h q r st lt there = shares_is s q r b.buffer.groups (client_at b.clients q).reads (client_at b.clients r).reads st.setting st.buffer.groups (client_is b s h q st lt).reads (client_is b s h r st there).reads
-
--- Counts over the needs
-
-count_mapped : (t : ℕ → Bool) (ns : List Need) → count_queries t ns ≡ count_among (λ n. t n.query) (map as_need ns)
-count_mapped t [] = refl
-count_mapped t (n ∷ ns) = ap (λ (k : ℕ). if t n.query then k + 1 else k) (count_mapped t ns)
-
-same_among : (s : Setting) (t u : ℕ → Bool) → ((q : ℕ) → q ≤ 256 → t q ≡ u q) → (ns : List asked.Need) → AllByRecursion (IsNeed s) ns → count_among (λ n. t n.query) ns ≡ count_among (λ n. u n.query) ns
-same_among s t u same [] all = refl
-same_among s t u same (n ∷ ns) all =
-    ap (λ (x : Bool). if x then count_among (λ n. t n.query) ns + 1 else count_among (λ n. t n.query) ns) (same n.query all.0.query.1) ∙ ap (λ (k : ℕ). if u n.query then k + 1 else k) (same_among s t u same ns all.1)
-
-pub count_is : (b : Book) (s : Setting) (h : History) (t u : ℕ → Bool) → Stands b s h → ((q : ℕ) → q ≤ 256 → t q ≡ u q) → count_queries t b.needs.items ≡ count_among (λ n. u n.query) s.needs
-count_is b s h t u st same = count_mapped t b.needs.items ∙ (ap (count_among (λ n. t n.query)) st.needs ∙ same_among s t u same s.needs st.setting.needs)
+-- Counts over all clients
 
 implied : (a b : Bool) → (a ≡ true → b ≡ true) → a ≡ (a && b)
 implied true b f = sym (f refl)
@@ -170,31 +155,24 @@ pub none_fed : (b : Book) (s : Setting) (h : History) (c : ℕ) → Stands b s h
 none_fed b s h c st out = sym (some_among (λ n. is_starved s h n.query && is_available s h n.query c) s.needs
     ∙ ap (nat_lt 0) (none_among (λ n. is_starved s h n.query && is_available s h n.query c) s.needs (λ n. last_out (is_starved s h n.query) (is_available s h n.query c) (unavailable b s h n.query c st out))))
 
-pub overlap_is : (b : Book) (s : Setting) (h : History) (q c : ℕ) → Stands b s h → q ≤ 256 → count_queries (overlaps_in b.clients b.buffer.groups q c) b.needs.items ≡ overlap s h q c
-overlap_is b s h q c st lt = count_is b s h (overlaps_in b.clients b.buffer.groups q c) (λ r. is_active h r && needs_chunk s h r c && shares s q r) st (λ r there.
-    ap (λ (x : Bool). x && needs_in b.clients r c && shares_in b.clients b.buffer.groups q r) (active_is b s h r st there)
-    ∙ (ap (λ (x : Bool). is_active h r && x && shares_in b.clients b.buffer.groups q r) (needs_is b s h r c st there) ∙ ap (λ (x : Bool). is_active h r && needs_chunk s h r c && x) (share_is b s h q r st lt there)))
+pub none_overlap : (b : Book) (s : Setting) (h : History) (q c : ℕ) → Stands b s h → b.chunks ≤ c → 0 ≡ overlap s h q c
+none_overlap b s h q c st out = sym (none_among (λ n. is_active h n.query && needs_chunk s h n.query c && shares s q n.query) s.needs
+    (λ n. first_out (is_active h n.query && needs_chunk s h n.query c) (shares s q n.query) (last_out (is_active h n.query) (needs_chunk s h n.query c) (beyond b s h n.query c st out))))
 
-pub starved_overlap_is : (b : Book) (s : Setting) (h : History) (q c : ℕ) → Stands b s h → q ≤ 256 → count_queries (starved_overlaps_in b.clients b.buffer.groups q c) b.needs.items ≡ starved_overlap s h q c
-starved_overlap_is b s h q c st lt = count_is b s h (starved_overlaps_in b.clients b.buffer.groups q c) (λ r. is_starved s h r && needs_chunk s h r c && shares s q r) st (λ r there.
-    ap (λ (x : Bool). x && shares_in b.clients b.buffer.groups q r) (starved_for_is b s h r c st there) ∙ ap (λ (x : Bool). is_starved s h r && needs_chunk s h r c && x) (share_is b s h q r st lt there))
+pub none_starved_overlap : (b : Book) (s : Setting) (h : History) (q c : ℕ) → Stands b s h → b.chunks ≤ c → 0 ≡ starved_overlap s h q c
+none_starved_overlap b s h q c st out = sym (none_among (λ n. is_starved s h n.query && needs_chunk s h n.query c && shares s q n.query) s.needs
+    (λ n. first_out (is_starved s h n.query && needs_chunk s h n.query c) (shares s q n.query) (last_out (is_starved s h n.query) (needs_chunk s h n.query c) (beyond b s h n.query c st out))))
 
--- with one group each query reads what every other reads
+pub overlap_is : (b : Book) (s : Setting) (h : History) (q c : ℕ) → Stands b s h → q ≤ 256 → count_below (overlaps_by b.clients (row_at b.sharers.items q) c) (length b.clients) ≡ overlap s h q c
+overlap_is b s h q c st lt = counted_is b s h (overlaps_by b.clients (row_at b.sharers.items q) c) (λ r. is_active h r && needs_chunk s h r c && shares s q r) st
+    (λ r there. ap (λ (x : Bool). x && needs_in b.clients r c && has (row_at b.sharers.items q) r) (active_is b s h r st there)
+    ∙ (ap (λ (x : Bool). is_active h r && x && has (row_at b.sharers.items q) r) (needs_is b s h r c st there) ∙ ap (λ (x : Bool). is_active h r && needs_chunk s h r c && x) (st.sharers q r lt there)))
+    (λ r e. and_first (is_active h r) (needs_chunk s h r c) (and_first (is_active h r && needs_chunk s h r c) (shares s q r) e))
 
-one_group : (s : Setting) (q r : ℕ) → s.groups ≡ 1 → shares s q r ≡ true
-one_group s q r one =
-    let groups : (x : ℕ) → groups_read s x ≡ 0 ∷ [] = λ x. ap (λ (b : Bool). if b then 0 ∷ [] else columns_in (need_of s x)) (equal_number s.groups 1 one) in
-    ap (λ (gs : List ℕ). list_any (reads_group s r) gs) (groups q) ∙ ap (λ (gs : List ℕ). has gs 0 || false) (groups r)
-
-and_yes : (a b : Bool) → b ≡ true → (a && b) ≡ a
-and_yes true b e = e
-and_yes false b e = refl
-
-pub one_overlap : (s : Setting) (h : History) (q c : ℕ) → s.groups ≡ 1 → overlap s h q c ≡ interested s h c
-one_overlap s h q c one = among_same (λ n. is_active h n.query && needs_chunk s h n.query c && shares s q n.query) (λ n. is_active h n.query && needs_chunk s h n.query c) (λ n. and_yes (is_active h n.query && needs_chunk s h n.query c) (shares s q n.query) (one_group s q n.query one)) s.needs
-
-pub one_starved_overlap : (s : Setting) (h : History) (q c : ℕ) → s.groups ≡ 1 → starved_overlap s h q c ≡ starved_interested s h c
-one_starved_overlap s h q c one = among_same (λ n. is_starved s h n.query && needs_chunk s h n.query c && shares s q n.query) (λ n. is_starved s h n.query && needs_chunk s h n.query c) (λ n. and_yes (is_starved s h n.query && needs_chunk s h n.query c) (shares s q n.query) (one_group s q n.query one)) s.needs
+pub starved_overlap_is : (b : Book) (s : Setting) (h : History) (q c : ℕ) → Stands b s h → q ≤ 256 → count_below (starved_overlaps_by b.clients (row_at b.sharers.items q) c) (length b.clients) ≡ starved_overlap s h q c
+starved_overlap_is b s h q c st lt = counted_is b s h (starved_overlaps_by b.clients (row_at b.sharers.items q) c) (λ r. is_starved s h r && needs_chunk s h r c && shares s q r) st
+    (λ r there. ap (λ (x : Bool). x && has (row_at b.sharers.items q) r) (starved_for_is b s h r c st there) ∙ ap (λ (x : Bool). is_starved s h r && needs_chunk s h r c && x) (st.sharers q r lt there))
+    (λ r e. starved_active s h r (and_first (is_starved s h r) (needs_chunk s h r c) (and_first (is_starved s h r && needs_chunk s h r c) (shares s q r) e)))
 
 -- Workers
 

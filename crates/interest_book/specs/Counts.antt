@@ -1,8 +1,7 @@
 -- The numbers of what the book keeps.
 use Rattle.std.specs.Prelude.{◌&&◌, not, ℕ, Bool, List, nat_lt, nat_le}
-use Rattle.scan_story.specs.Counting.{has, count_among, any_below}
+use Rattle.scan_story.specs.Counting.{has, any_below}
 use Rattle.interest_book.specs.Counted.{size_of}
-use Rattle.interest_book.specs.declared.need.Need.{Need}
 use Rattle.interest_book.specs.declared.client.Client.{Client}
 use Rattle.interest_book.specs.Clients.{client_at, is_active_phase}
 
@@ -30,7 +29,7 @@ is_starved_in ks q = is_active_in ks q && nat_lt (available_in ks q) 2
 abbrev pub shares_in : List Client → ℕ → ℕ → ℕ → Bool
 shares_in ks n q r = any_below (λ g. has (client_at ks q).reads g && has (client_at ks r).reads g) n
 
--- Of a chunk, over the queries of the needs
+-- Of a chunk, over all queries
 
 abbrev pub is_interested_in : List Client → ℕ → ℕ → Bool
 is_interested_in ks c q = is_active_in ks q && needs_in ks q c
@@ -41,18 +40,16 @@ is_starved_for ks c q = is_starved_in ks q && needs_in ks q c
 abbrev pub is_close_in : List Client → ℕ → ℕ → Bool
 is_close_in ks c q = is_active_in ks q && is_available_in ks q c && nat_le (available_in ks q) 2
 
-abbrev pub overlaps_in : List Client → ℕ → ℕ → ℕ → ℕ → Bool
-overlaps_in ks n q c r = is_active_in ks r && needs_in ks r c && shares_in ks n q r
+-- the query is one of these, active and needs the chunk
+abbrev pub overlaps_by : List Client → List ℕ → ℕ → ℕ → Bool
+overlaps_by ks among c r = is_interested_in ks c r && has among r
 
-abbrev pub starved_overlaps_in : List Client → ℕ → ℕ → ℕ → ℕ → Bool
-starved_overlaps_in ks n q c r = is_starved_in ks r && needs_in ks r c && shares_in ks n q r
+-- the query is one of these, starved and needs the chunk
+abbrev pub starved_overlaps_by : List Client → List ℕ → ℕ → ℕ → Bool
+starved_overlaps_by ks among c r = is_starved_for ks c r && has among r
 
 abbrev pub feeds_in : List Client → ℕ → ℕ → Bool
 feeds_in ks c q = is_starved_in ks q && is_available_in ks q c
-
--- how many queries of the needs pass
-abbrev pub count_queries : (ℕ → Bool) → List Need → ℕ
-count_queries p ns = count_among (λ n. p n.query) ns
 
 abbrev pub is_target_in : List Client → ℕ → ℕ → ℕ → Bool
 is_target_in ks n q c = nat_lt c n && needs_in ks q c && not (is_available_in ks q c)

@@ -1,7 +1,10 @@
 -- How many frames are free.
-use Rattle.std.specs.Prelude.{◌≡◌, ◌≤◌, ℕ, List, length}
+use Rattle.std.specs.Prelude.{◌≡◌, ◌≤◌, ℕ, Bool, List, length, if◌then◌else◌}
 use Rattle.interest_book.specs.declared.frame.Frame.{Frame}
 use Rattle.interest_book.specs.Frames.{free_in}
+
+abbrev pub bit : Bool → ℕ
+bit b = if b then 1 else 0
 
 -- this many of the frames are free
 pub record CountsFree (frames : List Frame) (n : ℕ) : Type 0 where

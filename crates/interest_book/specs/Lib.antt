@@ -9,5 +9,7 @@ pub mod Counts
 pub mod Held
 pub mod Fresh
 pub mod Counted
-pub mod Tallied
+pub mod Marked
 pub mod Freed
+pub mod Firsts
+pub mod Placed

@@ -5,7 +5,8 @@ use Rattle.scan_story.specs.declared.entry.Entry.{Entry}
 use Rattle.scan_story.specs.declared.view.Load.{Load}
 use Rattle.interest_book.specs.declared.loading.Underway.{Underway}
 use Rattle.scan_story.specs.declared.setting.Setting.{Setting}
-use Rattle.scan_story.specs.Setting.{IsSetting, need_of}
+use Rattle.scan_story.specs.Counting.{has}
+use Rattle.scan_story.specs.Setting.{IsSetting, need_of, shares}
 use Rattle.scan_story.specs.Views.{History}
 use Rattle.scan_story.specs.Loads.{underway}
 use Rattle.scan_story.specs.MayFollow.{Allowed}
@@ -15,6 +16,7 @@ use Rattle.interest_book.specs.Fresh.{as_need}
 use Rattle.interest_book.specs.Follows.{AllMayFollow}
 use Rattle.interest_book.specs.Clients.{AreClients, AreReady}
 use Rattle.interest_book.specs.Frames.{loading_of}
+use Rattle.interest_book.specs.Marked.{row_at}
 use Rattle.interest_book.specs.Buffers.{IsBuffer}
 
 -- who loads which chunk, and for which query
@@ -33,6 +35,7 @@ pub record Stands (b : Book) (s : Setting) (h : History) : Type 0 where
   pub ready : AreReady s h b.clients
   pub buffer : IsBuffer s h b.buffer
   pub holds : AreHolds h b.holds.items
+  pub sharers : (q r : ℕ) → q ≤ 256 → r ≤ 256 → has (row_at b.sharers.items q) r ≡ shares s q r
   pub loading : b.loading ≡ option_map loading_of (underway s h)
 
 -- the entry may follow a history that the book stands for, and that has room for it in a count of 63 bits

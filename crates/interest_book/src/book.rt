@@ -6,6 +6,8 @@ use crate::buffer::Buffer;
 use crate::clients::Clients;
 use crate::loading::Loading;
 use crate::need::Need;
+use crate::query_set::QuerySet;
+use crate::sharers::sharers_each;
 use scan_story::Hold;
 use std::alloc::{AllocError, Global};
 use table_core::Memory;
@@ -18,10 +20,12 @@ pub struct Book {
     pub(crate) buffer: Buffer,
     pub(crate) holds: Vec<Option<Hold>>,
     pub(crate) loading: Option<Loading>,
+    pub(crate) sharers: Vec<QuerySet>,
     pub(crate) chunks: u32,
     pub(crate) workers: u32,
     pub(crate) noted: u64,
     ghost short: { noted < 2 ^ 63 },
+    ghost sharing: { length sharers.items ≡ 257 },
     ghost parts: { AreParts needs.items clients holds.items chunks workers },
 }
 
@@ -57,6 +61,7 @@ impl Book {
     {
         let clients = Clients::new(alloc, &needs, groups)?;
         let buffer = Buffer::new(alloc, frames, groups)?;
+        let sharers = sharers_each(alloc, &clients, groups)?;
         let holds = no_holds(alloc, 32)?;
         Ok(Book {
             needs,
@@ -64,6 +69,7 @@ impl Book {
             buffer,
             holds,
             loading: None,
+            sharers,
             chunks,
             workers,
             noted: 0,

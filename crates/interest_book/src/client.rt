@@ -1,5 +1,5 @@
 //! What the book keeps of one query.
-ghost use Rattle.std.specs.Prelude.{◌≡◌, ◌+◌, ◌<◌, ◌^◌, ◌∷◌, ◌==◌, ◌&&◌, ℕ, [], None, Some, length, false, if◌then◌else◌};
+ghost use Rattle.std.specs.Prelude.{◌≡◌, ◌+◌, ◌<◌, ◌^◌, ◌∷◌, ◌==◌, ◌&&◌, ℕ, [], None, Some, length, true, false, if◌then◌else◌};
 ghost use Rattle.scan_story.specs.Counting.{has};
 ghost use Rattle.interest_book.specs.Frames.{missing_in};
 ghost use Rattle.interest_book.specs.Counted.{size_of};
@@ -10,7 +10,7 @@ ghost use Rattle.scan_story.specs.declared.entry.Entry.TheVariants.{Register, Fa
 ghost use Rattle.scan_story.specs.declared.setting.Setting.{Setting};
 ghost use Rattle.scan_story.specs.Views.{History, is_stopped};
 ghost use Rattle.interest_book.specs.Clients.{IsClient, IsReady, is_active_phase};
-ghost use Rattle.interest_book.specs.Tallied.{is_active, is_starved, is_near, IsNear};
+ghost use Rattle.interest_book.specs.Marked.{is_active, is_starved, is_near, is_over, IsNear};
 
 use crate::buffer::Buffer;
 use crate::counted_set::CountedSet;
@@ -91,8 +91,8 @@ impl Client {
     pub fn register(&mut self, noted: u64)
         requires { noted < 2 ^ 63 }
         ensures follows { (s : Setting) (h : History) (w q : ℕ) → length h ≡ noted → IsClient s h q self.old → IsClient s (Register w q ∷ h) q self.new }
-        ensures remaining { self.new.remaining ≡ self.old.remaining }
         ensures available { self.new.available ≡ self.old.available }
+        ensures near { IsNear 0 self.old self.new }
     {
         if self.phase == Phase::Waiting {
             self.phase = Phase::Active;
@@ -105,8 +105,8 @@ impl Client {
         requires { noted < 2 ^ 63 }
         ensures follows { (s : Setting) (h : History) (w q c : ℕ) → length h ≡ noted → IsClient s h q self.old → IsClient s (Release w q c ∷ h) q self.new }
         ensures phase { self.new.phase ≡ self.old.phase }
-        ensures remaining { self.new.remaining ≡ self.old.remaining }
         ensures available { self.new.available ≡ self.old.available }
+        ensures near { IsNear 0 self.old self.new }
     {
         let now = noted + 1;
         self.began = Some(now);
@@ -130,7 +130,7 @@ impl Client {
         ensures failed { (s : Setting) (h : History) (w q p : ℕ) (why : Why) → IsClient s h q self.old → IsClient s (Failed w q p why ∷ h) q self.new }
         ensures stop_ready { (s : Setting) (h : History) (w q : ℕ) → IsReady s (Stop w q ∷ h) q self.new }
         ensures failed_ready { (s : Setting) (h : History) (w q p : ℕ) (why : Why) → IsReady s (Failed w q p why ∷ h) q self.new }
-        ensures over { is_active self.new ≡ false }
+        ensures over { is_over self.new ≡ true }
     {
         self.phase = Phase::Stopped;
         self.remaining = CountedSet::empty();
@@ -141,7 +141,7 @@ impl Client {
     pub fn end(&mut self)
         ensures follows { (s : Setting) (h : History) (w q : ℕ) → is_stopped h q ≡ false → IsClient s h q self.old → IsClient s (End w q ∷ h) q self.new }
         ensures ready { (s : Setting) (h : History) (w q : ℕ) → IsReady s (End w q ∷ h) q self.new }
-        ensures over { is_active self.new ≡ false }
+        ensures over { is_over self.new ≡ true }
     {
         self.phase = Phase::Ended;
         self.remaining = CountedSet::empty();

@@ -6,36 +6,37 @@ ghost use Rattle.scan_story.specs.declared.setting.Setting.{Setting};
 ghost use Rattle.scan_story.specs.Counting.{count_below};
 ghost use Rattle.scan_story.specs.Views.{History, is_stopped};
 ghost use Rattle.interest_book.specs.Clients.{AreClients, AreReady, client_at};
-ghost use Rattle.interest_book.specs.Counts.{is_active_in, is_interested_in, is_starved_for, is_close_in, feeds_in};
+ghost use Rattle.interest_book.specs.Counts.{is_active_in, is_interested_in, is_starved_for, is_close_in, overlaps_by, starved_overlaps_by, feeds_in};
 ghost use Rattle.interest_book.specs.Fresh.{AreFresh};
 ghost use Rattle.interest_book.specs.Renewed.{IsRenewed};
-ghost use Rattle.interest_book.specs.Tallied.{IsNear, counts_for, is_active, is_starved, is_near, remaining, available};
+ghost use Rattle.interest_book.specs.Marked.{IsNear, is_active, is_over};
 
 use crate::buffer::Buffer;
 use crate::client::Client;
+use crate::marks::{Marks, follow};
 use crate::need::Need;
-use crate::tallies::{Tallies, follow};
+use crate::query_set::QuerySet;
 use std::alloc::Global;
 use std::marker::Model;
 use table_core::Memory;
 
-/// The clients of the queries 0 to 256, of which 0 is none, with running numbers over them.
+/// The clients of the queries 0 to 256, of which 0 is none, with the marks that their numbers are counted by.
 #[derive(Drop)]
 pub struct Clients {
     list: Vec<Client>,
-    tallies: Tallies,
+    marks: Marks,
 }
 
 impl Model for Clients {
     ghost use Rattle.std.specs.Prelude.{List};
     ghost use Rattle.interest_book.specs.declared.client.Client.{Client};
-    ghost use Rattle.interest_book.specs.Tallied.{AreTallies};
+    ghost use Rattle.interest_book.specs.Marked.{AreMarks};
 
     ghost Value = { List Client };
 
     ghost view = { λ k. k.list.items };
 
-    ghost invariant = { λ k. AreTallies k.list.items k.tallies };
+    ghost invariant = { λ k. AreMarks k.list.items k.marks };
 }
 
 // Clients of queries without needs.
@@ -75,8 +76,8 @@ impl Clients {
     {
         let mut list = vacant(alloc, 257, groups)?;
         take_needs(&mut list, needs, groups);
-        let tallies = Tallies::new(alloc)?;
-        Ok(Clients { list, tallies })
+        let marks = Marks::new(alloc, &list)?;
+        Ok(Clients { list, marks })
     }
 
     /// The client of a query.
@@ -87,7 +88,7 @@ impl Clients {
         &self.list[q as usize]
     }
 
-    // Puts the client at the query's place. The running numbers follow.
+    // Puts the client at the query's place. The marks follow.
     fn put(&mut self, q: u32, new: Client, c: u32)
         requires there { q < length self.old }
         requires chunk { c < 1024 }
@@ -95,8 +96,7 @@ impl Clients {
         requires near { IsNear c (client_at self.old q) new }
         ensures { self.new ≡ set self.old q new }
     {
-        let old = &self.list[q as usize];
-        follow(&mut self.tallies, old, &new, c);
+        follow(&mut self.marks, q, &new, c);
         self.list[q as usize] = new;
     }
 
@@ -199,7 +199,7 @@ impl Clients {
         ensures number { result ≡ count_below (is_active_in self.now) (length self.now) }
         ensures few { result ≤ 256 }
     {
-        self.tallies.running
+        self.marks.active.size()
     }
 
     /// How many active queries need the chunk, at most 256.
@@ -208,7 +208,10 @@ impl Clients {
         ensures number { result ≡ count_below (is_interested_in self.now c) (length self.now) }
         ensures few { result ≤ 256 }
     {
-        self.tallies.interested[c as usize]
+        self.marks
+            .active
+            .both(&self.marks.needing[c as usize])
+            .size()
     }
 
     /// How many starved queries need the chunk, at most 256.
@@ -217,7 +220,10 @@ impl Clients {
         ensures number { result ≡ count_below (is_starved_for self.now c) (length self.now) }
         ensures few { result ≤ 256 }
     {
-        self.tallies.starved[c as usize]
+        self.marks
+            .starved
+            .both(&self.marks.needing[c as usize])
+            .size()
     }
 
     /// How many active queries have the chunk available, and at most two available chunks; at most 256.
@@ -226,7 +232,33 @@ impl Clients {
         ensures number { result ≡ count_below (is_close_in self.now c) (length self.now) }
         ensures few { result ≤ 256 }
     {
-        self.tallies.close[c as usize]
+        self.marks.near.both(&self.marks.having[c as usize]).size()
+    }
+
+    /// How many active queries among these need the chunk, at most 256.
+    pub fn overlap(&self, among: &QuerySet, c: u32) -> u32
+        requires { c < 1024 }
+        ensures number { result ≡ count_below (overlaps_by self.now among.now c) (length self.now) }
+        ensures few { result ≤ 256 }
+    {
+        self.marks
+            .active
+            .both(&self.marks.needing[c as usize])
+            .both(among)
+            .size()
+    }
+
+    /// How many starved queries among these need the chunk, at most 256.
+    pub fn starved_overlap(&self, among: &QuerySet, c: u32) -> u32
+        requires { c < 1024 }
+        ensures number { result ≡ count_below (starved_overlaps_by self.now among.now c) (length self.now) }
+        ensures few { result ≤ 256 }
+    {
+        self.marks
+            .starved
+            .both(&self.marks.needing[c as usize])
+            .both(among)
+            .size()
     }
 
     /// To how many starved queries the chunk is available.
@@ -234,6 +266,9 @@ impl Clients {
         requires { c < 1024 }
         ensures { result ≡ count_below (feeds_in self.now c) (length self.now) }
     {
-        self.tallies.fed[c as usize]
+        self.marks
+            .starved
+            .both(&self.marks.having[c as usize])
+            .size()
     }
 }

@@ -51,6 +51,13 @@ impl Frames {
         Ok(Frames { list, free: n })
     }
 
+    /// How many frames there are.
+    pub fn len(&self) -> u32
+        ensures { result ≡ length self.now }
+    {
+        self.list.len() as u32
+    }
+
     /// What is in a frame; nothing where there is no such frame.
     pub fn at(&self, f: u32) -> Frame
         ensures { result ≡ frame_at self.now f }

@@ -1,7 +1,6 @@
 //! What a book answers: the numbers of the entries that it noted.
 use crate::book::Book;
 use crate::client::Client;
-use crate::counts;
 use crate::holds::{holds_chunk, holds_query, since};
 use crate::loading::Underway;
 use scan_story::Phase;
@@ -168,10 +167,10 @@ impl Book {
         ensures number { (s : Setting) (h : History) → Stands self.now s h → result ≡ overlap s h q c }
         ensures few { result ≤ 256 }
     {
-        if self.buffer.groups == 1 {
-            return self.interested(c);
+        if c >= self.chunks {
+            return 0;
         }
-        counts::overlap(&self.needs, &self.clients, self.buffer.groups, q, c)
+        self.clients.overlap(&self.sharers[q as usize], c)
     }
 
     /// How many starved queries need the chunk and read a piece of it that the query reads; at most 256.
@@ -180,10 +179,10 @@ impl Book {
         ensures number { (s : Setting) (h : History) → Stands self.now s h → result ≡ starved_overlap s h q c }
         ensures few { result ≤ 256 }
     {
-        if self.buffer.groups == 1 {
-            return self.starved_interested(c);
+        if c >= self.chunks {
+            return 0;
         }
-        counts::starved_overlap(&self.needs, &self.clients, self.buffer.groups, q, c)
+        self.clients.starved_overlap(&self.sharers[q as usize], c)
     }
 
     /// Whether the chunk is available to a starved query.

@@ -1,24 +1,27 @@
 -- The best of the numbers below a bound is a best one.
 use Rattle.std.proofs.Common.{◌≡◌, ◌<◌, ◌≤◌, ◌+◌, ◌*◌, ◌≤ℤ◌, ℕ, zero, suc, ℤ, Bool, true, false, if◌then◌else◌, Option, None, Some, nat_lt, int_lt, add-one, refl, sym, ◌∙◌, ap, subst, arith, inl, inr}
-use Rattle.std.proofs.lemmas.Bool.{cases_eq}
+use Rattle.std.proofs.lemmas.Bool.{cases_Bool, cases_eq}
 use Rattle.std.proofs.lemmas.Bool.Decides.{nat_tests}
 use Rattle.std.proofs.lemmas.Int.{ints}
 use Rattle.std.proofs.Math.Nat.{mul-le-mul, mul-le-mul_right, le_of_mul-le-mul_right, mul_right_comm}
 use Rattle.scan_story.specs.declared.ratio.Ratio.{Ratio}
 use Rattle.scan_story.specs.Ratios.{IsAtMost}
-use Rattle.relevance.specs.Best.{better_of, best_below, is_greater, is_less, is_higher}
+use Rattle.relevance.specs.Best.{better_of, best_below, is_greater, is_less, is_higher, IsFirstBest}
 
 -- what beats is better, and ranks go on through candidates
 pub record IsOrder {K : Type 0} (beats : K → K → Bool) (AtMost : K → K → Type 0) (test : ℕ → Bool) (rank : ℕ → K) : Type 0 where
   pub wins : (a b : K) → beats a b ≡ true → AtMost b a
   pub loses : (a b : K) → beats a b ≡ false → AtMost a b
+  pub strict : (a b : K) → beats a b ≡ true → AtMost a b → ⊥
   pub same : (a : K) → AtMost a a
   pub through : (x y z : ℕ) → test y ≡ true → AtMost (rank x) (rank y) → AtMost (rank y) (rank z) → AtMost (rank x) (rank z)
 
--- a best one of those below n that pass, or none passes
-abbrev pub IsBestBelow : {B K : Type 0} → (B → ℕ) → (B → K) → (K → K → Type 0) → (ℕ → Bool) → (ℕ → K) → ℕ → Option B → Type 0
-IsBestBelow number key AtMost test rank n None = (y : ℕ) → y < n → test y ≡ false
-IsBestBelow number key AtMost test rank n (Some b) = (test (number b) ≡ true) × (key b ≡ rank (number b)) × ((y : ℕ) → y < n → test y ≡ true → AtMost (rank y) (rank (number b)))
+-- a best one of those below n that pass, which beats all before it, or none passes
+abbrev pub IsBestBelow : {B K : Type 0} → (B → ℕ) → (B → K) → (K → K → Bool) → (K → K → Type 0) → (ℕ → Bool) → (ℕ → K) → ℕ → Option B → Type 0
+IsBestBelow number key beats AtMost test rank n None = (y : ℕ) → y < n → test y ≡ false
+IsBestBelow number key beats AtMost test rank n (Some b) =
+    (test (number b) ≡ true) × (key b ≡ rank (number b)) × ((y : ℕ) → y < n → test y ≡ true → AtMost (rank y) (rank (number b)))
+    × ((y : ℕ) → y < number b → test y ≡ true → beats (rank (number b)) (rank y) ≡ true)
 
 true_false : (b : Bool) → b ≡ true → b ≡ false → ⊥
 true_false b t f = cc
@@ -32,21 +35,29 @@ last n y R lt here before = elim (cases_eq y n) [
 
 step : {B K : Type 0} (made : ℕ → K → B) (number : B → ℕ) (key : B → K) → ((x : ℕ) (k : K) → number (made x k) ≡ x) → ((x : ℕ) (k : K) → key (made x k) ≡ k)
     → (beats : K → K → Bool) (AtMost : K → K → Type 0) (test : ℕ → Bool) (rank : ℕ → K) → IsOrder beats AtMost test rank
-    → (n : ℕ) (t : Bool) → test n ≡ t → (o : Option B) → IsBestBelow number key AtMost test rank n o → IsBestBelow number key AtMost test rank (suc n) (if t then better_of made key beats o n (rank n) else o)
+    → (n : ℕ) (t : Bool) → test n ≡ t → (o : Option B) → IsBestBelow number key beats AtMost test rank n o → IsBestBelow number key beats AtMost test rank (suc n) (if t then better_of made key beats o n (rank n) else o)
 step made number key numbered keyed beats AtMost test rank order n true t None best =
     let x = number (made n (rank n)) in
     let is : x ≡ n = numbered n (rank n) in (
       ap test is ∙ t,
       keyed n (rank n) ∙ ap rank (sym is),
       λ y lt e. last n y (AtMost (rank y) (rank x)) lt (λ at. subst (λ z. AtMost (rank y) (rank z)) (at ∙ sym is) (order.same (rank y))) (λ before. absurd (true_false (test y) e (best y before))),
+      λ y lt e. absurd (true_false (test y) e (best y (subst (λ z. y < z) is lt))),
     )
 step made number key numbered keyed beats AtMost test rank order n false t None best =
     λ y lt. last n y (test y ≡ false) lt (λ at. ap test at ∙ t) (best y)
 step {B} made number key numbered keyed beats AtMost test rank order n false t (Some b) best =
-    (best.0, best.1, λ y lt e. last n y (AtMost (rank y) (rank (number b))) lt (λ at. absurd (true_false (test y) e (ap test at ∙ t))) (λ before. best.2 y before e))
+    (best.0, best.1, λ y lt e. last n y (AtMost (rank y) (rank (number b))) lt (λ at. absurd (true_false (test y) e (ap test at ∙ t))) (λ before. best.2 y before e), best.3)
 step {B} made number key numbered keyed beats AtMost test rank order n true t (Some b) best = decide (beats (rank n) (key b)) refl
   where
-    decide : (w : Bool) → beats (rank n) (key b) ≡ w → IsBestBelow number key AtMost test rank (suc n) (if w then Some (made n (rank n)) else Some b)
+    -- what beats the best so far beats all that it is best of
+    over : (y : ℕ) → y < n → test y ≡ true → beats (rank n) (key b) ≡ true → beats (rank n) (rank y) ≡ true
+    over y before e w = elim (cases_Bool (beats (rank n) (rank y))) [
+      | inl so ↦ so
+      | inr not ↦ absurd (order.strict (rank n) (rank (number b)) (subst (λ k. beats (rank n) k ≡ true) best.1 w) (order.through n y (number b) e (order.loses (rank n) (rank y) not) (best.2 y before e)))
+    ]
+
+    decide : (w : Bool) → beats (rank n) (key b) ≡ w → IsBestBelow number key beats AtMost test rank (suc n) (if w then Some (made n (rank n)) else Some b)
     decide true w =
         let x = number (made n (rank n)) in
         let is : x ≡ n = numbered n (rank n) in
@@ -55,18 +66,31 @@ step {B} made number key numbered keyed beats AtMost test rank order n true t (S
           keyed n (rank n) ∙ ap rank (sym is),
           λ y lt e. subst (λ z. AtMost (rank y) (rank z)) (sym is) (last n y (AtMost (rank y) (rank n)) lt (λ at. subst (λ z. AtMost (rank y) (rank z)) at (order.same (rank y)))
               (λ before. order.through y (number b) n best.0 (best.2 y before e) won)),
+          λ y lt e. subst (λ z. beats (rank z) (rank y) ≡ true) (sym is) (over y (subst (λ z. y < z) is lt) e w),
         )
     decide false w =
         let lost : AtMost (rank n) (rank (number b)) = subst (λ k. AtMost (rank n) k) best.1 (order.loses (rank n) (key b) w) in
-        (best.0, best.1, λ y lt e. last n y (AtMost (rank y) (rank (number b))) lt (λ at. subst (λ z. AtMost (rank z) (rank (number b))) (sym at) lost) (λ before. best.2 y before e))
+        (best.0, best.1, λ y lt e. last n y (AtMost (rank y) (rank (number b))) lt (λ at. subst (λ z. AtMost (rank z) (rank (number b))) (sym at) lost) (λ before. best.2 y before e), best.3)
 
 pub best_is : {B K : Type 0} (made : ℕ → K → B) (number : B → ℕ) (key : B → K) → ((x : ℕ) (k : K) → number (made x k) ≡ x) → ((x : ℕ) (k : K) → key (made x k) ≡ k)
     → (beats : K → K → Bool) (AtMost : K → K → Type 0) (test : ℕ → Bool) (rank : ℕ → K) → IsOrder beats AtMost test rank
-    → (n : ℕ) → IsBestBelow number key AtMost test rank n (best_below made key beats test rank n)
+    → (n : ℕ) → IsBestBelow number key beats AtMost test rank n (best_below made key beats test rank n)
 best_is made number key numbered keyed beats AtMost test rank order zero = λ y lt. absurd (omega (arith, lt))
 best_is made number key numbered keyed beats AtMost test rank order (suc n) =
     step made number key numbered keyed beats AtMost test rank order n (test n) refl (best_below made key beats test rank n)
     (best_is made number key numbered keyed beats AtMost test rank order n)
+
+-- the best of all that pass is the first best
+pub first_best : {B K : Type 0} (number : B → ℕ) (key : B → K) (beats : K → K → Bool) (AtMost : K → K → Type 0) (test : ℕ → Bool) (rank : ℕ → K) → IsOrder beats AtMost test rank
+    → (n : ℕ) → ((y : ℕ) → test y ≡ true → y < n) → (b : B) → IsBestBelow number key beats AtMost test rank n (Some b) → IsFirstBest beats test rank (number b)
+first_best number key beats AtMost test rank order n bound b found = record {
+  candidate = found.0;
+  best = λ y e. elim (cases_Bool (beats (rank y) (rank (number b)))) [
+    | inl so ↦ absurd (order.strict (rank y) (rank (number b)) so (found.2 y (bound y e) e))
+    | inr not ↦ not
+  ];
+  first = found.3;
+}
 
 -- Ratios
 
@@ -92,6 +116,12 @@ loses a b e = not_below (b.num * a.den) (a.num * b.den) e
     not_below : (x y : ℕ) → nat_lt x y ≡ false → y ≤ x
     not_below x y e = grind (arith, nat_tests)
 
+strict : (a b : Ratio) → is_greater a b ≡ true → IsAtMost a b → ⊥
+strict a b e most = above (b.num * a.den) (a.num * b.den) e most
+  where
+    above : (x y : ℕ) → nat_lt x y ≡ true → y ≤ x → ⊥
+    above x y e most = grind (arith, nat_tests)
+
 same : (a : Ratio) → IsAtMost a a
 same a = itself (a.num * a.den)
   where
@@ -102,6 +132,7 @@ pub greater_order : (test : ℕ → Bool) (ratio : ℕ → Ratio) → ((y : ℕ)
 greater_order test ratio some = record {
   wins = wins;
   loses = loses;
+  strict = strict;
   same = same;
   through = λ x y z t xy yz. at_most_through (ratio x) (ratio y) (ratio z) (some y t) xy yz;
 }
@@ -110,6 +141,7 @@ pub less_order : (test : ℕ → Bool) (ratio : ℕ → Ratio) → ((y : ℕ) �
 less_order test ratio some = record {
   wins = λ a b e. wins b a e;
   loses = λ a b e. loses b a e;
+  strict = λ a b e most. strict b a e most;
   same = same;
   through = λ x y z t xy yz. at_most_through (ratio z) (ratio y) (ratio x) (some y t) yz xy;
 }
@@ -120,6 +152,7 @@ pub rank_order : (test : ℕ → Bool) (rank : ℕ → ℤ) → IsOrder is_highe
 rank_order test rank = record {
   wins = λ a b e. higher a b e;
   loses = λ a b e. not_higher a b e;
+  strict = λ a b e most. strictly a b e most;
   same = λ a. itself a;
   through = λ x y z t xy yz. on (rank x) (rank y) (rank z) xy yz;
 }
@@ -129,6 +162,9 @@ rank_order test rank = record {
 
     not_higher : (a b : ℤ) → int_lt b a ≡ false → a ≤ℤ b
     not_higher a b e = grind (arith, ints)
+
+    strictly : (a b : ℤ) → int_lt b a ≡ true → a ≤ℤ b → ⊥
+    strictly a b e most = grind (arith, ints)
 
     itself : (a : ℤ) → a ≤ℤ a
     itself a = omega (arith, ints)

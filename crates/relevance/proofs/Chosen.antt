@@ -1,10 +1,11 @@
 -- The best candidates are choices by relevance.
-use Rattle.std.proofs.Common.{◌≡◌, ◌<◌, ◌≤◌, ◌+◌, ◌≤ℤ◌, ◌∷◌, [], ◌==◌, ◌&&◌, ◌||◌, not, ℕ, Bool, true, false, if◌then◌else◌, List, length, find, Option, None, Some, is_none, is_some, nat_lt, refl, sym, ◌∙◌, ap, subst, arith, inl, inr}
+use Rattle.std.proofs.Common.{◌≡◌, ◌<◌, ◌≤◌, ◌+◌, ◌≤ℤ◌, ◌∷◌, [], ◌==◌, ◌&&◌, ◌||◌, not, ℕ, Bool, true, false, if◌then◌else◌, List, length, find, Option, None, Some, IfSome, is_none, is_some, nat_lt, refl, sym, ◌∙◌, ap, subst, arith, inl, inr}
 use Rattle.std.specs.List.{list_any}
 use Rattle.std.proofs.lemmas.Bool.{cases_Bool}
 use Rattle.std.proofs.lemmas.Bool.Decides.{nat_tests}
 use Rattle.scan_story.specs.declared.setting.Need.{Need}
 use Rattle.scan_story.specs.declared.setting.PolicyName.TheVariants.{Relevance}
+use Rattle.scan_story.specs.declared.ratio.Ratio.{Ratio}
 use Rattle.scan_story.specs.declared.setting.Setting.{Setting}
 use Rattle.scan_story.specs.Counting.{has, count_among, any_below}
 use Rattle.scan_story.specs.Setting.{IsSetting, need_of, chunks_in, asks_for, groups_read, shares}
@@ -24,9 +25,9 @@ use Rattle.interest_book.proofs.Inside.{ready_inside}
 use Rattle.interest_book.proofs.Shown.{active_is}
 use Rattle.relevance.specs.declared.best.BestChunk.{BestChunk}
 use Rattle.relevance.specs.declared.best.BestQuery.{BestQuery}
-use Rattle.relevance.specs.Best.{chunk_with, ratio_of, query_with, rank_of, greatest_below, least_below, highest_below, is_greater, is_less, is_higher, chunk_in, query_in}
+use Rattle.relevance.specs.Best.{best_below, chunk_with, ratio_of, query_with, rank_of, greatest_below, least_below, highest_below, is_greater, is_less, is_higher, chunk_in, query_in, IsFirstBest}
 use Rattle.relevance.specs.Picks.{PicksQuery, PicksLoad, PicksDelivery, PicksVictim, HasActive}
-use Rattle.relevance.proofs.Choosing.{IsBestBelow, best_is, greater_order, less_order, rank_order}
+use Rattle.relevance.proofs.Choosing.{IsOrder, IsBestBelow, best_is, first_best, greater_order, less_order, rank_order}
 
 -- Candidates are within their bounds
 
@@ -135,7 +136,7 @@ picks_query s h cursor best r ok is e =
     subst (PicksQuery Relevance cursor s h) (sym (e ∙ ap query_in is))
     (from (highest_below (is_trigger s h) (query_rank s h) 257) (best_is query_with (λ b. b.query) rank_of (λ x k. refl) (λ x k. refl) is_higher (λ a b. a ≤ℤ b) (is_trigger s h) (query_rank s h) (rank_order (is_trigger s h) (query_rank s h)) 257))
   where
-    from : (o : Option BestQuery) → IsBestBelow (λ b. b.query) rank_of (λ a b. a ≤ℤ b) (is_trigger s h) (query_rank s h) 257 o → PicksQuery Relevance cursor s h (query_in o)
+    from : (o : Option BestQuery) → IsBestBelow (λ b. b.query) rank_of is_higher (λ a b. a ≤ℤ b) (is_trigger s h) (query_rank s h) 257 o → PicksQuery Relevance cursor s h (query_in o)
     from None none = none_of (is_trigger s h) 257 (λ y t. trigger_inside s h y ok t) none
     from (Some b) found = record { candidate = found.0; best = λ y t. found.2 y (trigger_inside s h y ok t) t }
 
@@ -145,7 +146,7 @@ picks_load s h q cursor n best r all is e =
     subst (PicksLoad Relevance cursor s h q) (sym (e ∙ (ap chunk_in is ∙ ap (λ (k : ℕ). chunk_in (greatest_below (is_target s h q) (load_ratio s h q) k)) all)))
     (from (greatest_below (is_target s h q) (load_ratio s h q) s.chunks) (best_is chunk_with (λ b. b.chunk) ratio_of (λ x k. refl) (λ x k. refl) is_greater IsAtMost (is_target s h q) (load_ratio s h q) (greater_order (is_target s h q) (load_ratio s h q) (λ y t. target_misses s h q y t)) s.chunks))
   where
-    from : (o : Option BestChunk) → IsBestBelow (λ b. b.chunk) ratio_of IsAtMost (is_target s h q) (load_ratio s h q) s.chunks o → PicksLoad Relevance cursor s h q (chunk_in o)
+    from : (o : Option BestChunk) → IsBestBelow (λ b. b.chunk) ratio_of is_greater IsAtMost (is_target s h q) (load_ratio s h q) s.chunks o → PicksLoad Relevance cursor s h q (chunk_in o)
     from None none = none_of (is_target s h q) s.chunks (λ y t. target_inside s h q y t) none
     from (Some b) found = record { candidate = found.0; best = λ y t. found.2 y (target_inside s h q y t) t }
 
@@ -156,7 +157,7 @@ picks_delivery b s h q cursor n best r a st all is e =
     (from (greatest_below (is_ready s h q) (use_ratio s h q) s.chunks) (best_is chunk_with (λ b. b.chunk) ratio_of (λ x k. refl) (λ x k. refl) is_greater IsAtMost (is_ready s h q) (use_ratio s h q)
     (greater_order (is_ready s h q) (use_ratio s h q) (λ y t. ready_overlaps s h q y st.setting (still_active b s h q a st) t)) s.chunks))
   where
-    from : (o : Option BestChunk) → IsBestBelow (λ b. b.chunk) ratio_of IsAtMost (is_ready s h q) (use_ratio s h q) s.chunks o → PicksDelivery Relevance cursor s h q (chunk_in o)
+    from : (o : Option BestChunk) → IsBestBelow (λ b. b.chunk) ratio_of is_greater IsAtMost (is_ready s h q) (use_ratio s h q) s.chunks o → PicksDelivery Relevance cursor s h q (chunk_in o)
     from None none = none_of (is_ready s h q) s.chunks (λ y t. ready_inside s h q y t) none
     from (Some b) found = record { candidate = found.0; best = λ y t. found.2 y (ready_inside s h q y t) t }
 
@@ -165,6 +166,42 @@ picks_victim s h cursor n best r all is e =
     subst (PicksVictim Relevance cursor s h) (sym (e ∙ (ap chunk_in is ∙ ap (λ (k : ℕ). chunk_in (least_below (is_victim s h) (keep_ratio s h) k)) all)))
     (from (least_below (is_victim s h) (keep_ratio s h) s.chunks) (best_is chunk_with (λ b. b.chunk) ratio_of (λ x k. refl) (λ x k. refl) is_less (λ a b. IsAtMost b a) (is_victim s h) (keep_ratio s h) (less_order (is_victim s h) (keep_ratio s h) (λ y t. victim_cached s h y t)) s.chunks))
   where
-    from : (o : Option BestChunk) → IsBestBelow (λ b. b.chunk) ratio_of (λ a b. IsAtMost b a) (is_victim s h) (keep_ratio s h) s.chunks o → PicksVictim Relevance cursor s h (chunk_in o)
+    from : (o : Option BestChunk) → IsBestBelow (λ b. b.chunk) ratio_of is_less (λ a b. IsAtMost b a) (is_victim s h) (keep_ratio s h) s.chunks o → PicksVictim Relevance cursor s h (chunk_in o)
     from None none = none_of (is_victim s h) s.chunks (λ y t. victim_inside s h y t) none
     from (Some b) found = record { candidate = found.0; best = λ y t. found.2 y (victim_inside s h y t) t }
+
+-- The first best
+
+pub first_query : (s : Setting) (h : History) (best : Option BestQuery) (r : Option ℕ) → IsSetting s → best ≡ highest_below (is_trigger s h) (query_rank s h) 257 → r ≡ query_in best → IfSome r (IsFirstBest is_higher (is_trigger s h) (query_rank s h))
+first_query s h best r ok is e =
+    subst (λ (o : Option ℕ). IfSome o (IsFirstBest is_higher (is_trigger s h) (query_rank s h))) (sym (e ∙ ap query_in is))
+    (from (highest_below (is_trigger s h) (query_rank s h) 257) (best_is query_with (λ b. b.query) rank_of (λ x k. refl) (λ x k. refl) is_higher (λ a b. a ≤ℤ b) (is_trigger s h) (query_rank s h) (rank_order (is_trigger s h) (query_rank s h)) 257))
+  where
+    from : (o : Option BestQuery) → IsBestBelow (λ b. b.query) rank_of is_higher (λ a b. a ≤ℤ b) (is_trigger s h) (query_rank s h) 257 o → IfSome (query_in o) (IsFirstBest is_higher (is_trigger s h) (query_rank s h))
+    from None none = tt
+    from (Some b) found = first_best (λ b. b.query) rank_of is_higher (λ a b. a ≤ℤ b) (is_trigger s h) (query_rank s h) (rank_order (is_trigger s h) (query_rank s h)) 257 (λ y t. trigger_inside s h y ok t) b found
+
+first_chunk : (beats : Ratio → Ratio → Bool) (AtMost : Ratio → Ratio → Type 0) (test : ℕ → Bool) (ratio : ℕ → Ratio) (n m : ℕ) (best : Option BestChunk) (r : Option ℕ) → IsOrder beats AtMost test ratio → ((y : ℕ) → test y ≡ true → y < n)
+    → m ≡ n → best ≡ best_below chunk_with ratio_of beats test ratio m → r ≡ chunk_in best → IfSome r (IsFirstBest beats test ratio)
+first_chunk beats AtMost test ratio n m best r order bound all is e =
+    subst (λ (o : Option ℕ). IfSome o (IsFirstBest beats test ratio)) (sym (e ∙ (ap chunk_in is ∙ ap (λ (k : ℕ). chunk_in (best_below chunk_with ratio_of beats test ratio k)) all)))
+    (from (best_below chunk_with ratio_of beats test ratio n) (best_is chunk_with (λ b. b.chunk) ratio_of (λ x k. refl) (λ x k. refl) beats AtMost test ratio order n))
+  where
+    from : (o : Option BestChunk) → IsBestBelow (λ b. b.chunk) ratio_of beats AtMost test ratio n o → IfSome (chunk_in o) (IsFirstBest beats test ratio)
+    from None none = tt
+    from (Some b) found = first_best (λ b. b.chunk) ratio_of beats AtMost test ratio order n bound b found
+
+pub first_load : (s : Setting) (h : History) (q : ℕ) (n : ℕ) (best : Option BestChunk) (r : Option ℕ) → n ≡ s.chunks → best ≡ greatest_below (is_target s h q) (load_ratio s h q) n → r ≡ chunk_in best
+    → IfSome r (IsFirstBest is_greater (is_target s h q) (load_ratio s h q))
+first_load s h q n best r all is e =
+    first_chunk is_greater IsAtMost (is_target s h q) (load_ratio s h q) s.chunks n best r (greater_order (is_target s h q) (load_ratio s h q) (λ y t. target_misses s h q y t)) (λ y t. target_inside s h q y t) all is e
+
+pub first_delivery : (b : Book) (s : Setting) (h : History) (q : ℕ) (n : ℕ) (best : Option BestChunk) (r : Option ℕ) → HasActive b q → Stands b s h → n ≡ s.chunks → best ≡ greatest_below (is_ready s h q) (use_ratio s h q) n → r ≡ chunk_in best
+    → IfSome r (IsFirstBest is_greater (is_ready s h q) (use_ratio s h q))
+first_delivery b s h q n best r a st all is e =
+    first_chunk is_greater IsAtMost (is_ready s h q) (use_ratio s h q) s.chunks n best r
+    (greater_order (is_ready s h q) (use_ratio s h q) (λ y t. ready_overlaps s h q y st.setting (still_active b s h q a st) t)) (λ y t. ready_inside s h q y t) all is e
+
+pub first_victim : (s : Setting) (h : History) (n : ℕ) (best : Option BestChunk) (r : Option ℕ) → n ≡ s.chunks → best ≡ least_below (is_victim s h) (keep_ratio s h) n → r ≡ chunk_in best → IfSome r (IsFirstBest is_less (is_victim s h) (keep_ratio s h))
+first_victim s h n best r all is e =
+    first_chunk is_less (λ a b. IsAtMost b a) (is_victim s h) (keep_ratio s h) s.chunks n best r (less_order (is_victim s h) (keep_ratio s h) (λ y t. victim_cached s h y t)) (λ y t. victim_inside s h y t) all is e

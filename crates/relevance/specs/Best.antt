@@ -1,5 +1,5 @@
 -- The best so far, going up the numbers: among equals the least number.
-use Rattle.std.specs.Prelude.{◌*◌, ℕ, zero, suc, ℤ, Bool, Option, None, Some, nat_lt, int_lt, if◌then◌else◌}
+use Rattle.std.specs.Prelude.{◌≡◌, ◌<◌, ◌*◌, ℕ, zero, suc, ℤ, Bool, true, false, Option, None, Some, nat_lt, int_lt, if◌then◌else◌}
 use Rattle.scan_story.specs.declared.ratio.Ratio.{Ratio}
 use Rattle.relevance.specs.declared.best.BestChunk.{BestChunk}
 use Rattle.relevance.specs.declared.best.BestQuery.{BestQuery}
@@ -14,6 +14,12 @@ abbrev pub best_below : {B K : Type 0} → (ℕ → K → B) → (B → K) → (
 best_below made key beats test rank zero = None
 best_below made key beats test rank (suc n) =
     if test n then better_of made key beats (best_below made key beats test rank n) n (rank n) else best_below made key beats test rank n
+
+-- x passes, none that passes beats it, and it beats each that passes and is less: among equals it is the least
+pub record IsFirstBest {K : Type 0} (beats : K → K → Bool) (test : ℕ → Bool) (rank : ℕ → K) (x : ℕ) : Type 0 where
+  pub candidate : test x ≡ true
+  pub best : (y : ℕ) → test y ≡ true → beats (rank y) (rank x) ≡ false
+  pub first : (y : ℕ) → y < x → test y ≡ true → beats (rank x) (rank y) ≡ true
 
 -- Chunks by ratios
 

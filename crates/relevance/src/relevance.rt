@@ -1,4 +1,13 @@
 //! The policy that picks by rank and ratios.
+ghost use Rattle.std.specs.Prelude.{◌≡◌, ℕ, List, IfSome};
+ghost use Rattle.scan_story.specs.declared.setting.Setting.{Setting};
+ghost use Rattle.scan_story.specs.Views.{History};
+ghost use Rattle.scan_story.specs.Ratios.{query_rank, load_ratio, use_ratio, keep_ratio};
+ghost use Rattle.scan_story.specs.MayFollow.{is_trigger, is_target, is_ready, is_victim};
+ghost use Rattle.interest_book.specs.Stands.{Stands};
+ghost use Rattle.relevance.specs.Best.{IsFirstBest, is_higher, is_greater, is_less};
+ghost use Rattle.relevance.specs.Picks.{PicksQuery, PicksLoad, PicksDelivery, PicksVictim, cursor_after_load, cursor_after_delivery, HasActive, HasNoneBegun};
+
 use crate::best::{chunk_in, greater_of, higher_of, lesser_of, query_in};
 use crate::policy::Policy;
 use crate::ranks::{keep_ratio, load_ratio, query_rank, use_ratio};
@@ -23,7 +32,10 @@ impl Policy for Relevance {
     }
 
     #[tactic(auto, using(crate::proofs::Choosing::best_below_more))]
-    fn pick_query(&mut self, book: &Book) -> Option<u32> {
+    fn pick_query(&mut self, book: &Book) -> Option<u32>
+        ensures picks { (s : Setting) (h : History) → Stands book.now s h → PicksQuery names.Relevance [] s h result }
+        ensures first { (s : Setting) (h : History) → Stands book.now s h → IfSome result (IsFirstBest is_higher (is_trigger s h) (query_rank s h)) }
+    {
         let mut best = None;
         for q in 0..257 {
             if book.is_trigger(q) {
@@ -34,7 +46,12 @@ impl Policy for Relevance {
     }
 
     #[tactic(auto, using(crate::proofs::Choosing::best_below_more))]
-    fn pick_load(&mut self, book: &Book, q: u32) -> Option<u32> {
+    fn pick_load(&mut self, book: &Book, q: u32) -> Option<u32>
+        requires { HasActive book.now q }
+        ensures picks { (s : Setting) (h : History) → Stands book.now s h → PicksLoad names.Relevance [] s h q result }
+        ensures first { (s : Setting) (h : History) → Stands book.now s h → IfSome result (IsFirstBest is_greater (is_target s h q) (load_ratio s h q)) }
+        ensures cursor { (s : Setting) (h : History) → Stands book.now s h → [] ≡ cursor_after_load names.Relevance s [] q result }
+    {
         let mut best = None;
         for c in 0..book.chunks() {
             if book.is_target(q, c) {
@@ -45,7 +62,12 @@ impl Policy for Relevance {
     }
 
     #[tactic(auto, using(crate::proofs::Choosing::best_below_more))]
-    fn pick_delivery(&mut self, book: &Book, q: u32) -> Option<u32> {
+    fn pick_delivery(&mut self, book: &Book, q: u32) -> Option<u32>
+        requires { HasActive book.now q }
+        ensures picks { (s : Setting) (h : History) → Stands book.now s h → PicksDelivery names.Relevance [] s h q result }
+        ensures first { (s : Setting) (h : History) → Stands book.now s h → IfSome result (IsFirstBest is_greater (is_ready s h q) (use_ratio s h q)) }
+        ensures cursor { [] ≡ cursor_after_delivery names.Relevance [] q result }
+    {
         let mut best = None;
         for c in 0..book.chunks() {
             if book.is_ready(q, c) {
@@ -56,7 +78,11 @@ impl Policy for Relevance {
     }
 
     #[tactic(auto, using(crate::proofs::Choosing::best_below_more))]
-    fn pick_victim(&mut self, book: &Book) -> Option<u32> {
+    fn pick_victim(&mut self, book: &Book) -> Option<u32>
+        requires { HasNoneBegun book.now }
+        ensures picks { (s : Setting) (h : History) → Stands book.now s h → PicksVictim names.Relevance [] s h result }
+        ensures first { (s : Setting) (h : History) → Stands book.now s h → IfSome result (IsFirstBest is_less (is_victim s h) (keep_ratio s h)) }
+    {
         let mut best = None;
         for c in 0..book.chunks() {
             if book.is_victim(c) {

@@ -4,6 +4,7 @@ use Rattle.interest_book.specs.declared.need.Need.{Need}
 use Rattle.interest_book.specs.Clients.{client_at}
 use Rattle.interest_book.specs.Fresh.{made_for, IsFresh, AreFresh}
 use Rattle.interest_book.proofs.Beginning.{query_small, few_made, setting_of, fresh_client, fresh_ready, fresh_frames, fresh_as}
+use Rattle.interest_book.proofs.Counting.{shares_is}
 use Rattle.interest_book.proofs.book.Book.new.Goals as goal
 
 pub new-requires : goal.new-requires
@@ -15,6 +16,7 @@ new-requires c = record {
 pub invariant_of-result : goal.invariant_of-result
 invariant_of-result c = record {
   short = omega arith;
+  sharing = c.in_ok-sharers.ensures.size;
   parts = record {
     needs = few_made c.args.needs.items c.args.chunks c.args.workers c.args.frames c.args.groups c.requires;
     queries = λ k d lt. query_small (made_for c.args.needs.items c.args.chunks c.args.workers c.args.frames c.args.groups) c.args.needs.items k d c.requires.needs lt;
@@ -43,5 +45,10 @@ returns c = λ s is.
       ready = λ q lt. fresh_ready s q (client_at ks q) ok (each q lt).available;
       buffer = fresh_frames s c.in_ok-buffer.buffer.groups c.in_ok-buffer.buffer.frames c.in_ok-buffer.buffer.places.items c.in_ok-buffer.buffer.begun.items (b.groups ∙ is.groups) (b.length ∙ is.frames) b.free b.places;
       holds = λ w lt. c.in_ok-holds.ensures.none w;
+      sharers = λ q r lq lr.
+          (let there : q < length ks = omega (arith, lq, c.in_ok-clients.ensures.length) in
+          let also : r < length ks = omega (arith, lr, c.in_ok-clients.ensures.length) in
+          c.in_ok-sharers.ensures.each q r (omega (arith, lq)) (omega (arith, lr))
+          ∙ shares_is s q r c.args.groups (client_at ks q).reads (client_at ks r).reads ok is.groups (fresh_client s q (client_at ks q) (each q there)).reads (fresh_client s r (client_at ks r) (each r also)).reads);
       loading = refl;
     }

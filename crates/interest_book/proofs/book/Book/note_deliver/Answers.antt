@@ -19,5 +19,6 @@ returns c = λ s h st may.
       ready = c.deliver.ensures.ready s h c.args.worker st.ready;
       buffer = frames_on s (Deliver c.args.worker q c.args.chunk) h b.buffer.groups b.buffer.frames b.buffer.places.items b.buffer.begun.items (λ f. refl) refl st.buffer;
       holds = holds_set (Deliver c.args.worker q c.args.chunk) h b.holds.items c.args.worker (Some (record { query = q; chunk = c.args.chunk })) (λ v ne. delivered_other h c.args.worker q c.args.chunk v ne) (delivered h c.args.worker q c.args.chunk) (omega (arith, c.requires.worker, b.parts.holds)) st.holds;
+      sharers = st.sharers;
       loading = st.loading;
     }

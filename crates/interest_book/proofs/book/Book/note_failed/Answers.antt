@@ -16,5 +16,6 @@ returns c = λ s h w p why st may.
       ready = c.stop.ensures.failed_ready s h w p why st.ready;
       buffer = c.give_up.ensures s h w q p why st.buffer;
       holds = st.holds;
+      sharers = st.sharers;
       loading = refl;
     }

@@ -22,5 +22,6 @@ returns c = λ s h w st may.
       ready = all_ready_on s (Fill w f p) h b.clients (spares_fill w f p) (fill_same s h w f p may) st.ready;
       buffer = c.begin.ensures s h w st.setting st.followed may st.buffer;
       holds = st.holds;
+      sharers = st.sharers;
       loading = st.loading ∙ sym (begin_leaves f p (underway s h));
     }

@@ -37,5 +37,6 @@ returns c = λ s h w st may.
       ready = ready;
       buffer = buffer;
       holds = st.holds;
+      sharers = st.sharers;
       loading = loading;
     }

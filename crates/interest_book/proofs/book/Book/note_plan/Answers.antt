@@ -36,5 +36,6 @@ returns c = λ s h st may.
       ready = all_ready_on s (Plan w q d) h b.clients (spares_plan w q d) (λ f. refl) st.ready;
       buffer = frames_plan s w q d h b.buffer.groups b.buffer.frames b.buffer.places.items b.buffer.begun.items may.none_underway st.buffer;
       holds = st.holds;
+      sharers = st.sharers;
       loading = ap (λ (n : ℕ). Some (kept_load w q d n)) (left ∙ sym (all_open (missing_pieces s h q d)));
     }

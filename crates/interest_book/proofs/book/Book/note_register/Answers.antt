@@ -18,5 +18,6 @@ returns c = λ s h w st may.
       ready = c.register.ensures.ready s h w st.ready;
       buffer = frames_on s (Register w q) h b.buffer.groups b.buffer.frames b.buffer.places.items b.buffer.begun.items (λ f. refl) refl st.buffer;
       holds = st.holds;
+      sharers = st.sharers;
       loading = st.loading;
     }

@@ -19,5 +19,6 @@ returns c = λ s h d st may.
       ready = c.release.ensures.ready s h c.args.worker d st.ready;
       buffer = frames_on s (Release c.args.worker q d) h b.buffer.groups b.buffer.frames b.buffer.places.items b.buffer.begun.items (λ f. refl) refl st.buffer;
       holds = holds_set (Release c.args.worker q d) h b.holds.items c.args.worker None (λ v ne. released_other h c.args.worker q d v ne) (released h c.args.worker q d) (omega (arith, c.requires.worker, b.parts.holds)) st.holds;
+      sharers = st.sharers;
       loading = st.loading;
     }

@@ -1,12 +1,17 @@
-use Rattle.std.proofs.Common.{◌∙◌, ap, sym}
-use Rattle.interest_book.specs.Counts.{overlaps_in, count_queries}
-use Rattle.interest_book.proofs.Shown.{overlap_is, one_overlap}
+use Rattle.std.proofs.Common.{◌∙◌, ◌≡◌, ◌<◌, List, ℕ, [], ap, length, arith, sym}
+use Rattle.std.proofs.lemmas.List.{get_or_default}
+use Rattle.scan_story.specs.Counting.{count_below}
+use Rattle.interest_book.specs.Counts.{overlaps_by}
+use Rattle.interest_book.specs.Marked.{row_at}
+use Rattle.interest_book.proofs.Shown.{overlap_is, none_overlap}
 use Rattle.interest_book.proofs.book.Book.overlap.Goals as goal
 
-pub returns-then-self-eq1-clause-number : goal.returns-then-self-eq1-clause-number
-returns-then-self-eq1-clause-number c = λ s h st. c.interested.ensures.number s h st ∙ sym (one_overlap s h c.args.q c.args.c (sym st.buffer.groups ∙ c.if-self-eq1.true))
+pub returns-then-c-self-clause-number : goal.returns-then-c-self-clause-number
+returns-then-c-self-clause-number c = λ s h st. none_overlap c.args.self.now s h c.args.q c.args.c st (omega arith)
 
 pub returns-clause-number : goal.returns-clause-number
 returns-clause-number c = λ s h st.
     let b = c.args.self.now in
-    c.overlap.ensures.number ∙ (ap (count_queries (overlaps_in b.clients b.buffer.groups c.args.q c.args.c)) c.deref.ensures.value ∙ overlap_is b s h c.args.q c.args.c st c.requires)
+    let there : c.args.q < length b.sharers.items = omega (arith, b.sharing, c.requires) in
+    let row : c.index.result.now ≡ row_at b.sharers.items c.args.q = c.index.ensures ∙ sym (get_or_default b.sharers.items c.args.q [] c.index.result.now there) in
+    c.overlap.ensures.number ∙ (ap (λ (xs : List ℕ). count_below (overlaps_by b.clients xs c.args.c) (length b.clients)) row ∙ overlap_is b s h c.args.q c.args.c st c.requires)

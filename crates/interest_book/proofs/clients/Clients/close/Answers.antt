@@ -1,15 +1,8 @@
-use Rattle.std.proofs.Common.{◌∙◌, ◌≤◌, ℕ, subst, sym}
-use Rattle.interest_book.specs.Tallied.{is_near, available}
-use Rattle.interest_book.proofs.Tallying.{tally_read, tally_is, few_close, near_is_close}
+use Rattle.interest_book.proofs.Marking.{close_number}
 use Rattle.interest_book.proofs.clients.Clients.close.Goals as goal
 
 pub returns-clause-number : goal.returns-clause-number
-returns-clause-number c =
-    let k = c.self.inside in
-    tally_is is_near available k.list.items c.args.self.now k.tallies.close.items c.args.c c.index.result.now c.requires c.self.invariant.close c.self.view_is c.index.ensures ∙ near_is_close c.args.self.now c.args.c
+returns-clause-number c = (close_number c.self.inside.list.items c.args.self.now c.self.inside.marks c.args.c c.size.result c.index.result.now c.both.result c.self.invariant c.self.view_is c.requires c.index.ensures c.both.ensures c.size.ensures.size).0
 
 pub returns-clause-few : goal.returns-clause-few
-returns-clause-few c =
-    let k = c.self.inside in
-    let read = c.index.ensures ∙ tally_read k.tallies.close.items c.args.c c.index.result.now c.self.invariant.close.size c.requires in
-    subst (λ (n : ℕ). n ≤ 256) (sym read) (few_close k.list.items k.tallies c.args.c c.requires c.self.invariant)
+returns-clause-few c = (close_number c.self.inside.list.items c.args.self.now c.self.inside.marks c.args.c c.size.result c.index.result.now c.both.result c.self.invariant c.self.view_is c.requires c.index.ensures c.both.ensures c.size.ensures.size).1

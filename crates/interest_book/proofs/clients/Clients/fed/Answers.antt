@@ -1,8 +1,5 @@
-use Rattle.interest_book.specs.Tallied.{is_starved, available}
-use Rattle.interest_book.proofs.Tallying.{tally_is}
+use Rattle.interest_book.proofs.Marking.{fed_number}
 use Rattle.interest_book.proofs.clients.Clients.fed.Goals as goal
 
 pub returns : goal.returns
-returns c =
-    let k = c.self.inside in
-    tally_is is_starved available k.list.items c.args.self.now k.tallies.fed.items c.args.c c.index.result.now c.requires c.self.invariant.fed c.self.view_is c.index.ensures
+returns c = (fed_number c.self.inside.list.items c.args.self.now c.self.inside.marks c.args.c c.size.result c.index.result.now c.both.result c.self.invariant c.self.view_is c.requires c.index.ensures c.both.ensures c.size.ensures.size).0

@@ -1,15 +1,8 @@
-use Rattle.std.proofs.Common.{◌∙◌, ◌≤◌, ℕ, subst, sym}
-use Rattle.interest_book.specs.Tallied.{is_active, remaining}
-use Rattle.interest_book.proofs.Tallying.{tally_read, tally_is, few_interested}
+use Rattle.interest_book.proofs.Marking.{interested_number}
 use Rattle.interest_book.proofs.clients.Clients.interested.Goals as goal
 
 pub returns-clause-number : goal.returns-clause-number
-returns-clause-number c =
-    let k = c.self.inside in
-    tally_is is_active remaining k.list.items c.args.self.now k.tallies.interested.items c.args.c c.index.result.now c.requires c.self.invariant.interested c.self.view_is c.index.ensures
+returns-clause-number c = (interested_number c.self.inside.list.items c.args.self.now c.self.inside.marks c.args.c c.size.result c.index.result.now c.both.result c.self.invariant c.self.view_is c.requires c.index.ensures c.both.ensures c.size.ensures.size).0
 
 pub returns-clause-few : goal.returns-clause-few
-returns-clause-few c =
-    let k = c.self.inside in
-    let read = c.index.ensures ∙ tally_read k.tallies.interested.items c.args.c c.index.result.now c.self.invariant.interested.size c.requires in
-    subst (λ (n : ℕ). n ≤ 256) (sym read) (few_interested k.list.items k.tallies c.args.c c.requires c.self.invariant)
+returns-clause-few c = (interested_number c.self.inside.list.items c.args.self.now c.self.inside.marks c.args.c c.size.result c.index.result.now c.both.result c.self.invariant c.self.view_is c.requires c.index.ensures c.both.ensures c.size.ensures.size).1

@@ -1,5 +1,5 @@
 use Rattle.std.proofs.Common.{◌∙◌, arith, sym}
-use Rattle.interest_book.proofs.Tallying.{all_free}
+use Rattle.interest_book.proofs.Marking.{all_free}
 use Rattle.interest_book.proofs.frames.Frames.new.Goals as goal
 
 pub invariant_of-result : goal.invariant_of-result

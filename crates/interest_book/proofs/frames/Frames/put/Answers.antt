@@ -4,8 +4,8 @@ use Rattle.scan_story.proofs.Counts.{below_within}
 use Rattle.interest_book.specs.declared.frame.Frame.{Frame}
 use Rattle.interest_book.specs.declared.frame.Frame.TheVariants.{Free}
 use Rattle.interest_book.specs.Frames.{frame_at, free_in, is_free_frame}
-use Rattle.interest_book.specs.Tallied.{bit}
-use Rattle.interest_book.proofs.Tallying.{frees_moved, frame_counted}
+use Rattle.interest_book.specs.Freed.{bit}
+use Rattle.interest_book.proofs.Marking.{frees_moved, frame_counted}
 use Rattle.interest_book.proofs.frames.Frames.put.Goals as goal
 
 pub exchanged-self-inside-requires-clause-counted : goal.exchanged-self-inside-requires-clause-counted
