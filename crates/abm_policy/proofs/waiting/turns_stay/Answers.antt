@@ -1,0 +1,5 @@
+use Rattle.abm_policy.proofs.Meanwhile as law
+use Rattle.abm_policy.proofs.waiting.turns_stay.Goals as goal
+
+pub returns : goal.returns
+returns c = law.turns_stay
