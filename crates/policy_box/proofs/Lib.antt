@@ -1,0 +1,2 @@
+mod Elevators
+mod Firsts

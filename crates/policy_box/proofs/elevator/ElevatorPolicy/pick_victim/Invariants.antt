@@ -1,0 +1,12 @@
+use Rattle.std.proofs.Common.{◌≡◌}
+use Rattle.scan_story.specs.declared.setting.Setting.{Setting}
+use Rattle.scan_story.specs.Views.{History}
+use Rattle.scan_story.specs.Numbers.{close}
+use Rattle.scan_story.specs.MayFollow.{is_victim}
+use Rattle.interest_book.specs.Stands.{Stands}
+use Rattle.policy_picks.specs.Around.{far_from}
+use Rattle.policy_picks.specs.Victims.{fittest_below}
+use Rattle.policy_box.proofs.elevator.ElevatorPolicy.pick_victim.Given as goal
+
+abbrev pub invariant-loop-c : goal.invariant-loop-c
+invariant-loop-c l = (s : Setting) (h : History) → Stands l.book s h → l.best ≡ fittest_below (is_victim s h) (λ c. record { close = close s h c; key = far_from l.chunks l.self.next c }) l.c

@@ -1,0 +1,4 @@
+pub mod Around
+pub mod Least
+pub mod Rated
+pub mod Victims

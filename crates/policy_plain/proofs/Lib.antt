@@ -1,0 +1,3 @@
+mod Attaching
+mod Using
+mod Picking

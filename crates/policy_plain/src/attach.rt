@@ -1,0 +1,104 @@
+//! The policy attach.
+use interest_book::Book;
+use policy_picks::{
+    Fitness, chunk_in, first_to_deliver, first_to_load, fitter_of, longest_waiting,
+};
+use relevance::Policy;
+use scan_story::PolicyName;
+
+/// Lets a query begin where another one is, and go up the table and around from there.
+///
+/// It loads for the query that has waited longest. It takes the chunk to load and to deliver that is nearest to the
+/// query's start, and of the victims that are least close the one in which the fewest queries are interested. Among
+/// equals it takes the least number.
+#[derive(Clone, Copy, Debug, PartialEq, Eq)]
+pub struct Attach {
+    // the chunk that was last picked to be delivered; 0 before
+    last: u32,
+    // the start of each query, from number 1 on, that was served
+    starts: [Option<u32>; 256],
+}
+
+impl Attach {
+    ghost use Rattle.std.specs.Prelude.{◌≡◌, ◌≤◌};
+    ghost use Rattle.scan_story.specs.Setting.{first_cursor};
+    ghost use Rattle.scan_story.specs.Policies.{start_of, served};
+    ghost use Rattle.scan_story.specs.declared.setting.PolicyName.TheVariants as names;
+    ghost use Rattle.policy_plain.specs.Starts.{cursor_of};
+
+    /// The policy with its first cursor: no query was served.
+    pub fn new() -> Attach
+        ensures { cursor_of result.last result.starts ≡ first_cursor names.Attach }
+    {
+        Attach {
+            last: 0,
+            starts: [None; 256],
+        }
+    }
+
+    // Where the query's scan starts: its own start, or what was last delivered.
+    fn start_of(&self, q: u32) -> u32
+        requires least { 1 ≤ q }
+        requires most { q ≤ 256 }
+        ensures { result ≡ start_of (cursor_of self.now.last self.now.starts) q }
+    {
+        self.starts[q as usize - 1].unwrap_or(self.last)
+    }
+
+    // A query that is first served gets its start.
+    fn serve(&mut self, q: u32)
+        requires least { 1 ≤ q }
+        requires most { q ≤ 256 }
+        ensures { cursor_of self.new.last self.new.starts ≡ served (cursor_of self.old.last self.old.starts) q }
+    {
+        let start = self.start_of(q);
+        self.starts[q as usize - 1] = Some(start);
+    }
+}
+
+impl Policy for Attach {
+    ghost use Rattle.scan_story.specs.declared.setting.PolicyName.TheVariants as names;
+    ghost use Rattle.policy_plain.specs.Starts.{cursor_of};
+
+    ghost name = { λ _. names.Attach };
+
+    ghost cursor = { λ a. cursor_of a.last a.starts };
+
+    fn named(&self) -> PolicyName {
+        PolicyName::Attach
+    }
+
+    fn pick_query(&mut self, book: &Book) -> Option<u32> {
+        longest_waiting(book)
+    }
+
+    fn pick_load(&mut self, book: &Book, q: u32) -> Option<u32> {
+        let Some(c) = first_to_load(book, q, self.start_of(q)) else {
+            return None;
+        };
+        self.serve(q);
+        Some(c)
+    }
+
+    fn pick_delivery(&mut self, book: &Book, q: u32) -> Option<u32> {
+        let Some(c) = first_to_deliver(book, q, self.start_of(q)) else {
+            return None;
+        };
+        self.serve(q);
+        self.last = c;
+        Some(c)
+    }
+
+    #[tactic(auto, using(relevance::proofs::Choosing::best_below_more))]
+    fn pick_victim(&mut self, book: &Book) -> Option<u32> {
+        let mut best = None;
+        for c in 0..book.chunks() {
+            if book.is_victim(c) {
+                let close = book.close(c);
+                let key = book.interested(c);
+                best = fitter_of(best, c, Fitness { close, key });
+            }
+        }
+        chunk_in(best)
+    }
+}

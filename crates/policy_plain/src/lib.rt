@@ -1,0 +1,12 @@
+//! The policies normal and attach.
+//!
+//! `docs/POLICIES.md` tells the rules.
+#![tactic(auto)]
+
+mod attach;
+mod normal;
+
+pub use attach::Attach;
+pub use normal::Normal;
+pub use relevance::Policy;
+pub use scan_story::PolicyName;
