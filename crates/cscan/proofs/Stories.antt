@@ -1,0 +1,108 @@
+-- What turns of one worker add to its entries.
+use Rattle.std.proofs.Common.{◌≡◌, ◌==◌, ◌++◌, ◌∷◌, [], ℕ, true, false, if◌then◌else◌, List, refl, sym, ap, ◌∙◌, subst}
+use Rattle.scan_story.specs.declared.entry.Entry.{Entry}
+use Rattle.scan_story.specs.declared.entry.Entry.TheVariants.{Register, Plan, Evict, Fill, Filled, Failed, Deliver, Release, Stop, End}
+use Rattle.scan_story.specs.Makers.{Adds, AllBy, entries_by, StartsWith}
+use Rattle.scan_story.proofs.Growing.{starts_more}
+use Rattle.story_laws.specs.Queries.{chunks_delivered}
+use Rattle.baton.specs.Passes.{PassView, Went}
+use Rattle.abm_policy.specs.Loads.{all_filled, evicts, fills}
+use Rattle.cscan.specs.Answers.{AreOfLoads, is_of_load}
+
+-- Entries of loads
+
+pub loads_append : (xs ys : List Entry) → AreOfLoads xs → AreOfLoads ys → AreOfLoads (xs ++ ys)
+loads_append [] ys p r = r
+loads_append (e ∷ es) ys p r = (p.0, loads_append es ys p.1 r)
+
+pub by_append : (w : ℕ) (xs ys : List Entry) → AllBy w xs → AllBy w ys → AllBy w (xs ++ ys)
+by_append w [] ys p r = r
+by_append w (e ∷ es) ys p r = (p.0, by_append w es ys p.1 r)
+
+pub evicts_loads : (w : ℕ) (cs : List ℕ) → AreOfLoads (evicts w cs)
+evicts_loads w [] = tt
+evicts_loads w (c ∷ cs) = (refl, evicts_loads w cs)
+
+pub evicts_by : (w : ℕ) (cs : List ℕ) → AllBy w (evicts w cs)
+evicts_by w [] = tt
+evicts_by w (c ∷ cs) = (refl, evicts_by w cs)
+
+pub fills_loads : (w : ℕ) (slots : List (ℕ × ℕ)) → AreOfLoads (fills w slots)
+fills_loads w [] = tt
+fills_loads w (b ∷ bs) = (refl, fills_loads w bs)
+
+pub fills_by : (w : ℕ) (slots : List (ℕ × ℕ)) → AllBy w (fills w slots)
+fills_by w [] = tt
+fills_by w (b ∷ bs) = (refl, fills_by w bs)
+
+pub filled_loads : (w : ℕ) (slots : List (ℕ × ℕ)) → AreOfLoads (all_filled w slots)
+filled_loads w [] = tt
+filled_loads w (b ∷ bs) = (refl, filled_loads w bs)
+
+pub filled_by : (w : ℕ) (slots : List (ℕ × ℕ)) → AllBy w (all_filled w slots)
+filled_by w [] = tt
+filled_by w (b ∷ bs) = (refl, filled_by w bs)
+
+-- Chunks delivered
+
+delivered_first : (q : ℕ) (e : Entry) (xs ys : List Entry) → chunks_delivered (xs ++ ys) q ≡ chunks_delivered xs q ++ chunks_delivered ys q
+    → chunks_delivered (e ∷ xs ++ ys) q ≡ chunks_delivered (e ∷ xs) q ++ chunks_delivered ys q
+delivered_first q (Deliver w r c) xs ys is =
+    elim (r == q) as (λ t. (if t then c ∷ chunks_delivered (xs ++ ys) q else chunks_delivered (xs ++ ys) q) ≡ (if t then c ∷ chunks_delivered xs q else chunks_delivered xs q) ++ chunks_delivered ys q) [
+      | true ↦ ap (λ (l : List ℕ). c ∷ l) is
+      | false ↦ is
+    ]
+delivered_first q (Register w r) xs ys is = is
+delivered_first q (Plan w r c) xs ys is = is
+delivered_first q (Evict w c) xs ys is = is
+delivered_first q (Fill w f p) xs ys is = is
+delivered_first q (Filled w f p) xs ys is = is
+delivered_first q (Failed w r p why) xs ys is = is
+delivered_first q (Release w r c) xs ys is = is
+delivered_first q (Stop w r) xs ys is = is
+delivered_first q (End w r) xs ys is = is
+
+pub delivered_append : (q : ℕ) (xs ys : List Entry) → chunks_delivered (xs ++ ys) q ≡ chunks_delivered xs q ++ chunks_delivered ys q
+delivered_append q [] ys = refl
+delivered_append q (e ∷ es) ys = delivered_first q e es ys (delivered_append q es ys)
+
+one_delivers_none : (q : ℕ) (e : Entry) (es : List Entry) → is_of_load e ≡ true → chunks_delivered (e ∷ es) q ≡ chunks_delivered es q
+one_delivers_none q (Plan w r c) es p = refl
+one_delivers_none q (Evict w c) es p = refl
+one_delivers_none q (Fill w f x) es p = refl
+one_delivers_none q (Filled w f x) es p = refl
+one_delivers_none q (Failed w r x why) es p = refl
+one_delivers_none q (Register w r) es p = absurd cc
+one_delivers_none q (Deliver w r c) es p = absurd cc
+one_delivers_none q (Release w r c) es p = absurd cc
+one_delivers_none q (Stop w r) es p = absurd cc
+one_delivers_none q (End w r) es p = absurd cc
+
+pub loads_deliver_none : (q : ℕ) (es : List Entry) → AreOfLoads es → chunks_delivered es q ≡ []
+loads_deliver_none q [] p = refl
+loads_deliver_none q (e ∷ es) p = one_delivers_none q e es p.0 ∙ loads_deliver_none q es p.1
+
+-- Turns
+
+-- the pass after it took the state, and after it gave it back
+abbrev pub taken : PassView → List Entry → PassView
+taken p story = record p { seen = story; holding = true }
+
+abbrev pub given : PassView → List Entry → PassView
+given q story = record q { seen = story; mine = entries_by q.number story; holding = false }
+
+-- the worker added these entries of its own in a turn
+pub adds_these : (p q : PassView) (w : ℕ) (before after new : List Entry) → q ≡ taken p before → after ≡ before ++ new → p.number ≡ w → AllBy w new → Adds q.number q.seen after
+adds_these p q w before after new takes is own all =
+    (new, is ∙ ap (λ (l : List Entry). l ++ new) (sym (ap (λ (x : PassView). x.seen) takes)), subst (λ (n : ℕ). AllBy n new) (sym (ap (λ (x : PassView). x.number) takes ∙ own)) all)
+
+pub went_turn : (p q r : PassView) (before after new : List Entry) → q ≡ taken p before → r ≡ given q after → ((more : List Entry) → after ≡ q.seen ++ more → r.mine ≡ q.mine ++ more)
+    → StartsWith before p.seen → after ≡ before ++ new → Went p r new
+went_turn p q r before after new takes gives mine begins is = record {
+  baton = ap (λ (x : PassView). x.baton) gives ∙ ap (λ (x : PassView). x.baton) takes;
+  number = ap (λ (x : PassView). x.number) gives ∙ ap (λ (x : PassView). x.number) takes;
+  origin = ap (λ (x : PassView). x.origin) gives ∙ ap (λ (x : PassView). x.origin) takes;
+  free = ap (λ (x : PassView). x.holding) gives;
+  seen = subst (λ (l : List Entry). StartsWith l p.seen) (sym (ap (λ (x : PassView). x.seen) gives ∙ is)) (starts_more before p.seen new begins);
+  mine = mine new (is ∙ ap (λ (l : List Entry). l ++ new) (sym (ap (λ (x : PassView). x.seen) takes))) ∙ ap (λ (m : List Entry). m ++ new) (ap (λ (x : PassView). x.mine) takes);
+}

@@ -1,0 +1,8 @@
+pub mod Pins
+pub mod Tables
+pub mod Reads
+pub mod Stations
+pub mod Scans
+pub mod Answers
+pub mod Loading
+pub mod Rounds

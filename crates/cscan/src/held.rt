@@ -1,0 +1,94 @@
+// A chunk that is out.
+ghost use Rattle.std.specs.Prelude.{◌≡◌, ◌<◌, true, List, None, Some};
+ghost use Rattle.table_core.specs.Chunk.{chunk as chunk_of};
+ghost use Rattle.table_core.specs.declared.cell.Cell.{Cell};
+ghost use Rattle.piece_format.specs.Cells.{FitsKind, cell_at, dict_len_at, kind_at};
+ghost use Rattle.cscan.specs.Answers.{Releases};
+ghost use Rattle.cscan.specs.Scans.{IsSameScan, IsScan, reads_column};
+ghost use Rattle.cscan.specs.Tables.{HoldsTable};
+
+use crate::cells::{cell_in_frame, piece_with, place_of};
+use crate::given::Given;
+use crate::pinning::unpin_all;
+use crate::scan::CScan;
+use coop_outside::Depot;
+use frame_pool::Content;
+use relevance::Policy;
+use scan_story::Origin;
+use std::sync::Wait;
+use table_core::Cell;
+
+/// A chunk that a scan has out, whose frames are pinned. It must be released.
+#[derive(Debug)]
+pub struct Held {
+    pub(crate) given: Given,
+}
+
+impl Held {
+    /// The chunk, from 0.
+    pub fn chunk(&self) -> u32
+        ensures { result ≡ self.now.given.chunk }
+    {
+        self.given.chunk
+    }
+
+    /// How many rows the chunk has.
+    pub fn rows(&self) -> u32
+        ensures { result ≡ self.now.given.rows }
+    {
+        self.given.rows
+    }
+
+    /// The cell of a row of the chunk, from 0, and a column that the query reads. It can't wait.
+    ///
+    /// Where the depot tells what it holds, it is the table's cell. Over every depot it is NULL, or in a column of texts a
+    /// code below the length of the column's dictionary, or in any other column a number.
+    pub fn cell<S: Origin, C: Content, P: Policy, D: Depot>(
+        &self,
+        scan: &mut CScan<'_, S, C, P, D>,
+        row: u32,
+        column: u32,
+    ) -> Cell
+        requires scan { IsScan S.origin C.pieces scan.old }
+        requires out { scan.old.out ≡ Some self.now.given }
+        requires row { row < self.now.given.rows }
+        requires column { reads_column S.origin.setting scan.old.query column ≡ true }
+        ensures same { scan.new ≡ scan.old }
+        ensures fits { FitsKind (kind_at scan.old.shape.now column) (dict_len_at scan.old.shape.now column) result }
+        ensures cell { (rows : List (List Cell)) → HoldsTable S.origin.held C.pieces scan.old.shape.now rows
+            → result ≡ cell_at (chunk_of rows scan.old.shape.now.per self.now.given.chunk) row column }
+    {
+        let pool = scan.pool;
+        let shape = scan.shape;
+        let piece = piece_with(shape, self.given.chunk, column);
+        let slot = self.given.slots.at(place_of(&self.given.slots, piece));
+        cell_in_frame(pool, shape, &mut scan.station.berth, slot, row, column)
+    }
+
+    /// Gives the chunk back: unpins its frames, and then appends a Release.
+    pub fn release<S: Origin, C: Content, P: Policy, D: Depot, R: Wait>(
+        self,
+        rt: &R,
+        scan: &mut CScan<'_, S, C, P, D>,
+    )
+        requires scan { IsScan S.origin C.pieces scan.old }
+        requires out { scan.old.out ≡ Some self.given }
+        ensures same { IsSameScan scan.old scan.new }
+        ensures out { scan.new.out ≡ None }
+        ensures scan { IsScan S.origin C.pieces scan.new }
+        ensures released { Releases scan.old.station.now.number scan.old.query scan.old.station.now.pass scan.new.station.now.pass self.given.chunk }
+    {
+        let Held { given } = self;
+        let pool = scan.pool;
+        let baton = scan.baton;
+        let query = scan.query;
+        let number = scan.station.number;
+        unpin_all(pool, &mut scan.station.berth, &given.slots);
+        let mut desk = baton.take(rt, &mut scan.station.pass);
+        // It says that the story is legal, and that the origin is one for a desk.
+        let _book = desk.book();
+        desk.release(number, query, given.chunk);
+        baton.give(rt, &mut scan.station.pass, desk);
+        scan.out = None;
+    }
+}

@@ -1,0 +1,24 @@
+//! Scans over shared frames.
+//!
+//! A `CScan` takes the chunks that a query needs, one after another, in whatever order the manager gives them. It loads
+//! pieces where the manager says so, pins the frames of the chunk that it has out, and reads cells under these pins.
+//! docs/SCANS.md has the life of a chunk as a picture.
+#![tactic(auto)]
+
+mod cells;
+mod filling;
+mod gate;
+mod given;
+mod held;
+mod loading;
+mod next;
+mod pinning;
+mod rounds;
+mod scan;
+mod station;
+
+pub use gate::{Gate, NoGate};
+pub use held::Held;
+pub use next::Next;
+pub use scan::CScan;
+pub use station::Station;

@@ -1,0 +1,14 @@
+// What a scan answers.
+use crate::held::Held;
+use scan_story::Cause;
+
+/// What `CScan::next` answers.
+#[derive(Debug)]
+pub enum Next {
+    /// A chunk that the query needs, once.
+    Chunk(Held),
+    /// The query has taken each chunk of its need, and is over.
+    Done,
+    /// The query was stopped, for this cause.
+    Stopped(Cause),
+}
