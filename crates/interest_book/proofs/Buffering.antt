@@ -255,7 +255,7 @@ piece_small s p some groups few low =
     subst (λ (x : ℕ). x < 16384) (sym split) (at_small (chunk_of s p) s.groups (p % s.groups) low few groups (mod-lt p {m = s.groups} (omega (arith, some))))
 
 -- the pieces of chunk c are those from c * n on
-piece_group : (n c p : ℕ) → 1 ≤ n → p / n ≡ c → p ≡ c * n + p % n
+pub piece_group : (n c p : ℕ) → 1 ≤ n → p / n ≡ c → p ≡ c * n + p % n
 piece_group n c p some e = sym (div-add-mod' p n) ∙ ap (λ (k : ℕ). k * n + p % n) e
 
 evicted_has : (s : Setting) (h : History) (c n p f : ℕ) (ps : List (Option ℕ)) → IsSetting s → Keeps s h → n ≡ s.groups → f < s.frames → ((x : ℕ) → x < 16384 → IsPlace s h x (place_at ps x))

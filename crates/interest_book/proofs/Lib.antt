@@ -4,6 +4,7 @@ pub mod Needs
 pub mod Kept
 pub mod Following
 pub mod Buffering
+pub mod Covering
 pub mod Counting
 pub mod Renewing
 pub mod OpenPieces

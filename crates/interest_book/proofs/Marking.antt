@@ -5,7 +5,6 @@ use Rattle.std.proofs.lemmas.List.{get_or-set_same, get_or-set_other, get_or_def
 use Rattle.scan_story.specs.declared.view.Phase.{Phase}
 use Rattle.scan_story.specs.declared.view.Phase.TheVariants.{Waiting, Active, Ended, Stopped}
 use Rattle.scan_story.specs.Counting.{has, count_below}
-use Rattle.scan_story.proofs.Counts.{below_within}
 use Rattle.interest_book.specs.declared.client.Client.{Client}
 use Rattle.interest_book.specs.declared.marks.Marks.{Marks}
 use Rattle.interest_book.specs.declared.frame.Frame.{Frame}
@@ -202,11 +201,11 @@ beyond ks q many le = ap is_active (get_or_past ks q vacant (omega (arith, many,
 abbrev pub IsNumber : List Client → (List Client → ℕ → Bool) → ℕ → Type 0
 IsNumber ks t n = (n ≡ count_below (t ks) (length ks)) × (n ≤ 256)
 
-number_is : (ks vs : List Client) (m : Marks) (t : List Client → ℕ → Bool) (members : List ℕ) (n : ℕ) → AreMarks ks m → ks ≡ vs → n ≡ count_below (has members) 320 → ((q : ℕ) → has members q ≡ t ks q)
+number_is : (ks vs : List Client) (m : Marks) (t : List Client → ℕ → Bool) (p : ℕ → Bool) (n : ℕ) → AreMarks ks m → ks ≡ vs → n ≡ count_below p 320 → ((q : ℕ) → p q ≡ t ks q)
     → ((q : ℕ) → is_active (client_at ks q) ≡ false → t ks q ≡ false) → IsNumber vs t n
-number_is ks vs m t members n are same size is only =
+number_is ks vs m t p n are same size is only =
     let count : n ≡ count_below (t ks) (length ks) =
-    size ∙ (count_same (has members) (t ks) 320 (λ q lt. is q) ∙ (count_cut (t ks) 257 320 (omega arith) (λ q le. only q (beyond ks q are.clients le)) ∙ ap (count_below (t ks)) (sym are.clients))) in
+    size ∙ (count_same p (t ks) 320 (λ q lt. is q) ∙ (count_cut (t ks) 257 320 (omega arith) (λ q le. only q (beyond ks q are.clients le)) ∙ ap (count_below (t ks)) (sym are.clients))) in
     let most = count_but_first (t ks) 256 (only 0 are.nobody) in
     let few : count_below (t ks) (length ks) ≤ 256 = subst (λ (k : ℕ). count_below (t ks) k ≤ 256) (sym are.clients) most in
     subst (λ (us : List Client). IsNumber us t n) same (count, omega (arith, count, few))
@@ -215,7 +214,7 @@ inactive : (a b : Bool) → a ≡ false → (a && b) ≡ false
 inactive a b e = rw e refl
 
 pub running_number : (ks vs : List Client) (m : Marks) (n : ℕ) → AreMarks ks m → ks ≡ vs → n ≡ count_below (has m.active) 320 → IsNumber vs is_active_in n
-running_number ks vs m n are same size = number_is ks vs m is_active_in m.active n are same size are.active (λ q e. e)
+running_number ks vs m n are same size = number_is ks vs m is_active_in (has m.active) n are same size are.active (λ q e. e)
 
 -- for each kind: the row is the chunk's, and the members are in both
 
@@ -231,39 +230,39 @@ not_starved ks q e = inactive (is_active (client_at ks q)) (nat_lt (size_of (cli
 pub interested_number : (ks vs : List Client) (m : Marks) (c n : ℕ) (row both : List ℕ) → AreMarks ks m → ks ≡ vs → c < 1024 → row ≡ get_or m.needing.items c row → ((x : ℕ) → has both x ≡ (has m.active x && has row x)) → n ≡ count_below (has both) 320
     → IsNumber vs (λ us. is_interested_in us c) n
 interested_number ks vs m c n row both are same lt read is size =
-    number_is ks vs m (λ us. is_interested_in us c) both n are same size (interested_has ks m c row both are lt read is) (λ q e. inactive (is_active (client_at ks q)) (has (client_at ks q).remaining c) e)
+    number_is ks vs m (λ us. is_interested_in us c) (has both) n are same size (interested_has ks m c row both are lt read is) (λ q e. inactive (is_active (client_at ks q)) (has (client_at ks q).remaining c) e)
 
 pub starved_number : (ks vs : List Client) (m : Marks) (c n : ℕ) (row both : List ℕ) → AreMarks ks m → ks ≡ vs → c < 1024 → row ≡ get_or m.needing.items c row → ((x : ℕ) → has both x ≡ (has m.starved x && has row x)) → n ≡ count_below (has both) 320
     → IsNumber vs (λ us. is_starved_for us c) n
 starved_number ks vs m c n row both are same lt read is size =
-    number_is ks vs m (λ us. is_starved_for us c) both n are same size (starved_has ks m c row both are lt read is) (λ q e. inactive (is_starved (client_at ks q)) (has (client_at ks q).remaining c) (not_starved ks q e))
+    number_is ks vs m (λ us. is_starved_for us c) (has both) n are same size (starved_has ks m c row both are lt read is) (λ q e. inactive (is_starved (client_at ks q)) (has (client_at ks q).remaining c) (not_starved ks q e))
 
 pub close_number : (ks vs : List Client) (m : Marks) (c n : ℕ) (row both : List ℕ) → AreMarks ks m → ks ≡ vs → c < 1024 → row ≡ get_or m.having.items c row → ((x : ℕ) → has both x ≡ (has m.near x && has row x)) → n ≡ count_below (has both) 320
     → IsNumber vs (λ us. is_close_in us c) n
 close_number ks vs m c n row both are same lt read is size =
-    number_is ks vs m (λ us. is_close_in us c) both n are same size
+    number_is ks vs m (λ us. is_close_in us c) (has both) n are same size
     (λ q. marked_both is_near (λ k. k.available) ks m.near row both m.having.items c (omega (arith, are.having_size, lt)) near_active are.near (λ q on. are.having q c lt on) read is q ∙ near_is_close ks c q)
     (λ q e. inactive (is_active (client_at ks q) && has (client_at ks q).available c) (nat_le (size_of (client_at ks q).available) 2) (inactive (is_active (client_at ks q)) (has (client_at ks q).available c) e))
 
 pub fed_number : (ks vs : List Client) (m : Marks) (c n : ℕ) (row both : List ℕ) → AreMarks ks m → ks ≡ vs → c < 1024 → row ≡ get_or m.having.items c row → ((x : ℕ) → has both x ≡ (has m.starved x && has row x)) → n ≡ count_below (has both) 320
     → IsNumber vs (λ us. feeds_in us c) n
 fed_number ks vs m c n row both are same lt read is size =
-    number_is ks vs m (λ us. feeds_in us c) both n are same size
+    number_is ks vs m (λ us. feeds_in us c) (has both) n are same size
     (marked_both is_starved (λ k. k.available) ks m.starved row both m.having.items c (omega (arith, are.having_size, lt)) starved_active are.starved (λ q on. are.having q c lt on) read is)
     (λ q e. inactive (is_starved (client_at ks q)) (has (client_at ks q).available c) (not_starved ks q e))
 
-pub overlap_number : (ks vs : List Client) (m : Marks) (c n : ℕ) (among row both all : List ℕ) → AreMarks ks m → ks ≡ vs → c < 1024 → row ≡ get_or m.needing.items c row → ((x : ℕ) → has both x ≡ (has m.active x && has row x))
-    → ((x : ℕ) → has all x ≡ (has both x && has among x)) → n ≡ count_below (has all) 320 → IsNumber vs (λ us. overlaps_by us among c) n
-overlap_number ks vs m c n among row both all are same lt read is in_all size =
-    number_is ks vs m (λ us. overlaps_by us among c) all n are same size
-    (λ q. in_all q ∙ ap (λ (b : Bool). b && has among q) (interested_has ks m c row both are lt read is q))
+pub overlap_number : (ks vs : List Client) (m : Marks) (c n : ℕ) (among row both : List ℕ) → AreMarks ks m → ks ≡ vs → c < 1024 → row ≡ get_or m.needing.items c row → ((x : ℕ) → has both x ≡ (has m.active x && has row x))
+    → n ≡ count_below (λ x. has both x && has among x) 320 → IsNumber vs (λ us. overlaps_by us among c) n
+overlap_number ks vs m c n among row both are same lt read is size =
+    number_is ks vs m (λ us. overlaps_by us among c) (λ x. has both x && has among x) n are same size
+    (λ q. ap (λ (b : Bool). b && has among q) (interested_has ks m c row both are lt read is q))
     (λ q e. inactive (is_interested_in ks c q) (has among q) (inactive (is_active (client_at ks q)) (has (client_at ks q).remaining c) e))
 
-pub starved_overlap_number : (ks vs : List Client) (m : Marks) (c n : ℕ) (among row both all : List ℕ) → AreMarks ks m → ks ≡ vs → c < 1024 → row ≡ get_or m.needing.items c row → ((x : ℕ) → has both x ≡ (has m.starved x && has row x))
-    → ((x : ℕ) → has all x ≡ (has both x && has among x)) → n ≡ count_below (has all) 320 → IsNumber vs (λ us. starved_overlaps_by us among c) n
-starved_overlap_number ks vs m c n among row both all are same lt read is in_all size =
-    number_is ks vs m (λ us. starved_overlaps_by us among c) all n are same size
-    (λ q. in_all q ∙ ap (λ (b : Bool). b && has among q) (starved_has ks m c row both are lt read is q))
+pub starved_overlap_number : (ks vs : List Client) (m : Marks) (c n : ℕ) (among row both : List ℕ) → AreMarks ks m → ks ≡ vs → c < 1024 → row ≡ get_or m.needing.items c row → ((x : ℕ) → has both x ≡ (has m.starved x && has row x))
+    → n ≡ count_below (λ x. has both x && has among x) 320 → IsNumber vs (λ us. starved_overlaps_by us among c) n
+starved_overlap_number ks vs m c n among row both are same lt read is size =
+    number_is ks vs m (λ us. starved_overlaps_by us among c) (λ x. has both x && has among x) n are same size
+    (λ q. ap (λ (b : Bool). b && has among q) (starved_has ks m c row both are lt read is q))
     (λ q e. inactive (is_starved_for ks c q) (has among q) (inactive (is_starved (client_at ks q)) (has (client_at ks q).remaining c) (not_starved ks q e)))
 
 -- Frames

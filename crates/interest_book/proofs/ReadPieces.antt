@@ -1,5 +1,5 @@
 -- The pieces that a query reads, read off the groups one by one, and those that stand in no frame.
-use Rattle.std.proofs.Common.{◌≡◌, ◌≢◌, ◌<◌, ◌≤◌, ◌+◌, ◌*◌, ◌∷◌, ◌++◌, [], ◌==◌, ◌||◌, not, ℕ, zero, suc, Bool, true, false, if◌then◌else◌, List, length, map, filter, Option, None, Some, nat_lt, is_some, All, refl, sym, ◌∙◌, ap, subst, arith, inl, inr}
+use Rattle.std.proofs.Common.{◌≡◌, ◌<◌, ◌≤◌, ◌+◌, ◌*◌, ◌∷◌, ◌++◌, [], ◌==◌, not, ℕ, zero, suc, Bool, true, false, if◌then◌else◌, List, map, filter, Option, nat_lt, is_some, All, refl, sym, ◌∙◌, ap, arith, inl, inr}
 use Rattle.std.specs.List.{AllByRecursion}
 use Rattle.std.proofs.lemmas.Bool.{cases_Bool}
 use Rattle.std.proofs.lemmas.Bool.Decides.{nat_tests}
@@ -7,14 +7,13 @@ use Rattle.std.proofs.lemmas.List.{map-append}
 use Rattle.std.proofs.lemmas.List.Elements.{All-head, All-tail}
 use Rattle.scan_story.specs.declared.setting.Setting.{Setting}
 use Rattle.scan_story.specs.Counting.{has}
-use Rattle.scan_story.specs.Setting.{IsSetting, IsRising, groups_read, reads_group, piece_at, pieces_read}
+use Rattle.scan_story.specs.Setting.{IsSetting, IsRising, groups_read, reads_group, pieces_read}
 use Rattle.scan_story.specs.Views.{History, is_framed}
-use Rattle.scan_story.specs.Loads.{missing_pieces}
 use Rattle.interest_book.specs.declared.frame.Frame.{Frame}
 use Rattle.interest_book.specs.Frames.{place_at}
 use Rattle.interest_book.specs.Buffers.{AreFrames}
 use Rattle.interest_book.specs.Placed.{read_below, unplaced}
-use Rattle.interest_book.proofs.Below.{equal_number, other_number}
+use Rattle.interest_book.proofs.Below.{other_number}
 use Rattle.interest_book.proofs.Needs.{groups_rise}
 use Rattle.interest_book.proofs.Counting.{placed_is}
 

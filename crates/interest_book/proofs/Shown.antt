@@ -1,41 +1,39 @@
 -- The numbers of what the book keeps are those of the history that it stands for.
-use Rattle.std.proofs.Common.{◌≡◌, ◌<◌, ◌≤◌, ◌+◌, ◌-◌, ◌∷◌, [], ◌&&◌, ◌||◌, not, ℕ, zero, suc, Bool, true, false, if◌then◌else◌, List, length, map, get_or, Option, None, Some, is_none, is_some, nat_lt, nat_le, unwrap_or, refl, sym, ◌∙◌, ap, subst, arith, inl, inr}
-use Rattle.std.specs.List.{list_any, AllByRecursion}
+use Rattle.std.proofs.Common.{◌≡◌, ◌<◌, ◌≤◌, ◌+◌, ◌-◌, ◌&&◌, ◌||◌, not, ℕ, zero, suc, Bool, true, false, if◌then◌else◌, List, length, get_or, Option, None, Some, is_none, is_some, nat_lt, nat_le, unwrap_or, refl, sym, ◌∙◌, ap, subst, arith, inl, inr}
 use Rattle.std.specs.Option.{option_map}
 use Rattle.std.proofs.lemmas.Bool.{cases_Bool, cases_lt}
 use Rattle.scan_story.specs.declared.view.Phase.TheVariants.{Waiting, Active, Ended, Stopped}
 use Rattle.scan_story.specs.declared.setting.Need as asked
 use Rattle.scan_story.specs.declared.setting.Setting.{Setting}
 use Rattle.scan_story.specs.Counting.{has, count_among, count_below, any_below}
-use Rattle.scan_story.specs.Setting.{IsSetting, IsNeed, need_of, worker_of, columns_in, groups_read, reads_group, shares}
+use Rattle.scan_story.specs.Setting.{IsSetting, need_of, worker_of, shares}
 use Rattle.scan_story.specs.Views.{History, is_registered, is_stopped, is_ended, is_active, needs_chunk, is_wholly_framed, is_available, held_by, is_hold_of, is_held}
 use Rattle.scan_story.specs.Numbers.{needed, available, is_starved, since_wait, is_hold_for, holds_by, holds_for, waiting, running, interested, starved_interested, close, overlap, starved_overlap}
 use Rattle.scan_story.specs.declared.view.Load.{Load}
 use Rattle.scan_story.specs.MayFollow.{feeds_starved, is_target, is_ready, is_trigger}
 use Rattle.std.proofs.lemmas.Bool.Decides.{nat_tests}
 use Rattle.interest_book.specs.declared.loading.Loading.{Loading}
-use Rattle.interest_book.specs.declared.need.Need.{Need}
 use Rattle.interest_book.specs.declared.client.Client.{Client}
 use Rattle.interest_book.specs.declared.book.Book.{Book}
 use Rattle.interest_book.specs.Clients.{IsClient, IsReady, client_at, is_active_phase}
 use Rattle.interest_book.specs.Counted.{size_of}
-use Rattle.interest_book.specs.Counts.{is_active_in, needs_in, is_available_in, needed_in, available_in, is_starved_in, shares_in, is_interested_in, is_starved_for, is_close_in, overlaps_by, starved_overlaps_by, feeds_in, is_target_in, is_ready_in}
+use Rattle.interest_book.specs.Counts.{is_active_in, needs_in, is_available_in, needed_in, available_in, is_starved_in, is_interested_in, is_starved_for, is_close_in, overlaps_by, starved_overlaps_by, feeds_in, is_target_in, is_ready_in}
 use Rattle.interest_book.specs.Marked.{row_at}
 use Rattle.interest_book.specs.Stands.{Stands}
 use Rattle.interest_book.specs.Held.{hold_for}
-use Rattle.interest_book.proofs.Below.{any_same, count_same, equal_number, true_false}
+use Rattle.interest_book.proofs.Below.{any_same, count_same, true_false}
 use Rattle.scan_story.specs.Setting.{piece_at}
 use Rattle.scan_story.specs.Views.{piece_in, is_framed}
 use Rattle.scan_story.specs.Loads.{underway, fills_frame, is_free, free_frames}
 use Rattle.scan_story.specs.Numbers.{missing, cached}
-use Rattle.scan_story.proofs.Counts.{among_same, below_all}
+use Rattle.scan_story.proofs.Counts.{below_all}
 use Rattle.std.proofs.lemmas.List.{get_or_past}
 use Rattle.interest_book.specs.declared.frame.Frame.TheVariants.{Free}
 use Rattle.interest_book.specs.Frames.{frame_at, frame_with, is_free_frame, free_in, held_piece, loading_of}
 use Rattle.interest_book.proofs.Kept.{keeps, active_registered, starved_active, and_first}
 use Rattle.interest_book.proofs.Named.{is_named, named_count, some_among, none_among}
 use Rattle.interest_book.proofs.Needs.{worker_within, is_need}
-use Rattle.interest_book.proofs.Counting.{count_cut, needed_inside, shares_is}
+use Rattle.interest_book.proofs.Counting.{count_cut, needed_inside}
 
 -- Queries
 

@@ -1,5 +1,5 @@
 -- What the book keeps of frames and pieces, and what it stands for.
-use Rattle.std.specs.Prelude.{◌≡◌, ◌==◌, ◌+◌, ◌-◌, ◌*◌, ◌%◌, ◌<◌, ◌≤◌, ◌&&◌, not, ℕ, Bool, true, false, List, Option, None, Some, length, is_some, nat_lt, slice_index_or, if◌then◌else◌}
+use Rattle.std.specs.Prelude.{◌≡◌, ◌==◌, ◌+◌, ◌-◌, ◌*◌, ◌/◌, ◌%◌, ◌<◌, ◌≤◌, ◌&&◌, not, ℕ, Bool, true, false, List, Option, None, Some, length, is_some, nat_lt, slice_index_or, if◌then◌else◌}
 use Rattle.scan_story.specs.declared.view.Load.{Load}
 use Rattle.scan_story.specs.declared.setting.Setting.{Setting}
 use Rattle.scan_story.specs.Counting.{has, is_number, any_below, count_below, count_among}
@@ -47,6 +47,10 @@ pub record IsSized (fs : List Frame) (ps bs : List (Option ℕ)) (n : ℕ) : Typ
   pub groups : (1 ≤ n) × (n ≤ 16)
   pub placed : NamesFrames fs ps
   pub filling : NamesFrames fs bs
+
+-- each chunk of n groups that has a piece in a frame is in the set
+abbrev pub Covers : List (Option ℕ) → ℕ → List ℕ → Type 0
+Covers places n chunks = (p : ℕ) → is_some (place_at places p) ≡ true → has chunks (p / n) ≡ true
 
 -- the frame is one of those that are named
 abbrev pub is_named : List (Option ℕ) → ℕ → ℕ → Bool

@@ -1,5 +1,5 @@
 -- Pieces of a chunk, of what the book keeps.
-use Rattle.std.specs.Prelude.{◌+◌, ◌*◌, ◌++◌, ◌∷◌, [], not, ℕ, zero, suc, Bool, List, Option, filter, is_some, if◌then◌else◌}
+use Rattle.std.specs.Prelude.{◌+◌, ◌*◌, ◌++◌, ◌∷◌, [], not, ℕ, zero, suc, List, Option, filter, is_some, if◌then◌else◌}
 use Rattle.scan_story.specs.Counting.{has}
 use Rattle.interest_book.specs.Frames.{place_at}
 

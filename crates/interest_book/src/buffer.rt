@@ -1,12 +1,12 @@
 //! The frames with what is in them, and the frame of each piece.
 ghost use Rattle.std.specs.Prelude.{◌≡◌, ◌+◌, ◌*◌, ◌/◌, ◌<◌, ◌≤◌, ◌∷◌, ◌&&◌, ℕ, IfOk, None, Some, nat_lt, nat_le, length, is_some, set, if◌then◌else◌};
-ghost use Rattle.interest_book.specs.Frames.{IsSized, NamesFrames, frame_at, place_at, is_named, settled, has_of, missing_in, cached_in, free_in, is_free_frame, held_piece};
+ghost use Rattle.interest_book.specs.Frames.{IsSized, NamesFrames, Covers, frame_at, place_at, is_named, settled, has_of, missing_in, cached_in, free_in, is_free_frame, held_piece};
 ghost use Rattle.interest_book.specs.declared.frame.Frame.TheVariants.{Free, Holds};
 
 use crate::frame::Frame;
 use crate::frames::Frames;
 use std::alloc::{AllocError, Global};
-use table_core::{ColumnSet, Memory};
+use table_core::{ChunkSet, ColumnSet, Memory};
 
 /// The frames and the places of pieces.
 #[derive(Drop)]
@@ -15,6 +15,9 @@ pub struct Buffer {
     pub places: Vec<Option<u32>>,
     pub begun: Vec<Option<u32>>,
     pub groups: u32,
+    /// Chunks, among them each that has a piece in a frame.
+    pub occupied: ChunkSet,
+    ghost covered: { Covers places.items groups occupied },
     ghost sized: { IsSized frames places.items begun.items groups },
 }
 
@@ -86,6 +89,7 @@ impl Buffer {
             places,
             begun,
             groups,
+            occupied: ChunkSet::empty(),
         })
     }
 
@@ -102,6 +106,7 @@ impl Buffer {
     fn hold(&mut self, frame: u32, piece: u32)
         requires frame { frame < length self.old.frames }
         requires piece { piece < 16384 }
+        requires chunk { piece / self.old.groups < 1024 }
         ensures frames { self.new.frames ≡ set self.old.frames frame (Holds piece) }
         ensures places { self.new.places.items ≡ set self.old.places.items piece (Some frame) }
         ensures begun { self.new.begun.items ≡ self.old.begun.items }
@@ -109,6 +114,7 @@ impl Buffer {
     {
         self.frames.put(frame, Frame::Holds(piece));
         self.places[piece as usize] = Some(frame);
+        self.occupied.insert(piece / self.groups);
     }
 
     // The frames that the load began and that have no piece are free.
@@ -150,6 +156,7 @@ impl Buffer {
     {
         let n = self.groups as usize;
         leave(&mut self.frames, &mut self.places, chunk as usize * n, n);
+        self.occupied.remove(chunk);
     }
 
     /// Whether some frame has the piece.

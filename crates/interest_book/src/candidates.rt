@@ -1,10 +1,13 @@
 //! Who may trigger a load, and which chunks may be loaded, delivered and evicted.
 use crate::book::Book;
+use crate::counted_set::CountedSet;
+use crate::holds::unheld;
 
 impl Book {
-    ghost use Rattle.std.specs.Prelude.{◌≡◌, ◌≤◌, ◌&&◌, ◌==◌, ℕ, is_some, nat_lt, not};
+    ghost use Rattle.std.specs.Prelude.{◌≡◌, ◌<◌, ◌≤◌, ◌&&◌, ◌==◌, ℕ, true, false, is_some, nat_lt, not};
+    ghost use Rattle.scan_story.specs.Counting.{has};
     ghost use Rattle.scan_story.specs.declared.setting.Setting.{Setting};
-    ghost use Rattle.scan_story.specs.Views.{History};
+    ghost use Rattle.scan_story.specs.Views.{History, is_held};
     ghost use Rattle.scan_story.specs.Loads.{underway, is_load_of};
     ghost use Rattle.scan_story.specs.MayFollow.{is_target, is_ready, is_trigger, is_victim};
     ghost use Rattle.interest_book.specs.Counts.{is_target_in, is_ready_in};
@@ -65,10 +68,26 @@ impl Book {
     pub fn is_victim(&self, c: u32) -> bool
         ensures { (s : Setting) (h : History) → Stands self.now s h → result ≡ is_victim s h c }
     {
-        if c >= self.chunks || self.cached(c) == 0 || self.is_loaded(c) || self.is_held(c) {
+        self.may_leave(c) && !self.is_held(c)
+    }
+
+    /// Whether the chunk, which nobody holds, has a piece in a frame, isn't loaded, and is available to no starved
+    /// query.
+    pub fn may_leave(&self, c: u32) -> bool
+        ensures { (s : Setting) (h : History) → Stands self.now s h → is_held s h c ≡ false → result ≡ is_victim s h c }
+    {
+        if c >= self.chunks || self.cached(c) == 0 || self.is_loaded(c) {
             return false;
         }
         !self.feeds_starved(c)
+    }
+
+    /// Chunks that nobody holds, among them each victim.
+    pub fn unheld(&self) -> CountedSet
+        ensures unheld { (s : Setting) (h : History) → Stands self.now s h → (c : ℕ) → c < 1024 → has result c ≡ true → is_held s h c ≡ false }
+        ensures victims { (s : Setting) (h : History) → Stands self.now s h → (c : ℕ) → has result c ≡ false → is_victim s h c ≡ false }
+    {
+        CountedSet::of(&unheld(&self.buffer.occupied, &self.holds, self.workers))
     }
 
     // Whether the chunk is the one that is loaded.

@@ -244,8 +244,7 @@ impl Clients {
         self.marks
             .active
             .both(&self.marks.needing[c as usize])
-            .both(among)
-            .size()
+            .common(among)
     }
 
     /// How many starved queries among these need the chunk, at most 256.
@@ -257,8 +256,7 @@ impl Clients {
         self.marks
             .starved
             .both(&self.marks.needing[c as usize])
-            .both(among)
-            .size()
+            .common(among)
     }
 
     /// To how many starved queries the chunk is available.

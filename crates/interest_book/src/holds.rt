@@ -1,11 +1,12 @@
 //! What workers hold, and how long queries wait.
-ghost use Rattle.std.specs.Prelude.{◌≡◌, ◌-◌, ◌<◌, ◌≤◌, ℕ, None, length, slice_index_or, unwrap_or};
+ghost use Rattle.std.specs.Prelude.{◌≡◌, ◌-◌, ◌<◌, ◌≤◌, ◌&&◌, not, ℕ, None, length, slice_index_or, unwrap_or};
 ghost use Rattle.std.specs.Option.{option_map};
-ghost use Rattle.scan_story.specs.Counting.{any_below};
+ghost use Rattle.scan_story.specs.Counting.{any_below, has};
 ghost use Rattle.scan_story.specs.Views.{is_hold_of};
 ghost use Rattle.interest_book.specs.Held.{hold_for};
 
 use scan_story::Hold;
+use table_core::ChunkSet;
 
 fn is_of(hold: Option<Hold>, c: u32) -> bool
     ensures { result ≡ is_hold_of c hold }
@@ -27,6 +28,29 @@ pub fn holds_chunk(holds: &[Option<Hold>], n: u32, c: u32) -> bool
         found = is_of(holds[w as usize], c) || found;
     }
     found
+}
+
+// Takes the chunk that is held, if there is one, out of the set.
+fn leave_out(chunks: &mut ChunkSet, hold: Option<Hold>)
+    ensures { (c : ℕ) → c < 1024 → has chunks.new c ≡ (has chunks.old c && not (is_hold_of c hold)) }
+{
+    if let Some(hold) = hold {
+        if hold.chunk < 1024 {
+            chunks.remove(hold.chunk);
+        }
+    }
+}
+
+/// The chunks of the set that none of the first n workers holds.
+pub fn unheld(chunks: &ChunkSet, holds: &[Option<Hold>], n: u32) -> ChunkSet
+    requires { n ≤ length holds.now }
+    ensures { (c : ℕ) → c < 1024 → has result c ≡ (has chunks.now c && not (any_below (λ w. is_hold_of c (slice_index_or holds.now w None)) n)) }
+{
+    let mut left = chunks.copy();
+    for w in 0..n {
+        leave_out(&mut left, holds[w as usize]);
+    }
+    left
 }
 
 /// Whether the worker, if there is one, holds a chunk for the query.

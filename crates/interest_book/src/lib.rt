@@ -25,6 +25,7 @@ mod sharers;
 mod shifting;
 
 pub use book::Book;
+pub use counted_set::CountedSet;
 pub use loading::Underway;
 pub use need::Need;
 pub use pieces::Pieces;

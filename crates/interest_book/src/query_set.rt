@@ -64,6 +64,20 @@ impl QuerySet {
         QuerySet { words }
     }
 
+    /// How many numbers are members of both.
+    pub fn common(&self, other: &QuerySet) -> u32
+        ensures { result ≡ count_below (λ x. has self.now x && has other.now x) 320 }
+    {
+        let mut count = 0;
+        for i in 0..5 {
+            let word = self.words[i];
+            if word != 0 {
+                count += (word & other.words[i]).count_ones();
+            }
+        }
+        count
+    }
+
     /// How many members there are.
     pub fn size(&self) -> u32
         ensures size { result ≡ count_below (has self.now) 320 }

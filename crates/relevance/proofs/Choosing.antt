@@ -1,12 +1,13 @@
 -- The best of the numbers below a bound is a best one.
 use Rattle.std.proofs.Common.{◌≡◌, ◌<◌, ◌≤◌, ◌+◌, ◌*◌, ◌≤ℤ◌, ℕ, zero, suc, ℤ, Bool, true, false, if◌then◌else◌, Option, None, Some, nat_lt, int_lt, add-one, refl, sym, ◌∙◌, ap, subst, arith, inl, inr}
-use Rattle.std.proofs.lemmas.Bool.{cases_Bool, cases_eq}
+use Rattle.std.proofs.lemmas.Bool.{cases_Bool, cases_eq, cases_lt}
 use Rattle.std.proofs.lemmas.Bool.Decides.{nat_tests}
 use Rattle.std.proofs.lemmas.Int.{ints}
 use Rattle.std.proofs.Math.Nat.{mul-le-mul, mul-le-mul_right, le_of_mul-le-mul_right, mul_right_comm}
 use Rattle.scan_story.specs.declared.ratio.Ratio.{Ratio}
 use Rattle.scan_story.specs.Ratios.{IsAtMost}
-use Rattle.relevance.specs.Best.{better_of, best_below, is_greater, is_less, is_higher, IsFirstBest}
+use Rattle.relevance.specs.declared.best.BestChunk.{BestChunk}
+use Rattle.relevance.specs.Best.{better_of, best_below, chunk_with, greater_of, may_exceed, is_greater, is_less, is_higher, IsFirstBest}
 
 -- what beats is better, and ranks go on through candidates
 pub record IsOrder {K : Type 0} (beats : K → K → Bool) (AtMost : K → K → Type 0) (test : ℕ → Bool) (rank : ℕ → K) : Type 0 where
@@ -146,6 +147,21 @@ less_order test ratio some = record {
   through = λ x y z t xy yz. at_most_through (ratio z) (ratio y) (ratio x) (some y t) yz xy;
 }
 
+-- a ratio over one or more is no greater where its number isn't
+pub no_greater : (best : Option BestChunk) (c : ℕ) (r : Ratio) → 0 < r.den → may_exceed r.num best ≡ false → best ≡ greater_of best c r
+no_greater None c r some e = absurd (true_false true refl e)
+no_greater (Some b) c r some e = sym (ap (λ (t : Bool). if t then Some (chunk_with c r) else Some b) (over b.ratio.num (r.num * b.ratio.den) r.den some e))
+  where
+    beyond : (x y z : ℕ) → x ≤ z → nat_lt x y ≡ false → nat_lt z y ≡ false
+    beyond x y z le e = grind (arith, nat_tests)
+
+    over : (x y d : ℕ) → 0 < d → nat_lt x y ≡ false → nat_lt (x * d) y ≡ false
+    over x y d some e =
+        let one : 1 ≤ d = omega (arith, some) in
+        let itself : x ≤ x = omega arith in
+        let more : x * 1 ≤ x * d = mul-le-mul itself one in
+        beyond x y (x * d) (omega (arith, more)) e
+
 -- Ranks
 
 pub rank_order : (test : ℕ → Bool) (rank : ℕ → ℤ) → IsOrder is_higher (λ a b. a ≤ℤ b) test rank
@@ -176,6 +192,49 @@ rank_order test rank = record {
 pub best_below_more : {B K : Type 0} (made : ℕ → K → B) (key : B → K) (beats : K → K → Bool) (test : ℕ → Bool) (rank : ℕ → K) (n : ℕ)
     → best_below made key beats test rank (n + 1) ≡ (if test n then better_of made key beats (best_below made key beats test rank n) n (rank n) else best_below made key beats test rank n)
 best_below_more made key beats test rank n = rw add-one refl
+
+-- numbers that don't pass change nothing
+
+best_past : {B K : Type 0} (made : ℕ → K → B) (key : B → K) (beats : K → K → Bool) (test : ℕ → Bool) (rank : ℕ → K) (a m : ℕ) → a ≤ m → ((y : ℕ) → a ≤ y → y < m → test y ≡ false)
+    → best_below made key beats test rank m ≡ best_below made key beats test rank a
+best_past made key beats test rank a zero le none = let at : zero ≡ a = omega (arith, le) in ap (best_below made key beats test rank) at
+best_past made key beats test rank a (suc m) le none = elim (cases_eq a (suc m)) [
+  | inl at ↦ ap (best_below made key beats test rank) (sym at)
+  | inr ne ↦ (let before : a ≤ m = omega (arith, le, ne) in
+      ap (λ (t : Bool). if t then better_of made key beats (best_below made key beats test rank m) m (rank m) else best_below made key beats test rank m) (none m before (omega arith))
+      ∙ best_past made key beats test rank a m before (λ y from lt. none y from (omega (arith, lt))))
+]
+
+-- c is the first to be tried from a on
+best_next : {B K : Type 0} (made : ℕ → K → B) (key : B → K) (beats : K → K → Bool) (test : ℕ → Bool) (rank : ℕ → K) (a c : ℕ) → a ≤ c → ((y : ℕ) → a ≤ y → y < c → test y ≡ false)
+    → best_below made key beats test rank (c + 1) ≡ (if test c then better_of made key beats (best_below made key beats test rank a) c (rank c) else best_below made key beats test rank a)
+best_next made key beats test rank a c le none =
+    best_below_more made key beats test rank c ∙ ap (λ o. if test c then better_of made key beats o c (rank c) else o) (best_past made key beats test rank a c le none)
+
+pub taken : {B K : Type 0} (made : ℕ → K → B) (key : B → K) (beats : K → K → Bool) (test : ℕ → Bool) (rank : ℕ → K) (a c : ℕ) (best new : Option B) → a ≤ c → ((y : ℕ) → a ≤ y → y < c → test y ≡ false)
+    → test c ≡ true → best ≡ best_below made key beats test rank a → new ≡ better_of made key beats best c (rank c) → new ≡ best_below made key beats test rank (c + 1)
+taken made key beats test rank a c best new le none t is e =
+    e ∙ (ap (λ o. better_of made key beats o c (rank c)) is
+    ∙ (ap (λ (b : Bool). if b then better_of made key beats (best_below made key beats test rank a) c (rank c) else best_below made key beats test rank a) (sym t) ∙ sym (best_next made key beats test rank a c le none)))
+
+pub passed : {B K : Type 0} (made : ℕ → K → B) (key : B → K) (beats : K → K → Bool) (test : ℕ → Bool) (rank : ℕ → K) (a c : ℕ) (best : Option B) → a ≤ c → ((y : ℕ) → a ≤ y → y < c → test y ≡ false)
+    → test c ≡ false → best ≡ best_below made key beats test rank a → best ≡ best_below made key beats test rank (c + 1)
+passed made key beats test rank a c best le none t is =
+    is ∙ (ap (λ (b : Bool). if b then better_of made key beats (best_below made key beats test rank a) c (rank c) else best_below made key beats test rank a) (sym t) ∙ sym (best_next made key beats test rank a c le none))
+
+-- none passes from a on, and those that pass are below n
+pub best_end : {B K : Type 0} (made : ℕ → K → B) (key : B → K) (beats : K → K → Bool) (test : ℕ → Bool) (rank : ℕ → K) (a n : ℕ) → ((y : ℕ) → a ≤ y → test y ≡ false) → ((y : ℕ) → test y ≡ true → y < n)
+    → best_below made key beats test rank a ≡ best_below made key beats test rank n
+best_end made key beats test rank a n none bound = elim (cases_lt a n) [
+  | inl lt ↦ sym (best_past made key beats test rank a n (omega (arith, lt)) (λ y from _. none y from))
+  | inr not ↦ best_past made key beats test rank n a (omega (arith, not)) (λ y from _. beyond y from)
+]
+  where
+    beyond : (y : ℕ) → n ≤ y → test y ≡ false
+    beyond y from = elim (cases_Bool (test y)) [
+      | inl so ↦ absurd (let low = bound y so in omega (arith, from, low))
+      | inr not ↦ not
+    ]
 
 pub small_product : (a b : ℕ) → a ≤ 256 → b < 4294967296 → a * b ≤ 1099511627776
 small_product a b few small = let high : b ≤ 4294967296 = omega (arith, small) in let most : a * b ≤ 256 * 4294967296 = mul-le-mul few high in omega (arith, most)

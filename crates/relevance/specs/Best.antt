@@ -47,6 +47,11 @@ greatest_below = best_below chunk_with ratio_of is_greater
 abbrev pub least_below : (ℕ → Bool) → (ℕ → Ratio) → ℕ → Option BestChunk
 least_below = best_below chunk_with ratio_of is_less
 
+-- a ratio with this number over one or more may be greater than the best
+abbrev pub may_exceed : ℕ → Option BestChunk → Bool
+may_exceed num None = true
+may_exceed num (Some b) = nat_lt b.ratio.num (num * b.ratio.den)
+
 abbrev pub chunk_in : Option BestChunk → Option ℕ
 chunk_in None = None
 chunk_in (Some b) = Some b.chunk

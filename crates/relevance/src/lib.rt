@@ -4,6 +4,7 @@
 #![tactic(auto)]
 
 mod best;
+mod loads;
 mod policy;
 mod ranks;
 mod relevance;

@@ -27,6 +27,14 @@ pub fn query_rank(book: &Book, q: u32) -> i64
     waited - wanted
 }
 
+/// The number of the ratio by which a chunk is loaded for the query, before it is divided.
+pub fn load_gain(book: &Book, q: u32, c: u32) -> u32
+    requires { q ≤ 256 }
+    ensures { (s : Setting) (h : History) → Stands book.now s h → result ≡ (load_ratio s h q c).num }
+{
+    1024 * book.starved_overlap(q, c) + book.overlap(q, c)
+}
+
 /// How much is gained by loading the chunk for the query.
 pub fn load_ratio(book: &Book, q: u32, c: u32) -> Ratio
     requires query { q ≤ 256 }
@@ -34,7 +42,7 @@ pub fn load_ratio(book: &Book, q: u32, c: u32) -> Ratio
     ensures { (s : Setting) (h : History) → Stands book.now s h → result ≡ load_ratio s h q c }
 {
     Ratio {
-        num: 1024 * book.starved_overlap(q, c) + book.overlap(q, c),
+        num: load_gain(book, q, c),
         den: book.missing_for(q, c),
     }
 }

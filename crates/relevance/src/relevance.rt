@@ -9,8 +9,9 @@ ghost use Rattle.relevance.specs.Best.{IsFirstBest, is_higher, is_greater, is_le
 ghost use Rattle.relevance.specs.Picks.{PicksQuery, PicksLoad, PicksDelivery, PicksVictim, cursor_after_load, cursor_after_delivery, HasActive, HasNoneBegun};
 
 use crate::best::{chunk_in, greater_of, higher_of, lesser_of, query_in};
+use crate::loads::gaining_more;
 use crate::policy::Policy;
-use crate::ranks::{keep_ratio, load_ratio, query_rank, use_ratio};
+use crate::ranks::{keep_ratio, query_rank, use_ratio};
 use interest_book::Book;
 use scan_story::PolicyName;
 
@@ -45,7 +46,6 @@ impl Policy for Relevance {
         query_in(best)
     }
 
-    #[tactic(auto, using(crate::proofs::Choosing::best_below_more))]
     fn pick_load(&mut self, book: &Book, q: u32) -> Option<u32>
         requires { HasActive book.now q }
         ensures picks { (s : Setting) (h : History) → Stands book.now s h → PicksLoad names.Relevance [] s h q result }
@@ -53,10 +53,12 @@ impl Policy for Relevance {
         ensures cursor { (s : Setting) (h : History) → Stands book.now s h → [] ≡ cursor_after_load names.Relevance s [] q result }
     {
         let mut best = None;
-        for c in 0..book.chunks() {
+        let mut from = 0;
+        while let Some(c) = book.least_needed_from(q, from) {
             if book.is_target(q, c) {
-                best = greater_of(best, c, load_ratio(book, q, c));
+                best = gaining_more(best, book, q, c);
             }
+            from = c + 1;
         }
         chunk_in(best)
     }
@@ -77,17 +79,19 @@ impl Policy for Relevance {
         chunk_in(best)
     }
 
-    #[tactic(auto, using(crate::proofs::Choosing::best_below_more))]
     fn pick_victim(&mut self, book: &Book) -> Option<u32>
         requires { HasNoneBegun book.now }
         ensures picks { (s : Setting) (h : History) → Stands book.now s h → PicksVictim names.Relevance [] s h result }
         ensures first { (s : Setting) (h : History) → Stands book.now s h → IfSome result (IsFirstBest is_less (is_victim s h) (keep_ratio s h)) }
     {
+        let unheld = book.unheld();
         let mut best = None;
-        for c in 0..book.chunks() {
-            if book.is_victim(c) {
+        let mut from = 0;
+        while let Some(c) = unheld.least_from(from) {
+            if book.may_leave(c) {
                 best = lesser_of(best, c, keep_ratio(book, c));
             }
+            from = c + 1;
         }
         chunk_in(best)
     }

@@ -1,4 +1,4 @@
-use Rattle.std.proofs.Common.{◌≡◌, ◌<◌, ◌≤◌, ℕ, length, get_or, bit_and}
+use Rattle.std.proofs.Common.{◌≡◌, ◌<◌, ℕ, length, get_or, bit_and}
 use Rattle.interest_book.proofs.query_set.QuerySet.both.Given as goal
 
 abbrev pub invariant-loop-i : goal.invariant-loop-i
