@@ -7,3 +7,4 @@ pub mod Passing
 mod Turning
 mod Rounding
 mod Scanning
+mod Rows

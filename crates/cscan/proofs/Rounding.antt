@@ -5,6 +5,7 @@ use Rattle.scan_story.specs.declared.cause.Cause.{Cause}
 use Rattle.scan_story.specs.declared.entry.Entry.{Entry}
 use Rattle.scan_story.specs.declared.entry.Entry.TheVariants.{Deliver, End}
 use Rattle.scan_story.specs.declared.setting.Setting.{Setting}
+use Rattle.scan_story.specs.Counting.{has}
 use Rattle.story_laws.specs.Queries.{chunks_delivered}
 use Rattle.story_laws.proofs.Bools.{if_here, self_number}
 use Rattle.baton.specs.Passes.{PassView, Went}
@@ -28,6 +29,10 @@ pub delivered_nothing : (q : ℕ) (p r : PassView) (loads last : List Entry) →
 delivered_nothing q p r loads last only went none =
     delivered_more q p r loads last only went ∙ (ap (λ (l : List ℕ). chunks_delivered p.mine q ++ l) none ∙ append-nil (chunks_delivered p.mine q))
 
+-- loads deliver nothing
+loads_deliver : (q : ℕ) (p r : PassView) (loads : List Entry) → AreOfLoads loads → Went p r loads → chunks_delivered r.mine q ≡ chunks_delivered p.mine q
+loads_deliver q p r loads only went = delivered_nothing q p r loads [] only (subst (Went p r) (sym (append-nil loads)) went) refl
+
 -- entries of loads first
 went_both : (p r t : PassView) (a b last : List Entry) → Went p r a → Went r t (b ++ last) → Went p t ((a ++ b) ++ last)
 went_both p r t a b last first second = subst (Went p t) (sym (append_assoc a b last)) (went_on p r t a (b ++ last) first second)
@@ -45,7 +50,16 @@ pub then_takes : (s : Setting) (w q c : ℕ) (p r t : PassView) → GoesOn s w q
 then_takes s w q c p r t a b =
     let only = loads_append a.loads b.loads a.only_loads b.only_loads in
     let went = went_both p r t a.loads b.loads (Deliver w q c ∷ []) a.went b.went in
-    record { loads = a.loads ++ b.loads; only_loads = only; went = went; before = b.before; seen = b.seen; ready = b.ready; taken = delivered_chunk w q c p t (a.loads ++ b.loads) only went }
+    record {
+      loads = a.loads ++ b.loads;
+      only_loads = only;
+      went = went;
+      before = b.before;
+      seen = b.seen;
+      ready = b.ready;
+      fresh = ap (λ (l : List ℕ). has l c) (sym (loads_deliver q p r a.loads a.only_loads a.went)) ∙ b.fresh;
+      taken = delivered_chunk w q c p t (a.loads ++ b.loads) only went;
+    }
 
 pub then_ends : (s : Setting) (w q : ℕ) (p r t : PassView) → GoesOn s w q p r → Ends s w q r t → Ends s w q p t
 then_ends s w q p r t a b =
@@ -67,4 +81,4 @@ then_stopped s w q p r t cause a b =
     let loads = a.loads ++ b.loads in
     let only = loads_append a.loads b.loads a.only_loads b.only_loads in
     let went = went_on p r t a.loads b.loads a.went b.went in
-    record { loads = loads; only_loads = only; went = went; first = b.first; taken = delivered_nothing q p t loads [] only (subst (Went p t) (sym (append-nil loads)) went) refl }
+    record { loads = loads; only_loads = only; went = went; first = b.first; taken = loads_deliver q p t loads only went }

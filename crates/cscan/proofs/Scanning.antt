@@ -13,11 +13,14 @@ use Rattle.scan_story.specs.Views.{History, is_active, is_stopped, past}
 use Rattle.scan_story.proofs.Prefixes.{past_next}
 use Rattle.story_laws.proofs.Bools.{either, equal_number, not_both, or_left, or_right, same_number, self_number}
 use Rattle.abm_policy.specs.Turns.{MayTurn}
+use Rattle.frame_pool.specs.Frames.{Told}
+use Rattle.scan_story.specs.declared.origin.Start.{Start}
 use Rattle.piece_format.specs.Shape.{TableShape, groups, groups_in}
 use Rattle.piece_format.specs.declared.layout.Layout.{Layout}
 use Rattle.piece_format.specs.declared.layout.Layout.TheVariants as layouts
 use Rattle.cscan.specs.declared.given.Given.{Given}
-use Rattle.cscan.specs.Scans.{IsAt, reads_column}
+use Rattle.cscan.specs.declared.scan.CScan.{CScan}
+use Rattle.cscan.specs.Scans.{IsAt, IsGiven, IsOut, IsScan, reads_column}
 use Rattle.cscan.specs.Tables.{group_with, piece_with}
 use Rattle.cscan.proofs.Turning.{stopped_inactive}
 
@@ -26,6 +29,12 @@ pub may_turn : (s : Setting) (h : History) (w q : ℕ) (out : Option Given) → 
 may_turn s h w q out at none =
     let a = subst (λ (o : Option Given). IsAt s h w q o) none at in
     record { runs = a.runs; idle = record { holds_nothing = a.holds; loads_nothing = a.loads_nothing } }
+
+-- what is out is as it was given
+module _ {S C P D : Type 0} where
+  pub given_out : (o : Start) (told : Told) (scan : CScan S C P D) (given : Given) → IsScan o told scan → scan.out ≡ Some given
+      → IsGiven o.setting scan.shape.now (past scan.station.now.pass.seen) scan.query given
+  given_out o told scan given is out = subst (λ (x : Option Given). IsOut o.setting scan.shape.now (past scan.station.now.pass.seen) scan.query x) out is.given
 
 -- Stops
 

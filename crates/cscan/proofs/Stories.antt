@@ -1,10 +1,18 @@
 -- What turns of one worker add to its entries.
-use Rattle.std.proofs.Common.{◌≡◌, ◌==◌, ◌++◌, ◌∷◌, [], ℕ, true, false, if◌then◌else◌, List, refl, sym, ap, ◌∙◌, subst}
+use Rattle.std.proofs.Common.{◌≡◌, ◌==◌, ◌++◌, ◌∷◌, [], ℕ, Bool, true, false, if◌then◌else◌, List, refl, sym, ap, ◌∙◌, subst}
+use Rattle.std.specs.List.{filter, list_any}
+use Rattle.std.proofs.lemmas.List.Sorted.{IsPermutation-reverse, list_any-IsPermutation}
 use Rattle.scan_story.specs.declared.entry.Entry.{Entry}
 use Rattle.scan_story.specs.declared.entry.Entry.TheVariants.{Register, Plan, Evict, Fill, Filled, Failed, Deliver, Release, Stop, End}
-use Rattle.scan_story.specs.Makers.{Adds, AllBy, entries_by, StartsWith}
+use Rattle.scan_story.specs.declared.setting.Setting.{Setting}
+use Rattle.scan_story.specs.Counting.{has}
+use Rattle.scan_story.specs.Makers.{Adds, AllBy, entries_by, maker_of, StartsWith}
+use Rattle.scan_story.specs.MayFollow.{is_ready}
+use Rattle.scan_story.specs.Views.{delivers, past}
 use Rattle.scan_story.proofs.Growing.{starts_more}
 use Rattle.story_laws.specs.Queries.{chunks_delivered}
+use Rattle.story_laws.proofs.Bools.{if_not, not_both, or_more, or_right}
+use Rattle.story_laws.proofs.Delivering.{delivered_is, ready}
 use Rattle.baton.specs.Passes.{PassView, Went}
 use Rattle.abm_policy.specs.Loads.{all_filled, evicts, fills}
 use Rattle.cscan.specs.Answers.{AreOfLoads, is_of_load}
@@ -81,6 +89,21 @@ one_delivers_none q (End w r) es p = absurd cc
 pub loads_deliver_none : (q : ℕ) (es : List Entry) → AreOfLoads es → chunks_delivered es q ≡ []
 loads_deliver_none q [] p = refl
 loads_deliver_none q (e ∷ es) p = one_delivers_none q e es p.0 ∙ loads_deliver_none q es p.1
+
+-- what is found among the elements that are kept is there
+any_kept : {A : Type 0} (t keeps : A → Bool) (xs : List A) → list_any t (filter keeps xs) ≡ true → list_any t xs ≡ true
+any_kept t keeps [] e = e
+any_kept t keeps (x ∷ xs) e =
+    (elim (keeps x) as (λ k. list_any t (if k then x ∷ filter keeps xs else filter keeps xs) ≡ true → list_any t (x ∷ xs) ≡ true) [
+      | true ↦ or_more (t x) (list_any t (filter keeps xs)) (t x) (list_any t xs) (λ here. here) (any_kept t keeps xs)
+      | false ↦ λ rest. or_right (t x) (list_any t xs) (any_kept t keeps xs rest)
+    ]) e
+
+-- a chunk that is available to a query was not delivered to it by a worker
+pub ready_fresh : (s : Setting) (w q c : ℕ) (es : List Entry) → is_ready s (past es) q c ≡ true → has (chunks_delivered (entries_by w es) q) c ≡ false
+ready_fresh s w q c es e =
+    if_not (has (chunks_delivered (entries_by w es) q) c)
+    (λ t. not_both (list_any (delivers q c) (past es)) (sym (list_any-IsPermutation (delivers q c) es (past es) (IsPermutation-reverse es)) ∙ any_kept (delivers q c) (λ x. maker_of x == w) es (delivered_is (entries_by w es) q c ∙ t)) (ready s (past es) q c e).fresh)
 
 -- Turns
 

@@ -6,6 +6,7 @@ use Rattle.scan_story.specs.declared.entry.Entry.{Entry}
 use Rattle.scan_story.specs.declared.entry.Entry.TheVariants.{Plan, Evict, Fill, Filled, Failed, Deliver, Release, Stop, End}
 use Rattle.scan_story.specs.declared.origin.Start.{Start}
 use Rattle.scan_story.specs.declared.setting.Setting.{Setting}
+use Rattle.scan_story.specs.Counting.{has}
 use Rattle.scan_story.specs.Views.{past, is_stopped}
 use Rattle.scan_story.specs.Numbers.{needed}
 use Rattle.scan_story.specs.MayFollow.{is_ready}
@@ -32,7 +33,7 @@ abbrev pub AreOfLoads : List Entry → Type 0
 AreOfLoads [] = Unit {0}
 AreOfLoads (e ∷ es) = (is_of_load e ≡ true) × AreOfLoads es
 
--- after loads the worker was delivered the chunk, which was available to the query and not yet delivered to it
+-- after loads the worker was delivered the chunk, which was available to the query and not among those that the worker had taken for it
 pub record TakesChunk (s : Setting) (w q : ℕ) (p r : PassView) (c : ℕ) : Type 0 where
   pub loads : List Entry
   pub only_loads : AreOfLoads loads
@@ -40,6 +41,7 @@ pub record TakesChunk (s : Setting) (w q : ℕ) (p r : PassView) (c : ℕ) : Typ
   pub before : List Entry
   pub seen : r.seen ≡ before ++ Deliver w q c ∷ []
   pub ready : is_ready s (past before) q c ≡ true
+  pub fresh : has (chunks_delivered p.mine q) c ≡ false
   pub taken : chunks_delivered r.mine q ≡ chunks_delivered p.mine q ++ c ∷ []
 
 -- after loads the query, which wasn't stopped and needed nothing more, was ended

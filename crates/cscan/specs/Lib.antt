@@ -3,6 +3,8 @@ pub mod Tables
 pub mod Reads
 pub mod Stations
 pub mod Scans
+pub mod Rows
+pub mod Framed
 pub mod Answers
 pub mod Loading
 pub mod Rounds

@@ -1,22 +1,26 @@
 // A chunk that is out.
-ghost use Rattle.std.specs.Prelude.{◌≡◌, ◌<◌, true, List, None, Some};
+ghost use Rattle.std.specs.Prelude.{◌≡◌, ◌<◌, true, List, None, Some, length};
 ghost use Rattle.table_core.specs.Chunk.{chunk as chunk_of};
 ghost use Rattle.table_core.specs.declared.cell.Cell.{Cell};
 ghost use Rattle.piece_format.specs.Cells.{FitsKind, cell_at, dict_len_at, kind_at};
 ghost use Rattle.cscan.specs.Answers.{Releases};
+ghost use Rattle.cscan.specs.Rows.{FitColumns, HasCellsOf, OthersAreNull, ReadsColumns};
 ghost use Rattle.cscan.specs.Scans.{IsSameScan, IsScan, reads_column};
 ghost use Rattle.cscan.specs.Tables.{HoldsTable};
 
-use crate::cells::{cell_in_frame, piece_with, place_of};
+use crate::cells::{cell_in_frame, group_with, piece_with, place_of};
+use crate::framed::Framed;
 use crate::given::Given;
 use crate::pinning::unpin_all;
+use crate::row_cells::{read_columns, read_slots};
 use crate::scan::CScan;
 use coop_outside::Depot;
 use frame_pool::Content;
+use piece_format::Layout;
 use relevance::Policy;
 use scan_story::Origin;
 use std::sync::Wait;
-use table_core::Cell;
+use table_core::{Cell, ColumnSet};
 
 /// A chunk that a scan has out, whose frames are pinned. It must be released.
 #[derive(Debug)]
@@ -62,7 +66,41 @@ impl Held {
         let shape = scan.shape;
         let piece = piece_with(shape, self.given.chunk, column);
         let slot = self.given.slots.at(place_of(&self.given.slots, piece));
-        cell_in_frame(pool, shape, &mut scan.station.berth, slot, row, column)
+        let framed = Framed::of(shape, slot, self.given.rows, group_with(shape, column));
+        cell_in_frame(pool, shape, &mut scan.station.berth, framed, row, column)
+    }
+
+    /// Reads a row of the chunk, from 0, for some columns that the query reads: each one's cell, as `cell` says it, comes into
+    /// its place, and NULL into every other place. There is a place for each column of the table. It can't wait.
+    pub fn row<S: Origin, C: Content, P: Policy, D: Depot>(
+        &self,
+        scan: &mut CScan<'_, S, C, P, D>,
+        row: u32,
+        columns: &ColumnSet,
+        cells: &mut [Cell],
+    )
+        requires scan { IsScan S.origin C.pieces scan.old }
+        requires out { scan.old.out ≡ Some self.now.given }
+        requires row { row < self.now.given.rows }
+        requires columns { ReadsColumns S.origin.setting scan.old.query columns.now }
+        requires width { length cells.old ≡ length scan.old.shape.now.kinds }
+        ensures same { scan.new ≡ scan.old }
+        ensures width { length cells.new ≡ length cells.old }
+        ensures fits { FitColumns scan.old.shape.now columns.now cells.new }
+        ensures others { OthersAreNull columns.now cells.new }
+        ensures cells { (rows : List (List Cell)) → HoldsTable S.origin.held C.pieces scan.old.shape.now rows
+            → HasCellsOf (chunk_of rows scan.old.shape.now.per self.now.given.chunk) row columns.now cells.new }
+    {
+        let pool = scan.pool;
+        let shape = scan.shape;
+        let berth = &mut scan.station.berth;
+        match shape.layout {
+            Layout::Row => {
+                let framed = Framed::of(shape, self.given.slots.at(0), self.given.rows, 0);
+                read_columns(pool, shape, berth, framed, row, columns, cells);
+            }
+            Layout::Column => read_slots(pool, shape, berth, &self.given, row, columns, cells),
+        }
     }
 
     /// Gives the chunk back: unpins its frames, and then appends a Release.

@@ -7,6 +7,7 @@
 
 mod cells;
 mod filling;
+mod framed;
 mod gate;
 mod given;
 mod held;
@@ -14,6 +15,7 @@ mod loading;
 mod next;
 mod pinning;
 mod rounds;
+mod row_cells;
 mod scan;
 mod station;
 

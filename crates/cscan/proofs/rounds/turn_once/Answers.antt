@@ -3,10 +3,12 @@ use Rattle.std.proofs.lemmas.List.{append-nil}
 use Rattle.scan_story.specs.declared.entry.Entry.{Entry}
 use Rattle.scan_story.specs.declared.entry.Entry.TheVariants.{Plan, Deliver, End}
 use Rattle.scan_story.specs.Causes.{cause_of}
+use Rattle.scan_story.specs.Counting.{has}
 use Rattle.scan_story.specs.Legal.{Legal}
 use Rattle.scan_story.specs.Loads.{underway}
 use Rattle.scan_story.specs.Views.{past}
 use Rattle.story_laws.specs.Lists.{NoneTwice}
+use Rattle.story_laws.specs.Queries.{chunks_delivered}
 use Rattle.story_laws.proofs.Grouped.{grouped}
 use Rattle.abm_policy.specs.Depots.{IsHandedOut, depot_view}
 use Rattle.abm_policy.specs.Loads.{evicts, fills}
@@ -22,7 +24,7 @@ use Rattle.cscan.specs.Stations.{Waits}
 use Rattle.cscan.specs.Scans.{IsAt, IsAtRest, IsGiven}
 use Rattle.cscan.proofs.Passing.{waits_again, went_on_since}
 use Rattle.cscan.proofs.Rounding.{delivered_chunk, delivered_nothing}
-use Rattle.cscan.proofs.Stories.{adds_these, evicts_loads, fills_loads, loads_append, went_turn}
+use Rattle.cscan.proofs.Stories.{adds_these, evicts_loads, fills_loads, loads_append, ready_fresh, went_turn}
 use Rattle.cscan.proofs.Turning.{ended_idle, ended_inactive, held_after, load_after, ready_below, row_finished, row_stopped, stand_apart, stopped_inactive, turn_added}
 use Rattle.cscan.proofs.rounds.turn_once.Goals as goal
 use Rattle.cscan.proofs.rounds.turn_once.Goals.{After-book-book, After-give}
@@ -111,7 +113,16 @@ returns-in-Take-clause-round g c =
     let out : Given = record { chunk = chunk; rows = c.rows_of-rows.result; slots = slots } in
     let made = turned g at.After-give (Deliver w q chunk ∷ []) a.added in
     let once = subst NoneTwice (sym a.read) ((grouped s c.book-book.ensures.start.setting).once q chunk) in (
-      record { loads = []; only_loads = tt; went = made; before = old; seen = seen ∙ a.added; ready = a.ready; taken = delivered_chunk w q chunk c.args.station.now.pass c.give.new.pass [] tt made },
+      record {
+        loads = [];
+        only_loads = tt;
+        went = made;
+        before = old;
+        seen = seen ∙ a.added;
+        ready = a.ready;
+        fresh = ap (λ (l : List Entry). has (chunks_delivered l q) chunk) (sym ((went g at.After-book-book).own ∙ c.requires.seated.0.4)) ∙ ready_fresh s w q chunk old a.ready;
+        taken = delivered_chunk w q chunk c.args.station.now.pass c.give.new.pass [] tt made;
+      },
       subst (λ (l : List Entry). Legal s (past l)) (sym seen) c.turn-turn.ensures.legal,
       subst (λ (l : List Entry). IsAt s (past l) w q (Some out)) (sym seen)
           (record { runs = a.runs; holds = held_after old new w q chunk a.added; loads_nothing = load_after s old new w q chunk a.added (may g at.After-book-book).idle.loads_nothing }),

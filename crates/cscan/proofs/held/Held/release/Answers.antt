@@ -8,15 +8,16 @@ use Rattle.abm_policy.proofs.Meanwhile.{holds_stay, runs_stay}
 use Rattle.baton.specs.Passes.{PassView}
 use Rattle.cscan.specs.declared.given.Given.{Given}
 use Rattle.cscan.specs.Pins.{AreFrames, pins_of}
-use Rattle.cscan.specs.Scans.{IsAt, IsGiven, IsOut, hold_of, slots_out}
+use Rattle.cscan.specs.Scans.{IsAt, IsGiven, hold_of, slots_out}
 use Rattle.cscan.proofs.Passing.{waits_again, went_on_since}
 use Rattle.cscan.proofs.Stories.{adds_these, went_turn}
+use Rattle.cscan.proofs.Scanning.{given_out}
 use Rattle.cscan.proofs.held.Held.release.Goals as goal
 use Rattle.cscan.proofs.held.Held.release.Goals.{After-book-book, Start}
 
 -- what is out
 out : (g : _) (c : Start g) → IsGiven g.S.Origin.origin.setting c.args.scan.now.shape.now (past c.args.scan.now.station.now.pass.seen) c.args.scan.now.query c.args.self.given
-out g c = subst (λ (o : Option Given). IsOut g.S.Origin.origin.setting c.args.scan.now.shape.now (past c.args.scan.now.station.now.pass.seen) c.args.scan.now.query o) c.requires.out c.requires.scan.given
+out g c = given_out g.S.Origin.origin g.C.Content.pieces c.args.scan.now c.args.self.given c.requires.scan c.requires.out
 
 went : (g : _) (c : After-book-book g) → WentOn g.S.Origin.origin.setting c.args.scan.now.station.now.number c.args.scan.now.station.now.pass.seen c.take-desk.result
 went g c =
