@@ -13,10 +13,10 @@ use Rattle.run_texts.specs.declared.stop.Stop.{Stop}
 use Rattle.run_texts.specs.declared.stop.Stop.TheVariants as stop
 use Rattle.table_core.specs.Table.{TableRows}
 use Rattle.table_core.specs.Value.{row_values}
-use Rattle.batch_inputs.specs.Ending.{AreInputs, Decides, Ends, IsRead, IsReadFault, IsTextOf, IsTextRead, SourceFails}
-use Rattle.batch_inputs.specs.Order.{batch_stop, first_stop, load_stop, size_stop, stop_in, table_size_stop, table_stop}
+use Rattle.batch_inputs.specs.Ending.{AreInputs, Ends, IsRead, IsReadFault, IsReadWith, IsTextOf, IsTextRead, SourceFails}
+use Rattle.batch_inputs.specs.Order.{batch_stop, first_stop, load_stop, short_batch_stop, short_table_stop, size_stop, stop_in, table_size_stop, table_stop}
 use Rattle.batch_inputs.specs.Sources.{Source, made, stored, batch_source, table_source, text_in}
-use Rattle.batch_inputs.proofs.Texts.{some-text, text-told}
+use Rattle.batch_inputs.proofs.Texts.{not-past, some-text, text-told}
 use Rattle.batch_inputs.specs.declared.inputs.Inputs.{Inputs}
 
 -- what refuses: a cause, want of memory, or a fault of the shelf
@@ -88,47 +88,40 @@ first-of-batch : (r : Request) (table batch : Option (List ℕ)) → stop_in sto
 first-of-batch r table batch h = rw h refl
 
 -- a run whose table is refused
-pub table-refused : (r : Request) (held : Held) (before now : ℕ) (s : Stop) → TextRefused held (table_source r.table) stop.TableFault (table_stop r) before now s
-    → IsRead r held before now (Err s)
-table-refused r held before now s (text, is, why) =
+pub table-refused : {T : Type 0} (Is : Option (List ℕ) → Option (List ℕ) → T → Type 0) (r : Request) (held : Held) (before now : ℕ) (s : Stop)
+    → TextRefused held (table_source r.table) stop.TableFault (table_stop r) before now s → IsReadWith Is r held before now (Err s)
+table-refused Is r held before now s (text, is, why) =
     let (batch, batch_is) = some-text held (batch_source r.batch) in
     record { table = text; batch = batch; table_is = is; batch_is = batch_is; ends = go why batch }
   where
-    go : Refuses (stop_in stop.TableFault (table_stop r) text) stop.TableFault before now s → (batch : Option (List ℕ)) → Ends (first_stop r text batch) (AreInputs r text batch) IsReadFault before now (Err s)
+    go : Refuses (stop_in stop.TableFault (table_stop r) text) stop.TableFault before now s → (batch : Option (List ℕ)) → Ends (first_stop r text batch) (Is text batch) IsReadFault before now (Err s)
     go (inl cause) batch = inl (first-of-table r text batch s cause)
     go (inr (inl memory)) batch = inr (inl memory)
     go (inr (inr (fault, rose))) batch = inr (inr (inl fault, rose))
 
 -- a run whose table passes and whose batch is refused
-pub batch-refused : (r : Request) (held held' : Held) (before mid now : ℕ) (s : Stop) (table : Option (List ℕ)) → IsTextOf held (table_source r.table) table
+pub batch-refused : {T : Type 0} (Is : Option (List ℕ) → Option (List ℕ) → T → Type 0) (r : Request) (held held' : Held) (before mid now : ℕ) (s : Stop) (table : Option (List ℕ)) → IsTextOf held (table_source r.table) table
     → stop_in stop.TableFault (table_stop r) table ≡ None → held' ≡ held → before ≤ mid
-    → TextRefused held' (batch_source r.batch) stop.BatchFault (batch_stop r) mid now s → IsRead r held before now (Err s)
-batch-refused r held held' before mid now s table table_is passes same le (batch, is, why) =
+    → TextRefused held' (batch_source r.batch) stop.BatchFault (batch_stop r) mid now s → IsReadWith Is r held before now (Err s)
+batch-refused Is r held held' before mid now s table table_is passes same le (batch, is, why) =
     record { table = table; batch = batch; table_is = table_is; batch_is = subst (λ (h : Held). IsTextOf h (batch_source r.batch) batch) same is; ends = go why }
   where
-    go : Refuses (stop_in stop.BatchFault (batch_stop r) batch) stop.BatchFault mid now s → Ends (first_stop r table batch) (AreInputs r table batch) IsReadFault before now (Err s)
+    go : Refuses (stop_in stop.BatchFault (batch_stop r) batch) stop.BatchFault mid now s → Ends (first_stop r table batch) (Is table batch) IsReadFault before now (Err s)
     go (inl cause) = inl (first-of-batch r table batch passes ∙ cause)
     go (inr (inl memory)) = inr (inl memory)
     go (inr (inr (fault, rose))) = inr (inr (inr fault, rose-since before mid now le rose))
 
 -- a run whose table and batch pass
-pub both-pass : (r : Request) (held held' : Held) (before now : ℕ) (table batch : Option (List ℕ)) (i : Inputs) → IsTextOf held (table_source r.table) table
+pub both-pass : {T : Type 0} (Is : Option (List ℕ) → Option (List ℕ) → T → Type 0) (r : Request) (held held' : Held) (before now : ℕ) (table batch : Option (List ℕ)) (i : T) → IsTextOf held (table_source r.table) table
     → stop_in stop.TableFault (table_stop r) table ≡ None → held' ≡ held → IsTextOf held' (batch_source r.batch) batch → stop_in stop.BatchFault (batch_stop r) batch ≡ None
-    → AreInputs r table batch i → IsRead r held before now (Ok i)
-both-pass r held held' before now table batch i table_is passes same batch_is passes' inputs = record {
+    → Is table batch i → IsReadWith Is r held before now (Ok i)
+both-pass Is r held held' before now table batch i table_is passes same batch_is passes' inputs = record {
   table = table;
   batch = batch;
   table_is = table_is;
   batch_is = subst (λ (h : Held). IsTextOf h (batch_source r.batch) batch) same batch_is;
   ends = (first-of-batch r table batch passes ∙ passes', inputs);
 }
-
--- want of memory is an end of any run
-pub memory-ends : (r : Request) (held : Held) (before now : ℕ) → IsRead r held before now (Err stop.Memory)
-memory-ends r held before now =
-    let (table, table_is) = some-text held (table_source r.table) in
-    let (batch, batch_is) = some-text held (batch_source r.batch) in
-    record { table = table; batch = batch; table_is = table_is; batch_is = batch_is; ends = inr (inl refl) }
 
 -- where the shelf tells what it holds, its texts decide
 pub told-ends : (r : Request) (held : Held) (before now : ℕ) (result : Result Inputs Stop) (files : List ℕ → Option (List ℕ)) → held ≡ Some files → IsRead r held before now result
@@ -140,14 +133,8 @@ told-ends r held before now result files told read =
     subst (λ (b : Option (List ℕ)). Ends (first_stop r (text_in (table_source r.table) files) b) (AreInputs r (text_in (table_source r.table) files) b) IsReadFault before now result) batch
     (subst (λ (t : Option (List ℕ)). Ends (first_stop r t read.batch) (AreInputs r t read.batch) IsReadFault before now result) table read.ends)
 
--- words that are refused
-pub refused-words : (asked : Option Request) (s : Stop) → (s ≡ stop.Usage) ⊎ (s ≡ stop.Memory) → (s ≡ stop.Usage → asked ≡ None) → Decides asked (Err s)
-refused-words None s (inl usage) none = inl (ap Err usage)
-refused-words None s (inr memory) none = inr (ap Err memory)
-refused-words (Some r) s (inl usage) none = cc (none usage)
-refused-words (Some r) s (inr memory) none = λ e. let usage : s ≡ stop.Usage = cc e in cc (none usage)
-
-pub refused-read : (r : Request) (held : Held) (now : ℕ) (asked : Option Request) (s : Stop) → (s ≡ stop.Usage) ⊎ (s ≡ stop.Memory) → (s ≡ stop.Usage → asked ≡ None) → asked ≡ Some r
-    → IsRead r held now now (Err s)
-refused-read r held now asked s (inl usage) none some = let no = none usage in cc (no, some)
-refused-read r held now asked s (inr memory) none some = rw memory (memory-ends r held now now)
+-- texts that are short enough, and that nothing else stops, give a run its inputs
+pub none-stops : (r : Request) (table batch : List ℕ) → length table ≤ 268435456 → length batch ≤ 1048576 → short_table_stop r table ≡ None → short_batch_stop r batch ≡ None
+    → first_stop r (Some table) (Some batch) ≡ None
+none-stops r table batch short few table_passes batch_passes =
+    rw (not-past 268435456 (length table) stop.TableTooLong short, not-past 1048576 (length batch) stop.BatchTooLong few, table_passes) batch_passes

@@ -14,6 +14,7 @@ use Rattle.batch_inputs.specs.Statements.{statements_in}
 use Rattle.batch_texts.specs.Outcomes.{ComeTo}
 use Rattle.batch_texts.specs.declared.outcome.Outcome.{Outcome}
 use Rattle.batch_inputs.specs.declared.inputs.Inputs.{Inputs}
+use Rattle.batch_inputs.specs.declared.inputs.ReadTexts.{ReadTexts}
 use Rattle.csv_load.specs.declared.loading.Loaded.{Loaded}
 
 -- a call ends as it should: with such a value where nothing stops it, else with what stops it; or memory is wanting, or
@@ -77,18 +78,29 @@ pub record AreInputs (r : Request) (table batch : Option (List ℕ)) (i : Inputs
   pub layout : i.layout ≡ layout_of r.layout
   pub parts : i.parts ≡ r.parts
   pub summary : i.summary ≡ r.summary
+  pub trace : i.trace ≡ r.trace
   pub table_is : IsTable r table i.loaded i.frames
   pub batch_is : IsBatch batch i.loaded i.outcomes.items
 
+-- these texts were kept
+pub record AreKept (table batch : Option (List ℕ)) (texts : ReadTexts) : Type 0 where
+  pub table_is : table ≡ Some texts.table
+  pub batch_is : batch ≡ Some texts.batch
+  pub table_within : length texts.table ≤ 268435456
+  pub batch_within : length texts.batch ≤ 1048576
+
 -- over every shelf: some texts were read, which are those that it tells where it tells any, and they decide
-pub record IsRead (r : Request) (held : Held) (before now : ℕ) (result : Result Inputs Stop) : Type 0 where
+pub record IsReadWith {T : Type 0} (Is : Option (List ℕ) → Option (List ℕ) → T → Type 0) (r : Request) (held : Held) (before now : ℕ) (result : Result T Stop) : Type 0 where
   pub table : Option (List ℕ)
   pub batch : Option (List ℕ)
   pub table_is : IsTextOf held (table_source r.table) table
   pub batch_is : IsTextOf held (batch_source r.batch) batch
-  pub ends : Ends (first_stop r table batch) (AreInputs r table batch) IsReadFault before now result
+  pub ends : Ends (first_stop r table batch) (Is table batch) IsReadFault before now result
 
--- words that are refused give a run nothing; any others are not refused
-abbrev pub Decides : Option Request → Result Inputs Stop → Type 0
-Decides None result = (result ≡ Err stop.Usage) ⊎ (result ≡ Err stop.Memory)
-Decides (Some r) result = result ≢ Err stop.Usage
+-- they give a run these inputs
+abbrev pub IsRead : Request → Held → ℕ → ℕ → Result Inputs Stop → Type 0
+IsRead r held before now result = IsReadWith (AreInputs r) r held before now result
+
+-- and they are kept
+abbrev pub IsReadAndKept : Request → Held → ℕ → ℕ → Result (Inputs × ReadTexts) Stop → Type 0
+IsReadAndKept r held before now result = IsReadWith (λ table batch p. AreInputs r table batch p.0 × AreKept table batch p.1) r held before now result

@@ -72,9 +72,13 @@ size_stop r columns rows = or_else (chunks_stop r.per rows) (frames_stop r.worke
 abbrev pub table_size_stop : Request → Values → Option Stop
 table_size_stop r t = size_stop r (length t.columns) (length t.rows)
 
+-- why a text that is short enough stops the run as its table
+abbrev pub short_table_stop : Request → List ℕ → Option Stop
+short_table_stop r text = or_else (load_stop (refusal_of (table_records text))) (table_size_stop r (table_of (table_records text)))
+
 -- why the text of the table stops the run
 abbrev pub table_stop : Request → List ℕ → Option Stop
-table_stop r text = or_else (long_table text) (or_else (load_stop (refusal_of (table_records text))) (table_size_stop r (table_of (table_records text))))
+table_stop r text = or_else (long_table text) (short_table_stop r text)
 
 -- ---- the batch
 
@@ -85,9 +89,13 @@ long_batch text = past 1048576 (length text) stop.BatchTooLong
 abbrev pub count_stop : ℕ → ℕ → Option Stop
 count_stop parts statements = or_else (past 256 statements (stop.Statements statements)) (past 256 (parts * statements) (stop.Scans (parts * statements)))
 
+-- why a text that is short enough stops the run as its batch
+abbrev pub short_batch_stop : Request → List ℕ → Option Stop
+short_batch_stop r text = count_stop r.parts (length (spans_in text))
+
 -- why the text of the batch stops the run
 abbrev pub batch_stop : Request → List ℕ → Option Stop
-batch_stop r text = or_else (long_batch text) (count_stop r.parts (length (spans_in text)))
+batch_stop r text = or_else (long_batch text) (short_batch_stop r text)
 
 -- ---- both
 

@@ -1,5 +1,6 @@
 // What a run is given.
 use batch_texts::Outcome;
+use coop_outside::Bytes;
 use csv_load::Loaded;
 use piece_format::Layout;
 
@@ -17,8 +18,19 @@ pub struct Inputs {
     pub parts: u32,
     /// Asks for the summary behind the answers.
     pub summary: bool,
+    /// Asks for the trace behind them.
+    pub trace: bool,
     pub loaded: Loaded,
     /// What each statement of the batch comes to, in their order. There are at most 256 statements, and at most 256
     /// scans, which are as many for each statement as there are parts.
     pub outcomes: Vec<Outcome>,
+}
+
+/// The texts that a run has read.
+#[derive(Drop)]
+pub struct ReadTexts {
+    /// The table's, of at most 268435456 bytes.
+    pub table: Bytes,
+    /// The batch's, of at most 1048576 bytes.
+    pub batch: Bytes,
 }

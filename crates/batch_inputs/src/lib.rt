@@ -12,5 +12,6 @@ mod table;
 mod tests;
 
 pub use batch_texts::Outcome;
-pub use inputs::Inputs;
-pub use reading::{inputs_asked, inputs_of, one_batch};
+pub use inputs::{Inputs, ReadTexts};
+pub use reading::{inputs_again, inputs_of, one_batch, read_inputs};
+pub use request::request_in;

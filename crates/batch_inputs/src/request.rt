@@ -9,20 +9,20 @@ use command_words::{Call, Refused, Request, options_of};
 use run_texts::Stop;
 use std::alloc::Global;
 
-/// What the words after the program's name ask for, where a run does it: there is no story to ask for yet.
-pub(crate) fn request_in<'a>(alloc: Global, words: &'a [String]) -> Result<Request<'a>, Stop>
-    ensures asked { IfOk result (λ r. asked_of words.now ≡ Some (request_view r)) }
+/// What the words after the program's name ask of a call.
+///
+/// # Errors
+///
+/// `Usage` exactly where the words are refused, but for want of memory, and `Memory`.
+pub fn request_in<'a>(alloc: Global, call: Call, words: &'a [String]) -> Result<Request<'a>, Stop>
+    ensures asked { IfOk result (λ r. asked_of call words.now ≡ Some (request_view r)) }
     ensures limits { IfOk result (λ r. IsWithinLimits (request_view r)) }
-    ensures usage { result ≡ Err stop.Usage → asked_of words.now ≡ None }
+    ensures usage { result ≡ Err stop.Usage → asked_of call words.now ≡ None }
     ensures errors { IfErr result (λ s. (s ≡ stop.Usage) ⊎ (s ≡ stop.Memory)) }
 {
-    let request = match options_of(alloc, Call::Run, words) {
-        Ok(request) => request,
-        Err(Refused::Usage) => return Err(Stop::Usage),
-        Err(Refused::Memory) => return Err(Stop::Memory),
-    };
-    if request.trace {
-        return Err(Stop::Usage);
+    match options_of(alloc, call, words) {
+        Ok(request) => Ok(request),
+        Err(Refused::Usage) => Err(Stop::Usage),
+        Err(Refused::Memory) => Err(Stop::Memory),
     }
-    Ok(request)
 }

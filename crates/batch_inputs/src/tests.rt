@@ -1,5 +1,6 @@
 // Inputs and stops over a shelf in memory.
-use crate::{Inputs, Outcome, inputs_of};
+use crate::{Inputs, Outcome, inputs_again, inputs_of, read_inputs, request_in};
+use command_words::Call;
 use coop_outside::{Bytes, MemShelf};
 use piece_format::Layout;
 use run_texts::Stop;
@@ -63,7 +64,11 @@ fn read(
     let words = words_of(alloc, line)?;
     let mut shelf = shelf_of(alloc, table, batch, fail_read)?;
     let keys = RandomState::new(rt)?;
-    Ok(inputs_of(alloc, keys, &words, &mut shelf))
+    let request = match request_in(alloc, Call::Run, &words) {
+        Ok(request) => request,
+        Err(stop) => return Ok(Err(stop)),
+    };
+    Ok(inputs_of(alloc, keys, &request, &mut shelf))
 }
 
 // So many copies of a text.
@@ -89,7 +94,7 @@ fn the_first_refusal_stops_a_run(rt: HostRuntime) -> Result<(), Fail> {
             count,
             Stop::Usage,
         ),
-        ("--trace a.csv b.sql", some, count, Stop::Usage),
+        ("--compare a.csv b.sql", some, count, Stop::Usage),
         ("--policy normal a.csv b.sql", some, count, Stop::Usage),
         ("gen:7 b.sql", some, count, Stop::Usage),
         ("a.csv b.sql", None, count, Stop::TableFault),
@@ -274,6 +279,7 @@ fn what_is_not_asked_for_has_its_default(rt: HostRuntime) -> Result<(), Fail> {
         assert_eq!(rt; inputs.layout, layout);
         assert_eq!(rt; inputs.parts, parts);
         assert!(rt; !inputs.summary);
+        assert!(rt; !inputs.trace);
     }
     Ok(())
 }
@@ -334,16 +340,51 @@ fn a_batch_without_statements_is_empty(rt: HostRuntime) -> Result<(), Fail> {
 
 #[test]
 fn generated_texts_are_not_read(rt: HostRuntime) -> Result<(), Fail> {
-    let read = read(&rt, "--summary --threads 2 gen:7:2000 gen", None, None, 1)?;
+    let read = read(
+        &rt,
+        "--summary --trace --threads 2 gen:7:2000 gen",
+        None,
+        None,
+        1,
+    )?;
     let Ok(inputs) = read else {
         assert!(rt; false);
         return Ok(());
     };
     assert!(rt; inputs.summary);
+    assert!(rt; inputs.trace);
     assert_eq!(rt; inputs.loaded.table.len(), 2000);
     assert_eq!(rt; inputs.outcomes.len(), 8);
     for outcome in inputs.outcomes.iter() {
         assert!(rt; matches!(outcome, Outcome::Planned(_)));
+    }
+    Ok(())
+}
+
+#[test]
+fn inputs_are_made_again_of_the_texts_that_were_read(rt: HostRuntime) -> Result<(), Fail> {
+    let alloc = rt.alloc();
+    let words = words_of(alloc, "--compare --rows 2 a.csv b.sql")?;
+    let mut shelf = shelf_of(alloc, Some(TABLE), Some(COUNT), 0)?;
+    let keys = RandomState::new(&rt)?;
+    let Ok(request) = request_in(alloc, Call::RunBoxed, &words) else {
+        assert!(rt; false);
+        return Ok(());
+    };
+    assert!(rt; request.compare);
+    let Ok((first, texts)) = read_inputs(alloc, keys, &request, &mut shelf) else {
+        assert!(rt; false);
+        return Ok(());
+    };
+    let Ok(second) = inputs_again(alloc, keys, &request, &texts) else {
+        assert!(rt; false);
+        return Ok(());
+    };
+    for inputs in [first, second] {
+        assert_eq!(rt; inputs.workers, 1);
+        assert_eq!(rt; inputs.frames, 4);
+        assert_eq!(rt; inputs.loaded.table.len(), 5);
+        assert_eq!(rt; inputs.outcomes.len(), 1);
     }
     Ok(())
 }

@@ -21,14 +21,12 @@ use Rattle.filter_zones.specs.declared.cond.Cond.{Cond}
 use Rattle.piece_format.specs.Cells.{FitsKind, dict_len_at}
 use Rattle.piece_format.specs.Shape.{IsShape}
 use Rattle.piece_format.specs.declared.layout.Layout.{Layout}
-use Rattle.sql_bind.specs.Bounds.{FitsRow, HasTruth}
-use Rattle.sql_bind.specs.Statements.{IsPlanFor}
-use Rattle.sql_text.specs.Grammar.{Tree}
+use Rattle.sql_bind.specs.Bounds.{FitsRow}
 use Rattle.sql_bind.specs.Reads.{ReadsItsColumns}
 use Rattle.sql_bind.specs.declared.plan.Plan.{Plan}
 use Rattle.query_answers.specs.Partial.{FitsCond}
 use Rattle.table_pieces.specs.Shaping.{FitsDicts, shape_of}
-use Rattle.batch_run.specs.Gathered.{FitsShape, IsPlanOfShape}
+use Rattle.multi_scan.specs.Rows.{FitsShape, IsPlanOfShape}
 use Rattle.batch_run.specs.Tasks.{FitsWhere, IsPlanOfTable}
 
 -- a cell that fits a column by the length of its dictionary fits it
@@ -101,15 +99,3 @@ module _ (records : List Fields) (table : TableRows) (dicts : List Fields) (layo
 pub few_rising : (start : ℕ) (xs : List ℕ) (end : ℕ) → Rising start xs end → start + length xs ≤ end
 few_rising start [] end rises = omega (arith, rises)
 few_rising start (x ∷ xs) end rises = let rest = few_rising (x + 1) xs end rises.1 in omega (arith, rest, rises.0)
-
-truth_fits : (columns : List Column) (dicts : List (List (List ℕ))) (t : Option Tree) (c : Option Cond) → HasTruth columns dicts t c → FitsWhere columns dicts c
-truth_fits columns dicts t None has = tt
-truth_fits columns dicts None (Some c) has = absurd has
-truth_fits columns dicts (Some t) (Some c) has = has.1
-
--- the plan of a statement is one over its table
-pub plan_fits : (text : List ℕ) (columns : List Column) (dicts : List (List (List ℕ))) (p : Plan) → IsPlanFor text columns dicts p → IsPlanOfTable columns dicts p
-plan_fits text columns dicts p is = record {
-  reads = is.reads;
-  cond = truth_fits columns dicts is.query.cond p.cond is.truth;
-}

@@ -1,7 +1,8 @@
 pub mod Tasks
-pub mod Causes
+pub mod Lost
+pub mod Story
 pub mod Taken
 pub mod Refusals
-pub mod Ready
-pub mod Buffers
-pub mod Gathered
+pub mod Noting
+pub mod Answering
+pub mod Picked

@@ -1,5 +1,5 @@
 -- What a batch is given: a loaded table, and queries with plans over it.
-use Rattle.std.specs.Prelude.{List, length, Option, Some, None}
+use Rattle.std.specs.Prelude.{◌<◌, List, length, Option, Some, None}
 use Rattle.csv_rows.specs.Judged.{Fields}
 use Rattle.csv_load.specs.Loaded.{IsLoaded}
 use Rattle.table_core.specs.Table.{TableRows}
@@ -18,7 +18,8 @@ abbrev pub FitsWhere : List Column → List Fields → Option Cond → Type 0
 FitsWhere columns dicts None = Unit {0}
 FitsWhere columns dicts (Some c) = FitsRows columns dicts c
 
--- the plan is over these columns and dictionaries
+-- the plan is over these columns and dictionaries, and names a column at least
 pub record IsPlanOfTable (columns : List Column) (dicts : List Fields) (p : Plan) : Type 0 where
   pub reads : ReadsItsColumns (length columns) p
+  pub some : 0 < length p.columns
   pub cond : FitsWhere columns dicts p.cond

@@ -1,62 +1,85 @@
-// The top call: a batch on one thread.
-ghost use Rattle.std.specs.Prelude.{◌≡◌, ◌≤◌, ◌^◌, All, IfErr, IfOk, length, map};
+// The top call: a batch on several workers.
+ghost use Rattle.std.specs.Prelude.{◌≡◌, ◌≤◌, ◌*◌, ◌^◌, All, IfErr, IfOk, is_some, length, map};
 ghost use Rattle.std.specs.List.{AllZip};
 ghost use Rattle.table_core.specs.Chunk.{chunk_count};
 ghost use Rattle.table_core.specs.Sets.{Rising};
-ghost use Rattle.piece_format.specs.Shape.{pieces};
+ghost use Rattle.piece_format.specs.Shape.{frame_words, groups, pieces};
+ghost use Rattle.scan_story.specs.Views.{past};
 ghost use Rattle.query_answers.specs.Answer.{CanBeWritten, IsAnswer};
 ghost use Rattle.table_pieces.specs.Putting.{ArePut};
 ghost use Rattle.table_pieces.specs.Shaping as spec;
 ghost use Rattle.table_pieces.specs.Zoning.{chunk_zones};
-ghost use Rattle.batch_run.specs.Causes.{AreLicensed, Tells};
+ghost use Rattle.batch_plan.specs.Scans.{scans};
+ghost use Rattle.batch_plan.specs.Setting.{AreOptions, batch_setting};
+ghost use Rattle.batch_run.specs.Lost.{IsLostBy, Tells, stop_of};
 ghost use Rattle.batch_run.specs.Refusals.{IsRefusal};
-ghost use Rattle.batch_run.specs.Taken.{AreAllTaken};
+ghost use Rattle.batch_run.specs.Story.{IsStoryOver, counts};
+ghost use Rattle.batch_run.specs.Taken.{IsTakenBy, TookNeed};
 ghost use Rattle.batch_run.specs.Tasks.{CanBeLoaded, IsPlanOfTable};
 
+use crate::answering::answer_all;
 use crate::batch_end::BatchEnd;
-use crate::options::Options;
+use crate::picking::run_put;
 use crate::setup::{Setup, all_rise, set_up};
-use crate::task::Task;
-use crate::tasks::run_tasks;
+use crate::takings::note_all;
+use batch_plan::{Options, Task};
+use batch_scans::ScansEnd;
 use coop_outside::Depot;
+use cscan::Gate;
 use csv_load::Loaded;
+use relevance::Policy;
 use std::alloc::Global;
+use std::sync::Wait;
+use std::thread::Threads;
 use table_core::Table;
 use table_pieces::{BatchRefusal, put_pieces};
 
-/// Answers a batch of queries over one table, on one thread.
+/// Answers a batch of queries over one table, on as many workers as the options say, each in a thread of its own.
 ///
-/// All pieces of the table are put into the depot before the first query is answered. Then each query, in the order of the
-/// tasks, reads the chunks that it needs in rising order: of each chunk the pieces that its plan reads, once. A read that
-/// fails and a damaged piece stop that query alone, and so does want of memory once all pieces are put.
+/// All pieces of the table are put into the depot before a scan begins. Each query is split into as many scans as there are parts;
+/// the scans of all tasks, in task order and then part order, are dealt to the workers in turn, and each worker runs its scans in order
+/// over the frames that all share. What the parts of a query gathered is joined, and the query is answered. A read that fails and a
+/// damaged piece stop the query for which the piece was loaded, and so does want of memory once the workers have started.
 ///
 /// The table and its dictionaries are those that `csv_load::load` answers, and each plan is one that `sql_bind` answers over
-/// them. The numbers of the tasks rise from at least 1 to at most 256. There are 1 to 16384 rows in a chunk, and at most
-/// 1024 chunks; the depot's gets are at most 2^63. After a refusal, of which `BatchRefusal` tells the meaning, the depot
-/// comes back, and no piece was read.
-pub fn run_batch<D: Depot>(
+/// them. The numbers of the tasks rise from at least 1 to at most 256, and no scan's number passes 256. There are 1 to 16384 rows in a
+/// chunk, and at most 1024 chunks; there are frames enough, with at most 33554432 words in all; the depot's gets are at most 2^63.
+/// After a refusal, of which `BatchRefusal` tells the meaning, the depot comes back, and no piece was read.
+pub fn run_batch<P: Policy, D: Depot + Send, T: Gate + Sync, R: Threads + Wait + Sync>(
+    rt: &R,
     alloc: Global,
     loaded: Loaded,
     tasks: &[Task],
     options: &Options,
     depot: D,
+    policy: P,
+    gate: &T,
 ) -> Result<BatchEnd<D>, (D, BatchRefusal)>
     requires loaded { CanBeLoaded loaded.table loaded.dicts.items }
     requires plans { All (λ t. IsPlanOfTable loaded.table.columns loaded.dicts.items t.plan) tasks.now }
     requires numbers { Rising 1 (map (λ t. t.query) tasks.now) 257 }
+    requires scans { All (λ t. t.query * options.now.parts ≤ 256) tasks.now }
     requires some { 1 ≤ options.now.per }
     requires short { options.now.per ≤ 16384 }
     requires few { chunk_count (length loaded.table.rows) options.now.per ≤ 1024 }
+    requires options { AreOptions (groups (spec.shape_of loaded.table loaded.dicts.items options.now.layout options.now.per)) options.now }
+    requires words { options.now.frames * frame_words (spec.shape_of loaded.table loaded.dicts.items options.now.layout options.now.per) ≤ 33554432 }
     requires gets { D.gets depot ≤ 2 ^ 63 }
     // where the depot tells what it holds, each answer is the one to its plan over the whole table, unless the query was stopped
     ensures answers { IfOk result (λ e. Tells (D.held depot) → AllZip (λ t a. IsAnswer t.plan loaded.table.rows a) tasks.now e.answers.items) }
     // whatever the depot gave, the rows of each answer can be written
     ensures written { IfOk result (λ e. AllZip (λ t a. CanBeWritten loaded.dicts.items t.plan a) tasks.now e.answers.items) }
-    // a query is stopped for a read only where the depot counted a fault, and for a damaged piece only where it tells nothing
-    ensures causes { IfOk result (λ e. AreLicensed (D.held depot) e.answers.items (D.faults depot) (D.faults e.depot)) }
-    // of the needed chunks alone each piece that a plan reads is read, in rising order, once for each query
-    ensures taken { let s = spec.shape_of loaded.table loaded.dicts.items options.now.layout options.now.per in
-        IfOk result (λ e. AreAllTaken s (chunk_zones s loaded.table.rows) tasks.now e.answers.items e.taken.items (D.gets depot) (D.gets e.depot)) }
+    // a query is stopped as the story says of its scans, or for want of memory
+    ensures lost { IfOk result (λ e. AllZip (λ t a. IsLostBy (past e.story.items) options.now.parts t.query (stop_of a)) tasks.now e.answers.items) }
+    // the story is whole, legal, undisturbed and bounded in the setting of this batch; each of its faults has its cause, and the depot was read as it says
+    ensures story { let s = spec.shape_of loaded.table loaded.dicts.items options.now.layout options.now.per in
+        IfOk result (λ e. IsStoryOver (batch_setting s (chunk_zones s loaded.table.rows) tasks.now options.now (P.name policy) (P.cursor policy)) (is_some (D.held depot))
+        (counts (D.gets depot) (D.faults depot)) (counts (D.gets e.depot) (D.faults e.depot)) e.story.items) }
+    // one element for each scan, in their order, with exactly the chunks that the story delivered to it
+    ensures taken { IfOk result (λ e. AllZip (IsTakenBy e.story.items) (scans options.now.workers options.now.parts tasks.now) e.taken.items) }
+    // each scan took chunks of its need, each once, and where it ended all of them
+    ensures took { let s = spec.shape_of loaded.table loaded.dicts.items options.now.layout options.now.per in
+        IfOk result (λ e. All (TookNeed (chunk_zones s loaded.table.rows) options.now.parts e.story.items) (scans options.now.workers options.now.parts tasks.now)) }
     // all pieces are put, and stay
     ensures stored { let s = spec.shape_of loaded.table loaded.dicts.items options.now.layout options.now.per in
         IfOk result (λ e. ArePut s loaded.table.rows (pieces s) (pieces s) (D.held depot) (D.held e.depot)) }
@@ -72,7 +95,7 @@ pub fn run_batch<D: Depot>(
     let Loaded { table, dicts } = loaded;
     // It says of the dictionaries what `written` rests on.
     all_rise(&dicts);
-    let setup = match set_up(alloc, &table, &dicts, options, tasks.len()) {
+    let setup = match set_up(alloc, &table, &dicts, tasks, options) {
         Ok(setup) => setup,
         Err(_) => return Err((depot, BatchRefusal::Memory)),
     };
@@ -85,24 +108,27 @@ pub fn run_batch<D: Depot>(
     drop(cells);
     let Setup {
         shape,
-        zones,
-        mut buffers,
+        needs,
         mut answers,
         mut taken,
     } = setup;
-    run_tasks(
-        alloc,
-        &shape,
-        &zones,
-        tasks,
-        &mut depot,
-        &mut buffers,
-        &mut answers,
-        &mut taken,
+    let end = run_put(
+        rt, alloc, &shape, tasks, needs, options, depot, policy, gate,
     );
+    let ScansEnd {
+        story,
+        results,
+        depot,
+    } = match end {
+        Ok(end) => end,
+        Err((depot, _)) => return Err((depot, BatchRefusal::Memory)),
+    };
+    answer_all(alloc, tasks.len(), options.parts, results, &mut answers);
+    note_all(&mut taken, options.parts, &story);
     Ok(BatchEnd {
         answers,
         taken,
+        story,
         depot,
         schema,
         dicts,

@@ -1,26 +1,20 @@
-//! A batch of queries over one table on one thread: the table is put into a depot piece by piece, and each query reads its
-//! needed chunks from there, one after another. docs/BATCH.md has the rules.
+//! A batch of queries over one table: the table is put into a depot piece by piece, workers run the scans of the queries at once over
+//! shared frames, and what the parts of a query gathered is joined to its answer. docs/BATCH.md has the rules.
 #![tactic(auto)]
 
+mod answering;
 mod batch;
 mod batch_end;
-mod buffers;
 mod laws;
-mod options;
-mod rows;
-mod scan;
+mod picking;
 mod setup;
 mod taken;
-mod task;
-mod tasks;
-#[cfg(test)]
-mod tests;
+mod takings;
 
 pub use batch::run_batch;
 pub use batch_end::BatchEnd;
-pub use laws::{plans_fit, stopped_without_faults};
-pub use options::Options;
+pub use batch_plan::{Options, Task};
+pub use laws::{lost_without_faults, plans_fit};
 pub use query_answers::{Answer, Cause};
 pub use table_pieces::BatchRefusal;
 pub use taken::Taken;
-pub use task::Task;

@@ -1,34 +1,39 @@
-// What a batch makes before its first query.
-ghost use Rattle.std.specs.Prelude.{◌≡◌, ◌≤◌, [], All, IfOk, Some, length, vec_capacity};
-ghost use Rattle.answer_text.specs.Lists.{lists};
+// What a batch makes before its scans.
+ghost use Rattle.std.specs.Prelude.{◌≡◌, ◌≤◌, ◌*◌, [], All, IfOk, IfSome, IsOk, List, Some, ℕ, length, map, vec_capacity};
+ghost use Rattle.std.specs.List.{AllZip};
 ghost use Rattle.table_core.specs.Dict.{Rises};
+ghost use Rattle.table_core.specs.Sets.{Rising};
 ghost use Rattle.filter_zones.specs.Possible as possible;
 ghost use Rattle.filter_zones.specs.Truth.{FitsRow};
 ghost use Rattle.filter_zones.specs.declared.cond.Cond.{Cond};
 ghost use Rattle.piece_format.specs.Cells.{IsTableOf};
-ghost use Rattle.piece_format.specs.Shape.{IsShape, chunks};
+ghost use Rattle.piece_format.specs.Shape.{IsShape, groups};
+ghost use Rattle.scan_story.specs.Setting.{HasRoom, IsSetting};
+ghost use Rattle.scan_story.specs.declared.setting.PolicyName.{PolicyName};
 ghost use Rattle.table_pieces.specs.Shaping as spec;
 ghost use Rattle.table_pieces.specs.Zoning.{NoMatchOutside, chunk_zones};
-ghost use Rattle.batch_run.specs.Buffers.{FitShape};
+ghost use Rattle.batch_plan.specs.Scans.{needs, scans};
+ghost use Rattle.batch_plan.specs.Setting.{AreOptions, NamesColumns, batch_setting};
+ghost use Rattle.batch_run.specs.Noting.{IsOpened};
 
-use crate::buffers::Buffers;
-use crate::options::Options;
 use crate::taken::Taken;
-use filter_zones::ChunkZones;
+use crate::takings::takings_of;
+use batch_plan::{Options, Task, needs_of};
+use interest_book::Need;
 use piece_format::Shape;
 use query_answers::Answer;
 use std::alloc::Global;
 use table_core::{Dict, Memory, Table};
 use table_pieces::{shape_of, zones_of_chunks};
 
-/// What all queries of a batch share, and room for what they are answered.
+/// What all scans of a batch share, and room for what is told of them and for the answers.
 #[derive(Drop)]
 pub(crate) struct Setup {
     pub(crate) shape: Shape,
-    /// The zones of each chunk.
-    pub(crate) zones: Vec<ChunkZones>,
-    pub(crate) buffers: Buffers,
+    /// What each scan needs.
+    pub(crate) needs: Vec<Need>,
     pub(crate) answers: Vec<Answer>,
+    /// Who each scan is, with room for the chunks that it needs.
     pub(crate) taken: Vec<Taken>,
 }
 
@@ -41,37 +46,39 @@ pub(crate) fn all_rise(dicts: &[Dict])
     }
 }
 
-/// Makes what the queries of a batch share, with room for so many answers.
+/// Makes what the scans of a batch share, with room for an answer to each task.
 pub(crate) fn set_up(
     alloc: Global,
     table: &Table,
     dicts: &[Dict],
+    tasks: &[Task],
     options: &Options,
-    tasks: usize,
 ) -> Result<Setup, Memory>
     requires limits { IsShape (spec.shape_of table.now dicts.now options.now.layout options.now.per) }
     requires fits { spec.FitsDicts table.now dicts.now }
+    requires options { AreOptions (groups (spec.shape_of table.now dicts.now options.now.layout options.now.per)) options.now }
+    requires numbers { Rising 1 (map (λ t. t.query) tasks.now) 257 }
+    requires scans { All (λ t. t.query * options.now.parts ≤ 256) tasks.now }
+    requires columns { All (λ t. NamesColumns (length (spec.shape_of table.now dicts.now options.now.layout options.now.per).kinds) t.plan) tasks.now }
+    requires conditions { All (λ t. IfSome t.plan.cond (λ c. All (FitsRow c) table.now.rows)) tasks.now }
     ensures shape { IfOk result (λ m. m.shape ≡ spec.shape_of table.now dicts.now options.now.layout options.now.per) }
     ensures table { IfOk result (λ m. IsTableOf m.shape table.now) }
-    ensures zones { IfOk result (λ m. m.zones.items ≡ chunk_zones m.shape table.now.rows) }
-    ensures count { IfOk result (λ m. length m.zones.items ≡ chunks m.shape) }
-    ensures fits { IfOk result (λ m. (c : Cond) → All (FitsRow c) table.now.rows → All (λ chunk. possible.FitsZones c chunk.zones) m.zones.items) }
-    ensures outside { IfOk result (λ m. (c : Cond) → All (FitsRow c) table.now.rows → NoMatchOutside m.shape table.now.rows c (possible.needed (Some c) m.zones.items)) }
-    ensures room { IfOk result (λ m. FitShape m.shape (lists m.buffers.slots.items)) }
+    ensures needs { IfOk result (λ m. m.needs.items ≡ needs (chunk_zones m.shape table.now.rows) options.now.parts (scans options.now.workers options.now.parts tasks.now)) }
+    ensures setting { IfOk result (λ m. (name : PolicyName) (cursor : List ℕ) → IsSetting (batch_setting m.shape (chunk_zones m.shape table.now.rows) tasks.now options.now name cursor)) }
+    ensures room { IfOk result (λ m. (name : PolicyName) (cursor : List ℕ) → HasRoom (batch_setting m.shape (chunk_zones m.shape table.now.rows) tasks.now options.now name cursor)) }
+    ensures outside { IfOk result (λ m. (c : Cond) → All (FitsRow c) table.now.rows → NoMatchOutside m.shape table.now.rows c (possible.needed (Some c) (chunk_zones m.shape table.now.rows))) }
     ensures answers { IfOk result (λ m. m.answers.items ≡ []) }
-    ensures answers_room { IfOk result (λ m. tasks ≤ vec_capacity m.answers) }
-    ensures taken { IfOk result (λ m. m.taken.items ≡ []) }
-    ensures taken_room { IfOk result (λ m. tasks ≤ vec_capacity m.taken) }
+    ensures answers_room { IfOk result (λ m. length tasks.now ≤ vec_capacity m.answers) }
+    ensures taken { IfOk result (λ m. AllZip (IsOpened options.now.parts) m.needs.items m.taken.items) }
 {
     let shape = shape_of(alloc, table, dicts, options.layout, options.per)?;
     let zones = zones_of_chunks(alloc, &shape, table)?;
-    let buffers = Buffers::of(alloc, &shape)?;
-    let answers = Vec::with_capacity(alloc, tasks)?;
-    let taken = Vec::with_capacity(alloc, tasks)?;
+    let needs = needs_of(alloc, &shape, &zones, tasks, options)?;
+    let answers = Vec::with_capacity(alloc, tasks.len())?;
+    let taken = takings_of(alloc, &needs, options.parts)?;
     Ok(Setup {
         shape,
-        zones,
-        buffers,
+        needs,
         answers,
         taken,
     })

@@ -5,8 +5,9 @@ use Rattle.table_core.specs.Value.{Value}
 use Rattle.table_core.specs.declared.schema.Column.{Column}
 use Rattle.sql_text.proofs.ReadTexts.{one_query}
 use Rattle.sql_bind.proofs.Causes.{one_cause}
+use Rattle.scan_story.specs.declared.entry.Entry.{Entry}
 use Rattle.run_texts.specs.Refusals.{refusal_line}
-use Rattle.query_answers.specs.declared.cause.Cause.{Cause}
+use Rattle.scan_story.specs.declared.cause.Cause.{Cause}
 use Rattle.batch_texts.specs.declared.totals.Totals.{Totals}
 use Rattle.batch_texts.specs.Causes.{refused_for}
 use Rattle.batch_texts.specs.Output.{IsOutput, PrintEach, Prints, query_printed}
@@ -34,8 +35,9 @@ module _ (columns : List Column) (table : List (List Value)) where
   print_one n (text ∷ texts) (lost ∷ losses) (p ∷ ps) (q ∷ qs) x y =
       ap (λ r. r ∷ ps) (prints_one n text lost p q x.0 y.0) ∙ ap (λ rs. q ∷ rs) (print_one (n + 1) texts losses ps qs x.1 y.1)
 
-  pub output_alone : (texts : List (List ℕ)) (losses : List (Option Cause)) (summary : Option Totals) (a b : ℕ) (out more : List ℕ) → IsOutput columns table texts losses summary a out → IsOutput columns table texts losses summary b more
+  pub output_alone : (texts : List (List ℕ)) (losses : List (Option Cause)) (summary : Option Totals) (trace : Option (List Entry)) (a b : ℕ) (out more : List ℕ) → IsOutput columns table texts losses summary trace a out
+      → IsOutput columns table texts losses summary trace b more
       → (a ≡ b) × (out ≡ more)
-  output_alone texts losses summary a b out more x y =
+  output_alone texts losses summary trace a b out more x y =
       let same = print_one 1 texts losses x.printed y.printed x.each y.each in
-      (x.status ∙ ap status same ∙ sym y.status, x.bytes ∙ ap (λ ps. output ps summary) same ∙ sym y.bytes)
+      (x.status ∙ ap status same ∙ sym y.status, x.bytes ∙ ap (λ ps. output ps summary trace) same ∙ sym y.bytes)

@@ -3,8 +3,8 @@ use Rattle.sql_tokens.specs.declared.refusal.TextRefusal.TheVariants as text
 use Rattle.sql_bind.specs.declared.refusal.BindRefusal.TheVariants as bind
 use Rattle.sql_bind.specs.declared.statement.StatementRefusal.{StatementRefusal}
 use Rattle.sql_bind.specs.declared.statement.StatementRefusal.TheVariants as statement
-use Rattle.query_answers.specs.declared.cause.Cause.{Cause}
-use Rattle.query_answers.specs.declared.cause.Cause.TheVariants as cause
+use Rattle.scan_story.specs.declared.cause.Cause.{Cause}
+use Rattle.scan_story.specs.declared.cause.Cause.TheVariants as cause
 use Rattle.run_texts.specs.declared.refused.Refused.{Refused}
 use Rattle.run_texts.specs.declared.refused.Refused.TheVariants as refused
 

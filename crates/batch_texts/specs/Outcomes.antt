@@ -6,7 +6,7 @@ use Rattle.sql_bind.specs.declared.plan.Plan.{Plan}
 use Rattle.sql_bind.specs.Statements.{IsPlanFor, TextCause}
 use Rattle.query_answers.specs.declared.answer.Answer.{Answer}
 use Rattle.query_answers.specs.declared.answer.Answer.TheVariants.{Rows, Picked, Overflow, Stopped}
-use Rattle.query_answers.specs.declared.cause.Cause.{Cause}
+use Rattle.scan_story.specs.declared.cause.Cause.{Cause}
 use Rattle.batch_texts.specs.declared.outcome.Outcome.{Outcome}
 use Rattle.batch_texts.specs.declared.outcome.Outcome.TheVariants.{Planned, Refused}
 

@@ -14,8 +14,9 @@ use Rattle.sql_bind.specs.Refusals.{refusal_of}
 use Rattle.sql_bind.specs.Meaning.{query_meaning, query_overflow, query_rows}
 use Rattle.sql_bind.specs.Statements.{TextCause}
 use Rattle.sql_bind.specs.declared.statement.StatementRefusal.{StatementRefusal}
+use Rattle.scan_story.specs.declared.entry.Entry.{Entry}
 use Rattle.run_texts.specs.Refusals.{refusal_line}
-use Rattle.query_answers.specs.declared.cause.Cause.{Cause}
+use Rattle.scan_story.specs.declared.cause.Cause.{Cause}
 use Rattle.batch_texts.specs.declared.totals.Totals.{Totals}
 use Rattle.batch_texts.specs.Printed.{Printed, answered, refused, output, status}
 use Rattle.batch_texts.specs.Causes.{refused_for, stopped_for}
@@ -62,8 +63,8 @@ PrintEach columns table n _ _ _ = ⊥
 
 -- THE OUTPUT AND THE STATUS of a run over a table of values: each query that isn't refused prints its SQL meaning over the whole table, each
 -- other statement its refusal; statements are numbered from 1
-pub record IsOutput (columns : List Column) (table : List (List Value)) (texts : List (List ℕ)) (losses : List (Option Cause)) (summary : Option Totals) (ends : ℕ) (out : List ℕ) : Type 0 where
+pub record IsOutput (columns : List Column) (table : List (List Value)) (texts : List (List ℕ)) (losses : List (Option Cause)) (summary : Option Totals) (trace : Option (List Entry)) (ends : ℕ) (out : List ℕ) : Type 0 where
   pub printed : List Printed
   pub each : PrintEach columns table 1 texts losses printed
-  pub bytes : out ≡ output printed summary
+  pub bytes : out ≡ output printed summary trace
   pub status : ends ≡ status printed

@@ -4,9 +4,10 @@ ghost use Rattle.std.specs.List.{AllByRecursion, AllZip};
 ghost use Rattle.table_core.specs.Value.{Value, row_values};
 ghost use Rattle.table_core.specs.declared.cell.Cell.{Cell};
 ghost use Rattle.table_core.specs.declared.schema.Column.{Column};
+ghost use Rattle.scan_story.specs.declared.entry.Entry.{Entry};
 ghost use Rattle.query_answers.specs.Answer.{IsAnswer};
 ghost use Rattle.query_answers.specs.declared.answer.Answer.{Answer};
-ghost use Rattle.query_answers.specs.declared.cause.Cause.{Cause};
+ghost use Rattle.scan_story.specs.declared.cause.Cause.{Cause};
 ghost use Rattle.sql_bind.specs.Bounds.{FitsRow};
 ghost use Rattle.batch_texts.specs.Answers.{NamesColumns, printed};
 ghost use Rattle.batch_texts.specs.Outcomes.{ComeTo, losses, plans_of};
@@ -24,8 +25,8 @@ pub fn one_output()
 
 /// Statements of these texts, over a table of values and for these losses, have one status and one output: a law. It does nothing.
 pub fn output_alone()
-    ensures { (columns : List Column) (table : List (List Value)) (texts : List (List ℕ)) (losses : List (Option Cause)) (summary : Option Totals) (a b : ℕ) (out more : List ℕ) →
-        IsOutput columns table texts losses summary a out → IsOutput columns table texts losses summary b more → (a ≡ b) × (out ≡ more) }
+    ensures { (columns : List Column) (table : List (List Value)) (texts : List (List ℕ)) (losses : List (Option Cause)) (summary : Option Totals) (trace : Option (List Entry)) (a b : ℕ) (out more : List ℕ) →
+        IsOutput columns table texts losses summary trace a out → IsOutput columns table texts losses summary trace b more → (a ≡ b) × (out ≡ more) }
 {}
 
 /// The plans of texts name columns of the table: a law, for the conditions of `output_text`. It does nothing.

@@ -1,5 +1,5 @@
 // The output of a run, and its status.
-ghost use Rattle.std.specs.Prelude.{◌≡◌, ◌≤◌, ◌<◌, ◌^◌, ◌++◌, ℕ, List, All, IfOk, OnOk, length, map};
+ghost use Rattle.std.specs.Prelude.{◌≡◌, ◌≤◌, ◌<◌, ◌^◌, ◌++◌, ℕ, List, All, IfOk, OnOk, length, map, option_map};
 ghost use Rattle.std.specs.List.{AllByRecursion, AllZip, count_by, flat_map};
 ghost use Rattle.table_core.specs.Value.{places_of, row_values};
 ghost use Rattle.table_core.specs.declared.cell.Cell.{Cell};
@@ -9,13 +9,14 @@ ghost use Rattle.sql_bind.specs.Bounds.{FitsRow};
 ghost use Rattle.batch_texts.specs.Answers.{NamesColumns, printed};
 ghost use Rattle.batch_texts.specs.Outcomes.{ComeTo, has_rows, losses, plans_of};
 ghost use Rattle.batch_texts.specs.Output.{IsOutput};
-ghost use Rattle.batch_texts.specs.Printed.{output, status, summary_of, text_in};
+ghost use Rattle.batch_texts.specs.Printed.{output, status, summary_of, text_in, trace_of};
 
 use crate::outcome::Outcome;
 use crate::statement::write_statement;
 use crate::totals::Totals;
 use query_answers::Answer;
 use run_texts::write_summary;
+use scan_story::{Entry, write_story};
 use std::alloc::Global;
 use table_core::{Bytes, Dict, Memory, Schema};
 
@@ -81,8 +82,22 @@ fn write_totals(
     }
 }
 
+// Puts the trace at the end, where its story is given.
+fn write_trace(alloc: Global, out: &mut Bytes, trace: Option<&[Entry]>) -> Result<(), Memory>
+    ensures { OnOk result (out.new ≡ out.old ++ trace_of (option_map (λ s. s.now) trace.entry)) }
+{
+    let Some(story) = trace else {
+        return Ok(());
+    };
+    let Ok(text) = write_story(alloc, story) else {
+        return Err(Memory);
+    };
+    out.append(text.as_slice())?;
+    Ok(())
+}
+
 /// The text of a run's output: for each statement, numbered from 1, the rows of its answer or the line of its refusal,
-/// and at the end the summary, where its totals are given.
+/// then the summary, where its totals are given, then the trace, where its story is given: a line for each entry.
 ///
 /// There is an answer for each statement that has a plan, in the order of the statements. There are at most 4294967295
 /// statements, one dictionary for each column, and numbers with at most 9 places. For want of memory there is no text.
@@ -93,20 +108,22 @@ pub fn output_text(
     outcomes: &[Outcome],
     answers: &[Answer],
     summary: Option<Totals>,
+    trace: Option<&[Entry]>,
 ) -> Result<Bytes, Memory>
     requires few { length outcomes.now < 2 ^ 32 }
     requires dicts { length dicts.now ≡ length schema.now }
     requires places { All (λ c. places_of c.kind ≤ 9) schema.now }
     requires columns { AllByRecursion (NamesColumns (length schema.now)) (plans_of outcomes.now) }
     requires answers { AllZip (CanBeWritten dicts.now) (plans_of outcomes.now) answers.now }
-    ensures text { IfOk result (λ out. out ≡ output (printed schema.now dicts.now 1 outcomes.now answers.now) summary) }
+    ensures text { IfOk result (λ out. out ≡ output (printed schema.now dicts.now 1 outcomes.now answers.now) summary (option_map (λ s. s.now) trace.entry)) }
     // Where the outcomes are those of these texts, and the answers those to a table, it is the output of the texts over the table's values.
     ensures output { IfOk result (λ out. (texts : List (List ℕ)) (table : List (List Cell)) →
         ComeTo schema.now dicts.now texts outcomes.now → AllZip (λ p a. IsAnswer p table a) (plans_of outcomes.now) answers.now → All (FitsRow schema.now dicts.now) table →
-        IsOutput schema.now (map (row_values dicts.now) table) texts (losses outcomes.now answers.now) summary (status (printed schema.now dicts.now 1 outcomes.now answers.now)) out) }
+        IsOutput schema.now (map (row_values dicts.now) table) texts (losses outcomes.now answers.now) summary (option_map (λ s. s.now) trace.entry) (status (printed schema.now dicts.now 1 outcomes.now answers.now)) out) }
 {
     let mut out = statements_text(alloc, schema, dicts, outcomes, answers)?;
     write_totals(&mut out, outcomes, answers, summary)?;
+    write_trace(alloc, &mut out, trace)?;
     Ok(out)
 }
 

@@ -12,6 +12,7 @@ ghost use Rattle.batch_texts.specs.Outcomes.{plans_of};
 use crate::{Outcome, Totals, output_text, status_of};
 use agg_groups::{Item, Rows};
 use query_answers::{Answer, Cause};
+use scan_story::Entry;
 use sql_bind::{BindRefusal, Plan, StatementRefusal};
 use sql_tokens::TextRefusal;
 use std::alloc::{AllocError, Global};
@@ -87,6 +88,7 @@ fn prints(
     outcomes: &[Outcome],
     answers: &[Answer],
     summary: Option<Totals>,
+    trace: Option<&[Entry]>,
     wanted: (&[u8], u8),
 ) -> Result<(), Fail>
     requires count { length answers.now ≡ length (plans_of outcomes.now) }
@@ -97,7 +99,7 @@ fn prints(
     let dicts = dicts(alloc)?;
     assert!(rt; can_print(&schema, &dicts));
     assert!(rt; outcomes.len() <= 256);
-    let text = output_text(alloc, &schema, &dicts, outcomes, answers, summary)?;
+    let text = output_text(alloc, &schema, &dicts, outcomes, answers, summary, trace)?;
     assert_eq!(rt; text.as_slice(), wanted.0);
     assert_eq!(rt; status_of(outcomes, answers), wanted.1);
     Ok(())
@@ -106,7 +108,7 @@ fn prints(
 // Tests that a statement which is refused for its text or its names prints this line.
 fn refuses(rt: &impl Abort, alloc: Global, why: StatementRefusal, line: &[u8]) -> Result<(), Fail> {
     let outcomes = vec![in alloc; Outcome::Refused(why)]?;
-    prints(rt, alloc, &outcomes, &[], None, (line, 1))
+    prints(rt, alloc, &outcomes, &[], None, None, (line, 1))
 }
 
 #[test]
@@ -143,7 +145,7 @@ fn is_lost(rt: &impl Abort, alloc: Global, answer: Answer, line: &[u8]) -> Resul
     let plan = groups_of(alloc, &[Item::CountAll, Item::Sum(2)], &[])?;
     let outcomes = vec![in alloc; Outcome::Planned(plan)]?;
     let answers = vec![in alloc; answer]?;
-    prints(rt, alloc, &outcomes, &answers, None, (line, 1))
+    prints(rt, alloc, &outcomes, &answers, None, None, (line, 1))
 }
 
 #[test]
@@ -168,13 +170,13 @@ fn each_lost_query_has_its_line(rt: HostRuntime) -> Result<(), Fail> {
 #[test]
 fn a_batch_without_statements_prints_nothing(rt: HostRuntime) -> Result<(), Fail> {
     let alloc = rt.alloc();
-    prints(&rt, alloc, &[], &[], None, (b"", 0))?;
+    prints(&rt, alloc, &[], &[], None, None, (b"", 0))?;
     let totals = Totals {
         deliveries: 0,
         rows: 5,
     };
     let line = b"summary: 0 queries, 0 answered, 0 deliveries, 5 rows\n";
-    prints(&rt, alloc, &[], &[], Some(totals), (line, 0))
+    prints(&rt, alloc, &[], &[], Some(totals), None, (line, 0))
 }
 
 // Sums and counts of pay by dept, with their answer.
@@ -250,8 +252,27 @@ fn statements_are_printed_in_order(rt: HostRuntime) -> Result<(), Fail> {
         rows: 5,
     };
     let text =
-        b"query 1\nNULL, 10.25, 1\n'it''s', -0.05, 2\nrefused 2: wrong kind 'dept'\nquery 3\n1, 'it''s', 40.00\n2, NULL, NULL\nrefused 4: syntax\nrefused 5: read fault\nquery 6\n5\nsummary: 6 queries, 3 answered, 12 deliveries, 5 rows\n";
-    prints(&rt, alloc, &outcomes, &answers, Some(totals), (text, 1))
+        b"query 1\nNULL, 10.25, 1\n'it''s', -0.05, 2\nrefused 2: wrong kind 'dept'\nquery 3\n1, 'it''s', 40.00\n2, NULL, NULL\nrefused 4: syntax\nrefused 5: read fault\nquery 6\n5\nsummary: 6 queries, 3 answered, 12 deliveries, 5 rows\nregister 0 1\ndeliver 0 1 2\n";
+    let story = [
+        Entry::Register {
+            worker: 0,
+            query: 1,
+        },
+        Entry::Deliver {
+            worker: 0,
+            query: 1,
+            chunk: 2,
+        },
+    ];
+    prints(
+        &rt,
+        alloc,
+        &outcomes,
+        &answers,
+        Some(totals),
+        Some(&story),
+        (text, 1),
+    )
 }
 
 #[test]
@@ -262,5 +283,5 @@ fn a_run_without_refusals_has_status_0(rt: HostRuntime) -> Result<(), Fail> {
     let outcomes = vec![in alloc; Outcome::Planned(count.0), Outcome::Planned(sums.0)]?;
     let answers = vec![in alloc; count.1, sums.1]?;
     let text = b"query 1\n5\nquery 2\nNULL, 10.25, 1\n'it''s', -0.05, 2\n";
-    prints(&rt, alloc, &outcomes, &answers, None, (text, 0))
+    prints(&rt, alloc, &outcomes, &answers, None, None, (text, 0))
 }

@@ -1,8 +1,4 @@
-pub mod Parting
 pub mod Losses
-pub mod Stopping
-pub mod Asking
-pub mod Given
-pub mod Coming
-pub mod Deciding
+pub mod Parts
 pub mod Endings
+pub mod Words

@@ -1,51 +1,79 @@
--- Each loss has its cause, and where no fault was counted none is for a read.
-use Rattle.std.proofs.Common.{◌≡◌, ◌≤◌, ℕ, List, [], ◌∷◌, length, Option, Some, None, refl, arith}
+-- Over a depot that tells what it holds and counted no fault, queries are lost for want of memory alone.
+use Rattle.std.proofs.Common.{◌≡◌, ◌≢◌, ◌∙◌, ◌≤◌, ◌+◌, ◌==◌, ℕ, zero, suc, Bool, true, false, List, [], ◌∷◌, Option, Some, None, refl, sym, subst, arith, inl, inr}
+use Rattle.std.specs.Prelude.{is_some}
 use Rattle.std.specs.List.{AllByRecursion}
 use Rattle.coop_outside.specs.Causes.{Rose}
 use Rattle.coop_outside.specs.Pieces.{Stored}
-use Rattle.batch_run.specs.Causes.{AreLicensed, IsLicensed, Tells}
-use Rattle.batch_texts.specs.Outcomes.{loss_of, losses, plans_of}
-use Rattle.batch_texts.specs.declared.outcome.Outcome.{Outcome}
-use Rattle.batch_texts.specs.declared.outcome.Outcome.TheVariants as outcome
-use Rattle.query_answers.specs.declared.answer.Answer.{Answer}
-use Rattle.query_answers.specs.declared.answer.Answer.TheVariants as answer
-use Rattle.query_answers.specs.declared.cause.Cause.{Cause}
-use Rattle.query_answers.specs.declared.cause.Cause.TheVariants as cause
-use Rattle.coop_cli.specs.Losses.{AreCaused, MayBeLost, OnlyForMemory}
+use Rattle.scan_story.specs.declared.cause.Cause.{Cause}
+use Rattle.scan_story.specs.declared.cause.Cause.TheVariants as cause
+use Rattle.scan_story.specs.declared.entry.Why.TheVariants.{Fault, Damage}
+use Rattle.scan_story.specs.declared.entry.Entry.TheVariants.{Register, Plan, Evict, Fill, Filled, Failed, Deliver, Release, Stop, End}
+use Rattle.scan_story.specs.Causes.{Licensed, cause_of, or_else}
+use Rattle.scan_story.specs.MayFollow.{IsRise}
+use Rattle.scan_story.specs.Views.{History}
+use Rattle.batch_plan.specs.Scans.{scan_number}
+use Rattle.batch_run.specs.Lost.{IsLostBy, Tells, cause_from, cause_of_query, or_first}
+use Rattle.batch_answers.specs.Losses.{AreLostBy, OnlyForMemory}
 
-pub rose-since : (before mid now : ℕ) → before ≤ mid → Rose mid now → Rose before now
-rose-since before mid now h r = omega arith
+-- the counts of a licensed story don't fall
+pub licensed-rises : (told : Bool) (from to : ℕ) (h : History) → Licensed told from to h → from ≤ to
+licensed-rises told from to [] is = is
+licensed-rises told from to (Register w q ∷ h) is = licensed-rises told from to h is
+licensed-rises told from to (Plan w q c ∷ h) is = licensed-rises told from to h is
+licensed-rises told from to (Evict w c ∷ h) is = licensed-rises told from to h is
+licensed-rises told from to (Fill w f p ∷ h) is = licensed-rises told from to h is
+licensed-rises told from to (Filled w f p ∷ h) is = licensed-rises told from to h is
+licensed-rises told from to (Failed w q p (Fault before after) ∷ h) (high, inl less, rest) = let low = licensed-rises told from before h rest in omega (arith, high, less, low)
+licensed-rises told from to (Failed w q p (Fault before after) ∷ h) (high, inr (last, last'), rest) = let low = licensed-rises told from before h rest in omega (arith, high, last, last', low)
+licensed-rises told from to (Failed w q p (Damage word) ∷ h) (untold, rest) = licensed-rises told from to h rest
+licensed-rises told from to (Deliver w q c ∷ h) is = licensed-rises told from to h is
+licensed-rises told from to (Release w q c ∷ h) is = licensed-rises told from to h is
+licensed-rises told from to (Stop w q ∷ h) is = licensed-rises told from to h is
+licensed-rises told from to (End w q ∷ h) is = licensed-rises told from to h is
 
-loss-caused : (held : Stored) (from mid : ℕ) (a : Answer) → IsLicensed held from mid a → MayBeLost held from mid (loss_of a)
-loss-caused held from mid (answer.Rows rows) h = h
-loss-caused held from mid (answer.Picked rows) h = h
-loss-caused held from mid (answer.Overflow item total) h = h
-loss-caused held from mid (answer.Stopped why) h = h
+-- a fault is a rise of the whole way
+fault-rose : (from before after to : ℕ) → from ≤ before → after ≤ to → IsRise before after → Rose from to
+fault-rose from before after to low high (inl less) = omega arith
+fault-rose from before after to low high (inr (last, last')) = omega arith
 
-pub losses-caused : (held : Stored) (os : List Outcome) (given : List Answer) (from to : ℕ) → length given ≡ length (plans_of os) → AreLicensed held given from to → AreCaused held (losses os given) from to
-losses-caused held [] [] from to each h = h
-losses-caused held [] (a ∷ given) from to each h = cc each
-losses-caused held (outcome.Planned p ∷ os) [] from to each h = cc each
-losses-caused held (outcome.Planned p ∷ os) (a ∷ given) from to each (mid, is, rest) =
-    (mid, loss-caused held from mid a is, losses-caused held os given mid to (omega (arith, each)) rest)
-losses-caused held (outcome.Refused why ∷ os) given from to each h = (from, omega arith, losses-caused held os given from to each h)
+no-loss : OnlyForMemory None
+no-loss some = absurd (some refl)
 
--- a count that rose has risen for good
-rose-on : (held : Stored) (from mid next : ℕ) (lost : Option Cause) → Rose from mid → MayBeLost held mid next lost → Rose from next
-rose-on held from mid next None r h = omega arith
-rose-on held from mid next (Some (cause.Read before after)) r (low, up, rose, high) = omega arith
-rose-on held from mid next (Some (cause.Damage piece word)) r h = let le = h.0 in omega arith
-rose-on held from mid next (Some cause.Memory) r h = omega arith
+memory-first : (o : Option Cause) (b : Bool) → OnlyForMemory o → OnlyForMemory (or_else o b cause.Memory)
+memory-first None true h = λ some. refl
+memory-first None false h = h
+memory-first (Some why) b h = h
 
-still-rose : (held : Stored) (lost : List (Option Cause)) (from mid to : ℕ) → Rose from mid → AreCaused held lost mid to → Rose from to
-still-rose held [] from mid to r h = omega arith
-still-rose held (l ∷ lost) from mid to r (next, is, rest) = still-rose held lost from next to (rose-on held from mid next l r is) rest
+only-causes : (from to : ℕ) (h : History) (q : ℕ) → (Rose from to → ⊥) → Licensed true from to h → OnlyForMemory (cause_of h q)
+only-causes from to [] q none is = no-loss
+only-causes from to (Register w r ∷ h) q none is = only-causes from to h q none is
+only-causes from to (Plan w r c ∷ h) q none is = only-causes from to h q none is
+only-causes from to (Evict w c ∷ h) q none is = only-causes from to h q none is
+only-causes from to (Fill w f p ∷ h) q none is = only-causes from to h q none is
+only-causes from to (Filled w f p ∷ h) q none is = only-causes from to h q none is
+only-causes from to (Failed w r p (Fault before after) ∷ h) q none (high, rise, rest) = absurd (none (fault-rose from before after to (licensed-rises true from before h rest) high rise))
+only-causes from to (Failed w r p (Damage word) ∷ h) q none (untold, rest) = cc untold
+only-causes from to (Deliver w r c ∷ h) q none is = only-causes from to h q none is
+only-causes from to (Release w r c ∷ h) q none is = only-causes from to h q none is
+only-causes from to (Stop w r ∷ h) q none is = memory-first (cause_of h q) (r == q) (only-causes from to h q none is)
+only-causes from to (End w r ∷ h) q none is = only-causes from to h q none is
 
--- where the depot tells what it holds and counted no fault, each loss is for want of memory
-pub only-memory : (held : Stored) (lost : List (Option Cause)) (from to : ℕ) → Tells held → (Rose from to → ⊥) → AreCaused held lost from to → AllByRecursion OnlyForMemory lost
-only-memory held [] from to tells none h = tt
-only-memory held (None ∷ lost) from to tells none (mid, is, rest) = (λ some. absurd (some refl), only-memory held lost mid to tells (λ r. none (rose-since from mid to is r)) rest)
-only-memory held (Some (cause.Read before after) ∷ lost) from to tells none (mid, (low, up, rose, high), rest) =
-    let r : Rose from mid = omega arith in absurd (none (still-rose held lost from mid to r rest))
-only-memory held (Some (cause.Damage piece word) ∷ lost) from to tells none (mid, (le, untold), rest) = absurd (untold tells)
-only-memory held (Some cause.Memory ∷ lost) from to tells none (mid, is, rest) = (λ some. refl, only-memory held lost mid to tells (λ r. none (rose-since from mid to is r)) rest)
+either-first : (a b : Option Cause) → OnlyForMemory a → OnlyForMemory b → OnlyForMemory (or_first a b)
+either-first None b first later = later
+either-first (Some why) b first later = first
+
+only-parts : (from to : ℕ) (h : History) (parts query part left : ℕ) → (Rose from to → ⊥) → Licensed true from to h → OnlyForMemory (cause_from h parts query part left)
+only-parts from to h parts query part zero none is = no-loss
+only-parts from to h parts query part (suc left) none is =
+    either-first (cause_of h (scan_number parts query part)) (cause_from h parts query (part + 1) left) (only-causes from to h (scan_number parts query part) none is) (only-parts from to h parts query (part + 1) left none is)
+
+only-lost : (from to : ℕ) (h : History) (parts query : ℕ) (lost : Option Cause) → (Rose from to → ⊥) → Licensed true from to h → IsLostBy h parts query lost → OnlyForMemory lost
+only-lost from to h parts query lost none is (inl same) = subst OnlyForMemory (sym same) (only-parts from to h parts query 0 parts none is)
+only-lost from to h parts query lost none is (inr (other, memory)) = λ some. memory
+
+pub only-memory : (held : Stored) (h : History) (parts from to : ℕ) → Tells held → (Rose from to → ⊥) → Licensed (is_some held) from to h → (n : ℕ) (losses : List (Option Cause)) → AreLostBy h parts n losses
+    → AllByRecursion OnlyForMemory losses
+only-memory None h parts from to tells none is n losses lost = absurd tells
+only-memory (Some pieces) h parts from to tells none is n [] lost = tt
+only-memory (Some pieces) h parts from to tells none is n (l ∷ losses) lost =
+    (only-lost from to h parts n l none is lost.0, only-memory (Some pieces) h parts from to tells none is (n + 1) losses lost.1)

@@ -1,22 +1,31 @@
 -- How a run ends: its status, and what is written.
-use Rattle.std.specs.Prelude.{◌≡◌, ◌<◌, ◌⊎◌, ℕ, List, length, take, Option, Some, Result, Ok, Err, All}
+use Rattle.std.specs.Prelude.{◌≡◌, ◌<◌, ◌⊎◌, ◌++◌, ℕ, List, length, replicate, take, IsPermutation, Option, Some, None, Result, Ok, Err, All}
 use Rattle.coop_outside.specs.Causes.{Rose}
 use Rattle.coop_outside.specs.Taken.{grown}
 use Rattle.command_words.specs.Options.{Request}
 use Rattle.csv_load.specs.Meaning.{Values, table_of}
 use Rattle.csv_rows.specs.Rows.{table_records}
-use Rattle.query_answers.specs.declared.cause.Cause.{Cause}
+use Rattle.filter_zones.specs.Possible.{needed}
+use Rattle.scan_story.specs.Views.{past}
+use Rattle.scan_story.specs.declared.cause.Cause.{Cause}
 use Rattle.run_texts.specs.Stops.{line_of, status_of}
 use Rattle.run_texts.specs.declared.stop.Stop.{Stop}
+use Rattle.batch_inputs.specs.Ending.{AreInputs}
 use Rattle.batch_inputs.specs.Order.{first_stop}
 use Rattle.batch_inputs.specs.Sources.{batch_source, table_source, text_in}
 use Rattle.batch_inputs.specs.Statements.{statements_in}
-use Rattle.batch_run.specs.declared.taken.Taken.{Taken}
+use Rattle.batch_inputs.specs.declared.inputs.Inputs.{Inputs}
+use Rattle.batch_plan.specs.declared.task.Task.{Task}
 use Rattle.batch_texts.specs.Output.{IsOutput}
-use Rattle.coop_cli.specs.Devices.{OverDepot, OverShelf, OverSink}
-use Rattle.coop_cli.specs.Losses.{AreCaused, OnlyForMemory}
-use Rattle.coop_cli.specs.Running.{Text}
-use Rattle.coop_cli.specs.Tasks.{totals_of}
+use Rattle.batch_answers.specs.Devices.{OverShelf, OverSink}
+use Rattle.batch_answers.specs.Losses.{AreLostBy, OnlyForMemory, SomeForMemory}
+use Rattle.batch_answers.specs.Running.{IsWorked, Text, delivered_to, queries_in, zones_in}
+use Rattle.batch_answers.specs.Tasks.{totals_of, trace_of}
+use Rattle.batch_answers.specs.Work.{Work}
+
+-- the sink took the whole text
+abbrev pub IsWritten : List ℕ → OverSink → Type 0
+IsWritten text sink = sink.new ≡ grown sink.old text
 
 -- the sink took less than the whole text, since it failed
 abbrev pub IsCutShort : List ℕ → OverSink → Type 0
@@ -25,30 +34,61 @@ IsCutShort text sink = (k : ℕ) × (k < length text) × (sink.new ≡ grown sin
 -- what a decision writes, and the status that is answered: the whole text and its status, or a front of it and 6;
 -- the stop's line, or a front of it, and the stop's status
 abbrev pub Prints : Result Text Stop → ℕ → OverSink → Type 0
-Prints (Ok o) status sink = ((status ≡ o.0) × (sink.new ≡ grown sink.old o.1)) ⊎ ((status ≡ 6) × IsCutShort o.1 sink)
-Prints (Err s) status sink = (status ≡ status_of s) × ((sink.new ≡ grown sink.old (line_of s)) ⊎ IsCutShort (line_of s) sink)
+Prints (Ok o) status sink = ((status ≡ o.0) × IsWritten o.1 sink) ⊎ ((status ≡ 6) × IsCutShort o.1 sink)
+Prints (Err s) status sink = (status ≡ status_of s) × (IsWritten (line_of s) sink ⊎ IsCutShort (line_of s) sink)
 
 -- the table of values of a text
 abbrev pub values_of : List ℕ → Values
 values_of table = table_of (table_records table)
 
--- THE ANSWERS of a run are written: each query that isn't refused printed its SQL meaning over the whole table of values, each
--- query that was lost its cause, each other statement its refusal; the status is 0 where each statement is answered, else 1
-pub record WritesOutput (r : Request) (files : List ℕ → Option (List ℕ)) (depot : OverDepot) (taken : List Taken) (status : ℕ) (sink : OverSink) : Type 0 where
+-- THE HEADLINE, over files and a depot that tells what it holds, of a text and the status that goes with it
+pub record Headline (r : Request) (files : List ℕ → Option (List ℕ)) (w : Work) (status : ℕ) (text : List ℕ) : Type 0 where
+  -- for every table and batch, number of workers and buffer of at least three frames per worker plus one, in every interleaving that ends:
   pub table : List ℕ
   pub table_is : text_in (table_source r.table) files ≡ Some table
   pub batch : List ℕ
   pub batch_is : text_in (batch_source r.batch) files ≡ Some batch
+  pub given : Inputs
+  pub is_given : AreInputs r (Some table) (Some batch) given
+  -- each query not refused prints its SQL meaning over the whole table; why a query is lost is what the story says of its scans, or want of memory
   pub losses : List (Option Cause)
-  pub causes : AreCaused depot.old.held losses depot.old.faults depot.new.faults
-  pub text : List ℕ
-  pub output : IsOutput (values_of table).columns (values_of table).rows (statements_in batch) losses (totals_of r.summary taken (length (values_of table).rows)) status text
-  pub written : sink.new ≡ grown sink.old text
+  pub lost : AreLostBy (past w.story) r.parts 1 losses
+  pub output : IsOutput (values_of table).columns (values_of table).rows (statements_in batch) losses (totals_of r.summary w.story (length (values_of table).rows))
+      (trace_of r.trace w.story) status text
+  -- its scans took each chunk that it needs exactly once, from frames that nobody refilled meanwhile; and every recorded load, delivery and
+  -- eviction was of greatest relevance among those that the policy allowed
+  pub worked : IsWorked given w
 
 -- the answers are written, and no query is lost but for want of memory
-pub record WritesAll (r : Request) (files : List ℕ → Option (List ℕ)) (depot : OverDepot) (taken : List Taken) (status : ℕ) (sink : OverSink) : Type 0 where
-  pub writes : WritesOutput r files depot taken status sink
-  pub lost : All OnlyForMemory writes.losses
+pub record WritesAll (r : Request) (files : List ℕ → Option (List ℕ)) (w : Work) (status : ℕ) (sink : OverSink) : Type 0 where
+  pub text : List ℕ
+  pub headline : Headline r files w status text
+  pub lost : All OnlyForMemory headline.losses
+  pub written : IsWritten text sink
+
+-- ---- parts
+
+-- THE ANSWERS ALONE of a batch over a table, where no query is lost: they know of no workers, frames, chunks, layout, parts and policy
+abbrev pub AreAnswersAlone : List ℕ → List ℕ → ℕ → List ℕ → Type 0
+AreAnswersAlone table batch status text =
+    IsOutput (values_of table).columns (values_of table).rows (statements_in batch) (replicate (length (statements_in batch)) None) None None status text
+
+-- a text is the answers alone and what is shown behind them, and each chunk that a query needs was delivered to exactly one of its scans
+pub record IsForAnyParts (table batch : List ℕ) (i : Inputs) (w : Work) (status : ℕ) (text : List ℕ) : Type 0 where
+  pub alone : List ℕ
+  pub rest : List ℕ
+  pub begins : text ≡ alone ++ rest
+  pub answers : AreAnswersAlone table batch status alone
+  pub once : All (λ (t : Task). IsPermutation (needed t.plan.cond (zones_in i)) (delivered_to w.story i.parts t.query i.parts)) (queries_in i)
+
+-- the output is written; memory was wanting for a query, or the answers are those of any number of parts
+pub record WritesForAnyParts (r : Request) (files : List ℕ → Option (List ℕ)) (w : Work) (status : ℕ) (sink : OverSink) : Type 0 where
+  pub text : List ℕ
+  pub headline : Headline r files w status text
+  pub written : IsWritten text sink
+  pub alike : SomeForMemory headline.losses ⊎ IsForAnyParts headline.table headline.batch headline.given w status text
+
+-- ---- stops
 
 -- the first stop of a request over files, if there is one
 abbrev pub stop_over : Request → (List ℕ → Option (List ℕ)) → Option Stop

@@ -1,7 +1,3 @@
-pub mod Devices
 pub mod Chosen
-pub mod Tasks
-pub mod Losses
-pub mod Running
-pub mod Deciding
 pub mod Ending
+pub mod Promises

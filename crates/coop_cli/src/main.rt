@@ -9,23 +9,23 @@ ghost use Rattle.command_words.specs.Options.{scratch_of as name_of_file};
 ghost use Rattle.coop_cli.specs.Chosen.{is_in_file};
 ghost use Rattle.coop_outside.specs.Either.{any_gets};
 
-mod answering;
-mod decide;
-mod decision;
 mod ended;
-mod output;
 mod print;
 mod run;
-mod tasks;
+mod settle;
 #[cfg(test)]
 mod tests;
 
 use command_words::scratch_of;
 use coop_outside::{AnyDepot, DiskShelf, MemDepot, ScratchDepot, StdoutSink, write_all};
+use cscan::NoGate;
+use relevance::Relevance;
 use run::run;
 use run_texts::Stop;
 use std::hash::RandomState;
 use std::process::ExitCode;
+use std::sync::Wait;
+use std::thread::Threads;
 use std::{env, io};
 
 // The words after the program's name.
@@ -64,18 +64,25 @@ fn depot_of(rt: HostRuntime, words: &[String]) -> Result<AnyDepot<HostRuntime>, 
 }
 
 // Runs the program over the devices of the system, and answers its status.
-fn run_on(rt: HostRuntime, out: &mut StdoutSink<HostRuntime>) -> Result<u8, Stop> {
+fn run_on<R: Threads + Wait + Sync>(
+    handle: &R,
+    rt: HostRuntime,
+    out: &mut StdoutSink<HostRuntime>,
+) -> Result<u8, Stop> {
     let words = words_of(&rt).map_err(stop_of)?;
     let keys = RandomState::new(&rt).map_err(stop_of)?;
     let depot = depot_of(rt, &words)?;
     let mut shelf = DiskShelf::new(rt);
-    let ended = run(rt.alloc(), keys, &words, &mut shelf, depot, out);
+    let alloc = rt.alloc();
+    let ended = run(
+        handle, alloc, keys, &words, &mut shelf, depot, Relevance, &NoGate, out,
+    );
     Ok(ended.status)
 }
 
 fn main(rt: HostRuntime) -> ExitCode {
     let mut out = StdoutSink::new(rt);
-    match run_on(rt, &mut out) {
+    match run_on(&rt, rt, &mut out) {
         Ok(status) => ExitCode::from(status),
         Err(stop) => {
             let _ = write_all(&mut out, stop.line().as_slice());

@@ -1,9 +1,9 @@
 // What is written of a decision.
-ghost use Rattle.coop_cli.specs.Deciding.{shown};
-ghost use Rattle.coop_cli.specs.Devices.{over_sink};
+ghost use Rattle.batch_answers.specs.Deciding.{shown};
+ghost use Rattle.batch_answers.specs.Devices.{over_sink};
 ghost use Rattle.coop_cli.specs.Ending.{Prints};
 
-use crate::output::Output;
+use batch_answers::Output;
 use coop_outside::{Sink, write_all};
 use run_texts::Stop;
 

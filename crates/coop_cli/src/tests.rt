@@ -4,14 +4,20 @@ ghost use Rattle.std.specs.Prelude.{◌≤◌, ◌^◌};
 use crate::ended::Ended;
 use crate::run::run;
 use coop_outside::{Bytes, Depot, MemDepot, MemShelf, MemSink};
+use cscan::NoGate;
+use relevance::Relevance;
 use std::alloc::Global;
 use std::hash::RandomState;
+use std::random::RandomSource;
+use std::sync::Wait;
 use std::test::Fail;
+use std::thread::Threads;
 
 mod answers;
 mod devices;
 mod layouts;
 mod refusals;
+mod stories;
 
 // Five rows of three columns.
 const TABLE_A: &str = "id,dept,pay\n1,a,10\n2,b,20\n3,a,\n4,c,40\n5,b,-5\n";
@@ -68,10 +74,14 @@ fn words_of(alloc: Global, line: &str) -> Result<Vec<String>, Fail> {
 type Case<'a> = (&'a str, &'a str, &'a str, u8, &'a str);
 
 // The first case, counted from 1, that ends otherwise over a depot in memory; 0 where each ends as it should.
-fn wrong_case(rt: &HostRuntime, cases: &[Case<'_>]) -> Result<usize, Fail> {
+fn wrong_case<R: RandomSource + Threads + Wait + Sync>(
+    rt: &R,
+    alloc: Global,
+    cases: &[Case<'_>],
+) -> Result<usize, Fail> {
     for place in 0..cases.len() {
         let (line, table, batch, status, output) = cases[place];
-        let (ended, taken) = run_on(rt, line, table, batch, MemDepot::new(rt.alloc()))?;
+        let (ended, taken) = run_on(rt, alloc, line, table, batch, MemDepot::new(alloc))?;
         if ended.status != status || taken.as_slice() != output.as_bytes() {
             return Ok(place + 1);
         }
@@ -80,8 +90,9 @@ fn wrong_case(rt: &HostRuntime, cases: &[Case<'_>]) -> Result<usize, Fail> {
 }
 
 // A run of these words over a table, a batch and a depot: what it leaves, and what it wrote.
-fn run_on<D: Depot>(
-    rt: &HostRuntime,
+fn run_on<D: Depot + Send, R: RandomSource + Threads + Wait + Sync>(
+    rt: &R,
+    alloc: Global,
     line: &str,
     table: &str,
     batch: &str,
@@ -89,11 +100,12 @@ fn run_on<D: Depot>(
 ) -> Result<(Ended<D>, Bytes), Fail>
     requires gets { D.gets depot ≤ 2 ^ 63 }
 {
-    let alloc = rt.alloc();
     let words = words_of(alloc, line)?;
     let keys = RandomState::new(rt)?;
     let mut shelf = shelf_of(alloc, table.as_bytes(), batch.as_bytes())?;
     let mut out = sink_of(alloc, 100);
-    let ended = run(alloc, keys, &words, &mut shelf, depot, &mut out);
+    let ended = run(
+        rt, alloc, keys, &words, &mut shelf, depot, Relevance, &NoGate, &mut out,
+    );
     Ok((ended, out.taken))
 }

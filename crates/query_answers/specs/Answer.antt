@@ -9,7 +9,7 @@ use Rattle.top_rows.specs.Text as rows_text
 use Rattle.top_rows.specs.Rows.{Numbered, rows_meaning}
 use Rattle.sql_bind.specs.declared.plan.Plan.{Plan}
 use Rattle.sql_bind.specs.Meaning.{plan_meaning, plan_overflow, plan_rows}
-use Rattle.query_answers.specs.declared.cause.Cause.{Cause}
+use Rattle.scan_story.specs.declared.cause.Cause.{Cause}
 use Rattle.query_answers.specs.declared.answer.Answer.{Answer}
 use Rattle.query_answers.specs.declared.answer.Answer.TheVariants.{Rows, Picked, Overflow, Stopped}
 use Rattle.query_answers.specs.Partial.{unnumbered}

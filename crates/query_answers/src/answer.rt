@@ -2,8 +2,8 @@
 ghost use Rattle.std.specs.Prelude.{◌≡◌};
 ghost use Rattle.query_answers.specs.Answer.{is_stopped};
 
-use crate::cause::Cause;
 use agg_groups::Rows;
+use scan_story::Cause;
 use top_rows::Picked;
 
 /// What a query is answered.

@@ -4,13 +4,12 @@
 #![tactic(auto)]
 
 mod answer;
-mod cause;
 mod laws;
 mod partial;
 #[cfg(test)]
 mod tests;
 
 pub use answer::Answer;
-pub use cause::Cause;
 pub use laws::{alike_parts, answer_agrees, answer_of_table, any_order, can_be_written};
 pub use partial::{Partial, join_parts};
+pub use scan_story::Cause;

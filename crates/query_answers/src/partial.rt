@@ -5,15 +5,15 @@ ghost use Rattle.agg_groups.specs.Groups as grouped;
 ghost use Rattle.top_rows.specs.Rows.{Numbered, AreApart};
 ghost use Rattle.top_rows.specs.Top as first;
 ghost use Rattle.sql_bind.specs.declared.plan.Plan.{Plan};
-ghost use Rattle.query_answers.specs.declared.cause.Cause.TheVariants as cause;
+ghost use Rattle.scan_story.specs.declared.cause.Cause.TheVariants as cause;
 ghost use Rattle.query_answers.specs.Answer.{IsAnswerOver, StopsFor};
 ghost use Rattle.query_answers.specs.Partial as spec;
 ghost use Rattle.sql_bind.specs.Meaning as meaning;
 
 use crate::answer::Answer;
-use crate::cause::Cause;
 use agg_groups::{FinishFault, Groups};
 use filter_zones::{Cond, Truth, truth_of};
+use scan_story::Cause;
 use sql_bind::Plan;
 use std::alloc::Global;
 use table_core::{Cell, Memory};

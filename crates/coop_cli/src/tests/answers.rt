@@ -69,7 +69,7 @@ fn answers_over_table_a(rt: HostRuntime) -> Result<(), Fail> {
             "query 1\n5\nrefused 2: syntax\nquery 3\n35\nsummary: 3 queries, 2 answered, 5 deliveries, 5 rows\n",
         ),
     ];
-    assert_eq!(rt; wrong_case(&rt, cases.as_slice())?, 0);
+    assert_eq!(rt; wrong_case(&rt, rt.alloc(), cases.as_slice())?, 0);
     Ok(())
 }
 
@@ -126,7 +126,7 @@ fn answers_over_other_tables(rt: HostRuntime) -> Result<(), Fail> {
             "query 1\n4.25, 3.00\n",
         ),
     ];
-    assert_eq!(rt; wrong_case(&rt, cases.as_slice())?, 0);
+    assert_eq!(rt; wrong_case(&rt, rt.alloc(), cases.as_slice())?, 0);
     Ok(())
 }
 
@@ -157,7 +157,7 @@ fn sums_at_the_edge_of_64_bits(rt: HostRuntime) -> Result<(), Fail> {
             "refused 1: wrong kind 'x'\n",
         ),
     ];
-    assert_eq!(rt; wrong_case(&rt, cases.as_slice())?, 0);
+    assert_eq!(rt; wrong_case(&rt, rt.alloc(), cases.as_slice())?, 0);
     Ok(())
 }
 
@@ -170,11 +170,11 @@ fn answers_come_from_the_depot(rt: HostRuntime) -> Result<(), Fail> {
         word: 3,
         value: 50,
     };
-    let (ended, taken) = run_on(&rt, WORDS, TABLE_A, sum, depot)?;
+    let (ended, taken) = run_on(&rt, rt.alloc(), WORDS, TABLE_A, sum, depot)?;
     assert_eq!(rt; ended.status, 0);
     assert_eq!(rt; taken.as_slice(), b"query 1\n105\n".as_slice());
     let cases = [(WORDS, TABLE_A, sum, 0, "query 1\n65\n")];
-    assert_eq!(rt; wrong_case(&rt, cases.as_slice())?, 0);
+    assert_eq!(rt; wrong_case(&rt, rt.alloc(), cases.as_slice())?, 0);
     Ok(())
 }
 
@@ -195,7 +195,7 @@ fn the_example_of_the_manual(rt: HostRuntime) -> Result<(), Fail> {
         1,
         "query 1\n'north', 2, 120.50\n'south', 2, 99.75\n'west', 1, 42.25\nquery 2\n'2026-01-05', 'north', 120.50\n'2026-01-05', 'south', 80.00\nquery 3\n'2026-01-05', '2026-01-07'\nrefused 4: wrong kind 'region'\nsummary: 4 queries, 3 answered, 3 deliveries, 5 rows\n",
     )];
-    assert_eq!(rt; wrong_case(&rt, cases.as_slice())?, 0);
+    assert_eq!(rt; wrong_case(&rt, rt.alloc(), cases.as_slice())?, 0);
     Ok(())
 }
 
@@ -203,6 +203,7 @@ fn the_example_of_the_manual(rt: HostRuntime) -> Result<(), Fail> {
 fn a_generated_job(rt: HostRuntime) -> Result<(), Fail> {
     let (ended, taken) = run_on(
         &rt,
+        rt.alloc(),
         "--summary gen:7:2000 gen",
         "",
         "",

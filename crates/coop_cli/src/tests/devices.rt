@@ -3,6 +3,8 @@ use super::{COUNT, TABLE_A, WORDS, run_on, shelf_of, sink_of, words_of};
 use crate::run::{run, run_settings};
 use command_words::{Call, options_of};
 use coop_outside::{MemDepot, SpoiltDepot};
+use cscan::NoGate;
+use relevance::Relevance;
 use std::hash::RandomState;
 use std::test::Fail;
 
@@ -13,16 +15,15 @@ fn each_get_fails_in_turn(rt: HostRuntime) -> Result<(), Fail> {
     let one = "refused 1: read fault\nquery 2\n5\n";
     for (first, second, status, gets, output) in [
         (1, 0, 1, 4, one),
-        (2, 0, 1, 5, one),
-        (3, 0, 1, 6, one),
-        (4, 0, 1, 4, "query 1\n5\nrefused 2: read fault\n"),
-        (7, 0, 0, 6, "query 1\n5\nquery 2\n5\n"),
+        (2, 0, 1, 4, one),
+        (3, 0, 1, 4, one),
+        (4, 0, 0, 3, "query 1\n5\nquery 2\n5\n"),
         (1, 2, 1, 2, "refused 1: read fault\nrefused 2: read fault\n"),
     ] {
         let mut depot = MemDepot::new(rt.alloc());
         depot.fail_gets.push(first)?;
         depot.fail_gets.push(second)?;
-        let (ended, taken) = run_on(&rt, WORDS, TABLE_A, COUNT_TWICE, depot)?;
+        let (ended, taken) = run_on(&rt, rt.alloc(), WORDS, TABLE_A, COUNT_TWICE, depot)?;
         assert_eq!(rt; ended.status, status, "get {first}");
         assert_eq!(rt; ended.depot.gets, gets, "get {first}");
         assert_eq!(rt; taken.as_slice(), output.as_bytes(), "get {first}");
@@ -40,7 +41,7 @@ fn each_put_fails_in_turn(rt: HostRuntime) -> Result<(), Fail> {
     ] {
         let mut depot = MemDepot::new(rt.alloc());
         depot.fail_puts.push(fail_put)?;
-        let (ended, taken) = run_on(&rt, WORDS, TABLE_A, COUNT, depot)?;
+        let (ended, taken) = run_on(&rt, rt.alloc(), WORDS, TABLE_A, COUNT, depot)?;
         assert_eq!(rt; ended.status, status, "put {fail_put}");
         assert_eq!(rt; taken.as_slice(), output.as_bytes(), "put {fail_put}");
     }
@@ -55,7 +56,7 @@ fn a_damaged_piece(rt: HostRuntime) -> Result<(), Fail> {
         word: 2,
         value: 9,
     };
-    let (ended, taken) = run_on(&rt, WORDS, TABLE_A, COUNT, depot)?;
+    let (ended, taken) = run_on(&rt, rt.alloc(), WORDS, TABLE_A, COUNT, depot)?;
     assert_eq!(rt; ended.status, 1);
     assert_eq!(rt;
         taken.as_slice(),
@@ -80,11 +81,14 @@ fn each_read_fails_in_turn(rt: HostRuntime) -> Result<(), Fail> {
         let mut out = sink_of(alloc, 100);
         let keys = RandomState::new(&rt)?;
         let ended = run(
+            &rt,
             alloc,
             keys,
             &words,
             &mut shelf,
             MemDepot::new(alloc),
+            Relevance,
+            &NoGate,
             &mut out,
         );
         assert_eq!(rt; ended.status, status, "read {fail_read}");
@@ -110,11 +114,14 @@ fn each_write_fails_in_turn(rt: HostRuntime) -> Result<(), Fail> {
         out.fail_writes.push(fail_write)?;
         let keys = RandomState::new(&rt)?;
         let ended = run(
+            &rt,
             alloc,
             keys,
             &words,
             &mut shelf,
             MemDepot::new(alloc),
+            Relevance,
+            &NoGate,
             &mut out,
         );
         assert_eq!(rt; ended.status, status, "write {fail_write}");
@@ -130,7 +137,17 @@ fn a_stop_line_that_fails_keeps_its_status(rt: HostRuntime) -> Result<(), Fail> 
     let mut out = sink_of(alloc, 4);
     out.fail_writes.push(3)?;
     let keys = RandomState::new(&rt)?;
-    let ended = run(alloc, keys, &[], &mut shelf, MemDepot::new(alloc), &mut out);
+    let ended = run(
+        &rt,
+        alloc,
+        keys,
+        &[],
+        &mut shelf,
+        MemDepot::new(alloc),
+        Relevance,
+        &NoGate,
+        &mut out,
+    );
     assert_eq!(rt; ended.status, 2);
     assert_eq!(rt; out.taken.as_slice(), b"stopped ".as_slice());
     Ok(())
@@ -148,11 +165,14 @@ fn a_request_in_place_of_words(rt: HostRuntime) -> Result<(), Fail> {
     let mut out = sink_of(alloc, 100);
     let keys = RandomState::new(&rt)?;
     let ended = run_settings(
+        &rt,
         alloc,
         keys,
         &request,
         &mut shelf,
         MemDepot::new(alloc),
+        Relevance,
+        &NoGate,
         &mut out,
     );
     assert_eq!(rt; ended.status, 0);

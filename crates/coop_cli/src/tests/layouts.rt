@@ -53,14 +53,21 @@ fn answers_by_columns(rt: HostRuntime) -> Result<(), Fail> {
             "query 1\n4, 40\n2, 20\n1, 10\n",
         ),
     ];
-    assert_eq!(rt; wrong_case(&rt, cases.as_slice())?, 0);
+    assert_eq!(rt; wrong_case(&rt, rt.alloc(), cases.as_slice())?, 0);
     Ok(())
 }
 
 #[test]
 fn what_is_read(rt: HostRuntime) -> Result<(), Fail> {
     let sum = "SELECT SUM(pay) FROM t WHERE id >= 4;";
-    let (ended, _) = run_on(&rt, WORDS, TABLE_A, sum, MemDepot::new(rt.alloc()))?;
+    let (ended, _) = run_on(
+        &rt,
+        rt.alloc(),
+        WORDS,
+        TABLE_A,
+        sum,
+        MemDepot::new(rt.alloc()),
+    )?;
     assert_eq!(rt; ended.depot.puts, 3);
     assert_eq!(rt; ended.depot.gets, 2);
     let [scan] = ended.taken.as_slice() else {
@@ -73,6 +80,7 @@ fn what_is_read(rt: HostRuntime) -> Result<(), Fail> {
     assert_eq!(rt; scan.chunks.as_slice(), [1, 2].as_slice());
     let (ended, taken) = run_on(
         &rt,
+        rt.alloc(),
         COLUMNS,
         TABLE_A,
         "SELECT SUM(pay) FROM t;",
@@ -82,7 +90,14 @@ fn what_is_read(rt: HostRuntime) -> Result<(), Fail> {
     assert_eq!(rt; ended.depot.gets, 3);
     assert_eq!(rt; taken.as_slice(), b"query 1\n65\n".as_slice());
     let none = "SELECT COUNT(*) FROM t WHERE id > 9;";
-    let (ended, _) = run_on(&rt, WORDS, TABLE_A, none, MemDepot::new(rt.alloc()))?;
+    let (ended, _) = run_on(
+        &rt,
+        rt.alloc(),
+        WORDS,
+        TABLE_A,
+        none,
+        MemDepot::new(rt.alloc()),
+    )?;
     assert_eq!(rt; ended.depot.gets, 0);
     Ok(())
 }
@@ -96,6 +111,6 @@ fn frames_by_columns(rt: HostRuntime) -> Result<(), Fail> {
         8,
         "stopped 8: 12 frames needed\n",
     )];
-    assert_eq!(rt; wrong_case(&rt, cases.as_slice())?, 0);
+    assert_eq!(rt; wrong_case(&rt, rt.alloc(), cases.as_slice())?, 0);
     Ok(())
 }

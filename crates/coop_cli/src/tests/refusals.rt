@@ -42,7 +42,7 @@ fn refused_queries(rt: HostRuntime) -> Result<(), Fail> {
             "refused 1: unknown column 'zz'\n",
         ),
     ];
-    assert_eq!(rt; wrong_case(&rt, cases.as_slice())?, 0);
+    assert_eq!(rt; wrong_case(&rt, rt.alloc(), cases.as_slice())?, 0);
     Ok(())
 }
 
@@ -59,13 +59,6 @@ fn runs_that_stop(rt: HostRuntime) -> Result<(), Fail> {
         ),
         (
             "--threads 2 --threads 2 a.csv b.sql",
-            TABLE_A,
-            COUNT,
-            2,
-            "stopped 2: usage\n",
-        ),
-        (
-            "--trace a.csv b.sql",
             TABLE_A,
             COUNT,
             2,
@@ -157,6 +150,6 @@ fn runs_that_stop(rt: HostRuntime) -> Result<(), Fail> {
             "stopped 9: 288 scans\n",
         ),
     ];
-    assert_eq!(rt; wrong_case(&rt, cases.as_slice())?, 0);
+    assert_eq!(rt; wrong_case(&rt, rt.alloc(), cases.as_slice())?, 0);
     Ok(())
 }

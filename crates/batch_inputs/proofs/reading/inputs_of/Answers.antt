@@ -1,11 +1,7 @@
-use Rattle.batch_inputs.specs.Asked.{asked_of}
-use Rattle.batch_inputs.proofs.Deciding.{refused-read, refused-words}
+use Rattle.command_words.specs.Views.{request_view}
+use Rattle.batch_inputs.proofs.Deciding.{told-ends}
 use Rattle.batch_inputs.proofs.reading.inputs_of.Goals as goal
 
-pub returns-in-Err-clause-usage : goal.returns-in-Err-clause-usage
-returns-in-Err-clause-usage g c = refused-words (asked_of c.args.words.now) c.in-Err.stop c.in-Err.ensures.errors (λ usage. c.in-Err.ensures.usage (cc usage))
-
-pub returns-in-Err-clause-read : goal.returns-in-Err-clause-read
-returns-in-Err-clause-read g c r asked =
-    refused-read r (g.F.Shelf.held c.args.shelf.now) (g.F.Shelf.faults c.args.shelf.now) (asked_of c.args.words.now) c.in-Err.stop c.in-Err.ensures.errors
-    (λ usage. c.in-Err.ensures.usage (cc usage)) asked
+pub returns-clause-told : goal.returns-clause-told
+returns-clause-told g c files held =
+    told-ends (request_view c.args.request.now) (g.F.Shelf.held c.args.shelf.now) _ _ c.drop_texts.result files held c.drop_texts.ensures.read

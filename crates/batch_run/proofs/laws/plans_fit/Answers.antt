@@ -1,4 +1,4 @@
-use Rattle.batch_run.proofs.Tables.{plan_fits}
+use Rattle.batch_run.proofs.Plans.{plan_fits}
 use Rattle.batch_run.proofs.laws.plans_fit.Goals as goal
 
 pub returns : goal.returns

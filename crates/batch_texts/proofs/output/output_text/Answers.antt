@@ -1,9 +1,11 @@
-use Rattle.std.proofs.Common.{◌∙◌, ◌++◌, ap, refl}
+use Rattle.std.proofs.Common.{◌∙◌, ◌++◌, ap, append_assoc, refl}
+use Rattle.std.specs.Prelude.{option_map}
+use Rattle.std.specs.List.{flat_map}
 use Rattle.std.proofs.lemmas.Slice.Zip.{AllZip-long}
 use Rattle.query_answers.specs.Answer.{CanBeWritten}
 use Rattle.batch_texts.specs.Answers.{printed}
 use Rattle.batch_texts.specs.Outcomes.{plans_of}
-use Rattle.batch_texts.specs.Printed.{summary_of}
+use Rattle.batch_texts.specs.Printed.{summary_of, text_in, trace_of}
 use Rattle.batch_texts.proofs.Prints.{print_each}
 use Rattle.batch_texts.proofs.output.output_text.Goals as goal
 
@@ -18,6 +20,10 @@ returns-clause-output c = λ texts table come are fits.
     record {
       printed = all;
       each = print_each columns dicts table fits 1 texts c.args.outcomes.now c.args.answers.now come are;
-      bytes = c.in_ok-write_totals.ensures columns dicts ∙ ap (λ text. text ++ summary_of all c.args.summary) c.in_ok-out.ensures;
+      bytes =
+          let text = flat_map text_in all in
+          let summary = summary_of all c.args.summary in
+          let trace = trace_of (option_map (λ s. s.now) c.args.trace) in
+          c.in_ok-write_trace.ensures ∙ ap (λ out. out ++ trace) (c.in_ok-write_totals.ensures columns dicts ∙ ap (λ out. out ++ summary) c.in_ok-out.ensures) ∙ append_assoc text summary trace;
       status = refl;
     }

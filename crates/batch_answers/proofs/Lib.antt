@@ -1,0 +1,9 @@
+pub mod Parting
+pub mod Stopping
+pub mod Given
+pub mod Permuted
+pub mod Dealt
+pub mod Asked
+pub mod Losing
+pub mod Coming
+pub mod Decided

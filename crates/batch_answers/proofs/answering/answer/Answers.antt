@@ -1,0 +1,69 @@
+use Rattle.std.proofs.Common.{◌≡◌, ◌≤◌, ◌∙◌, ◌+◌, ◌*◌, length, arith, inl, inr, refl}
+use Rattle.query_answers.specs.Answer.{CanBeWritten, IsAnswer}
+use Rattle.scan_story.specs.Views.{past}
+use Rattle.batch_run.specs.Tasks.{IsPlanOfTable}
+use Rattle.batch_texts.specs.Outcomes.{plans_of}
+use Rattle.batch_answers.specs.Devices.{depot_at}
+use Rattle.batch_answers.specs.Running.{IsWorked, setting_in, zones_in}
+use Rattle.batch_answers.specs.Tasks.{joined, tasks_in}
+use Rattle.batch_answers.specs.Work.{work}
+use Rattle.batch_answers.proofs.Asked.{only_asked}
+use Rattle.batch_answers.proofs.Coming.{is-worked}
+use Rattle.batch_answers.proofs.Given.{plans-of-table}
+use Rattle.batch_answers.proofs.Losing.{lost_by}
+use Rattle.batch_answers.proofs.Parting.{each-answer, each-task, joined-parted, scans-few, tasks-rise, zip-length}
+use Rattle.batch_answers.proofs.answering.answer.Goals as goal
+
+pub run_batch-requires-clause-plans : goal.run_batch-requires-clause-plans
+run_batch-requires-clause-plans g c κs within =
+    let i = c.args.inputs in
+    let statements = c.requires.can.statements in
+    rw (c.deref.ensures.value, c.in-Ok.ensures.tasks)
+    (each-task (IsPlanOfTable i.loaded.table.columns i.loaded.dicts.items) 1 i.outcomes.items
+    (plans-of-table i.loaded.table.columns i.loaded.dicts.items statements.0 i.outcomes.items c.plans_fit.ensures statements.1))
+
+pub run_batch-requires-clause-numbers : goal.run_batch-requires-clause-numbers
+run_batch-requires-clause-numbers g c κs within = rw (c.deref.ensures.value, c.in-Ok.ensures.tasks) (tasks-rise 1 1 257 c.args.inputs.outcomes.items (omega arith) (omega (arith, c.requires.can.few)))
+
+pub run_batch-requires-clause-scans : goal.run_batch-requires-clause-scans
+run_batch-requires-clause-scans g c κs within =
+    let i = c.args.inputs in
+    let n = length i.outcomes.items in
+    let few : n * i.parts ≤ 256 = omega (arith, c.requires.can.scans) in
+    rw (c.deref.ensures.value, c.in-Ok.ensures.tasks) (scans-few i.parts n 1 i.outcomes.items few (omega arith))
+
+pub returns-in-Ok-join-clause-answered : goal.returns-in-Ok-join-clause-answered
+returns-in-Ok-join-clause-answered g c =
+    let i = c.args.inputs in
+    let os = i.outcomes.items in
+    let end = c.in-Ok-run_batch.end in
+    let told = c.in-Ok-run_batch.ensures in
+    let tasks : c.deref.result.now ≡ tasks_in 1 os = c.deref.ensures.value ∙ c.in-Ok.ensures.tasks in
+    let w = work (g.P.Policy.name c.args.policy) (g.P.Policy.cursor c.args.policy) (depot_at (g.D.Depot.held c.args.depot) (g.D.Depot.gets c.args.depot) (g.D.Depot.faults c.args.depot))
+    (depot_at (g.D.Depot.held end.depot) (g.D.Depot.gets end.depot) (g.D.Depot.faults end.depot)) end.story.items end.taken.items in
+    let written = each-answer (CanBeWritten i.loaded.dicts.items) 1 os end.answers.items (rw tasks at told.written) in
+    record {
+      outcomes_are = c.in-Ok-join.ensures.joined ∙ rw (c.in-Ok.ensures.tasks, c.in-Ok.ensures.refusals) (joined-parted 1 os);
+      columns_are = told.schema;
+      dicts_are = told.dicts;
+      are = record {
+        each = zip-length (CanBeWritten i.loaded.dicts.items) (plans_of os) end.answers.items written;
+        worked = is-worked i w c.requires.can (rw tasks at told.story) (rw tasks at told.taken) (rw tasks at told.took) told.stored;
+        lost = lost_by (past end.story.items) (zones_in i) i.workers i.parts os
+            (λ q none. only_asked (setting_in i (g.P.Policy.name c.args.policy) (g.P.Policy.cursor c.args.policy)) (past end.story.items) q (rw tasks at told.story).whole.legal none)
+            end.answers.items (rw tasks at told.lost);
+      };
+      right = λ tells. each-answer (λ p a. IsAnswer p i.loaded.table.rows a) 1 os end.answers.items (rw tasks at (told.answers tells));
+      written = written;
+    }
+
+pub returns-in-Err-join-clause-unanswered : goal.returns-in-Err-join-clause-unanswered
+returns-in-Err-join-clause-unanswered g c =
+    let i = c.args.inputs in
+    let os = i.outcomes.items in
+    let end = c.in-Ok-run_batch.end in
+    let told = c.in-Ok-run_batch.ensures in
+    let tasks : c.deref.result.now ≡ tasks_in 1 os = c.deref.ensures.value ∙ c.in-Ok.ensures.tasks in
+    let w = work (g.P.Policy.name c.args.policy) (g.P.Policy.cursor c.args.policy) (depot_at (g.D.Depot.held c.args.depot) (g.D.Depot.gets c.args.depot) (g.D.Depot.faults c.args.depot))
+    (depot_at (g.D.Depot.held end.depot) (g.D.Depot.gets end.depot) (g.D.Depot.faults end.depot)) end.story.items end.taken.items in
+    inl (record { stop_is = refl; when = inr (is-worked i w c.requires.can (rw tasks at told.story) (rw tasks at told.taken) (rw tasks at told.took) told.stored) })

@@ -1,0 +1,13 @@
+mod Delivered
+mod Registered
+mod Coming
+mod Resting
+mod Serving
+mod Seats
+mod Sorting
+mod Placing
+mod Ending
+mod Planned
+mod Finishing
+mod Zips
+mod Working

@@ -1,0 +1,116 @@
+-- Rows that are gathered one after another.
+use Rattle.std.proofs.Common.{◌≡◌, ◌∙◌, ◌<◌, ◌≤◌, ◌+◌, ◌*◌, ◌++◌, ℕ, false, List, [], ◌∷◌, length, take, get_or, arith, refl, sym, ap, subst, append_assoc, length-append}
+use Rattle.std.specs.List.{range_with_len}
+use Rattle.std.proofs.lemmas.List.{append-nil, length-take-le, map-append, take_all, take_more}
+use Rattle.std.proofs.lemmas.Grind.{flat_map-append}
+use Rattle.std.proofs.lemmas.List.Elements.{All-from_recursion, All-push, filter-append}
+use Rattle.coop_outside.specs.Pieces.{Stored}
+use Rattle.frame_pool.specs.Frames.{Told}
+use Rattle.table_core.specs.Chunk.{chunk}
+use Rattle.table_core.specs.declared.cell.Cell.{Cell}
+use Rattle.piece_format.specs.Shape.{TableShape, rows_in}
+use Rattle.scan_story.specs.Counting.{has}
+use Rattle.top_rows.specs.Rows.{Numbered}
+use Rattle.sql_bind.specs.declared.plan.Plan.{Plan}
+use Rattle.sql_bind.specs.Meaning.{matches, numbered}
+use Rattle.query_answers.specs.declared.partial.Partial.{Partial}
+use Rattle.query_answers.specs.Agree.{Agree, RowsAgree}
+use Rattle.query_answers.specs.Partial.{FitsPlan, IsNew, Stands, matching, row_count}
+use Rattle.query_answers.proofs.Below.{numbered-append}
+use Rattle.cscan.specs.Tables.{HoldsTable}
+use Rattle.multi_scan.specs.Gathered.{Gathered, GatheredRows}
+use Rattle.multi_scan.specs.Rows.{AreOfShape, FitsShape, chunk_numbers, chunk_rows, numbers_of_chunks, rows_of_chunks}
+use Rattle.multi_scan.proofs.Numbers.{is_new, new_number, numbers_more, numbers_of, range_more}
+
+agree_push : (columns : List ℕ) (xs ys : List (Numbered Cell)) (a b : Numbered Cell) → Agree columns xs ys → a.0 ≡ b.0 → RowsAgree columns a.1 b.1 → Agree columns (xs ++ a ∷ []) (ys ++ b ∷ [])
+agree_push columns [] [] a b all same rows = (same, rows, tt)
+agree_push columns [] (y ∷ ys) a b all same rows = absurd all
+agree_push columns (x ∷ xs) [] a b all same rows = absurd all
+agree_push columns (x ∷ xs) (y ∷ ys) a b all same rows = (all.0, all.1, agree_push columns xs ys a b all.2 same rows)
+
+-- the rows of a table with one more of them
+numbered-more : (start row : ℕ) (rows : List (List Cell)) → row < length rows → numbered start (take (row + 1) rows) ≡ numbered start (take row rows) ++ (start + row, get_or rows row []) ∷ []
+numbered-more start row rows low =
+    ap (numbered start) (take_more rows row [] low)
+    ∙ numbered-append start (take row rows) (get_or rows row [] ∷ [])
+    ∙ ap (λ n. numbered start (take row rows) ++ numbered (start + n) (get_or rows row [] ∷ [])) (length-take-le row rows (omega (arith, low)))
+
+module _ (z : TableShape) (p : Plan) (held : Stored) (told : Told) where
+  -- nothing is gathered of no chunks
+  pub gathered_none : (partial : Partial) → FitsPlan p partial → Stands partial [] → row_count partial ≡ 0 → Gathered z p held told [] partial
+  gathered_none partial fits stands none = record {
+    plan = fits;
+    rows = [];
+    stands = stands;
+    count = omega (arith, none);
+    numbers = refl;
+    shaped = All-from_recursion (λ (r : Numbered Cell). FitsShape z r.1) [] tt;
+    agree = λ table wide holds. tt;
+  }
+
+  -- it counts no more rows than these chunks have
+  pub count_of : (cs : List ℕ) (partial : Partial) → Gathered z p held told cs partial → row_count partial ≤ length (numbers_of_chunks z cs)
+  count_of cs partial g = let long = ap length g.numbers in omega (arith, g.count, long, length-numbers g.rows)
+    where
+      length-numbers : (rows : List (Numbered Cell)) → length (numbers_of rows) ≡ length rows
+      length-numbers [] = refl
+      length-numbers (r ∷ rows) = omega (arith, length-numbers rows)
+
+  -- the same may be said of equal numbers and of equal rows of each table that is told
+  same_rows : (partial : Partial) (ns ms : List ℕ) (these those : List (List Cell) → List (Numbered Cell)) → ns ≡ ms
+      → ((table : List (List Cell)) → AreOfShape z table → these table ≡ those table) → GatheredRows z p held told ns these partial → GatheredRows z p held told ms those partial
+  same_rows partial ns ms these those is same g = record {
+    plan = g.plan;
+    rows = g.rows;
+    stands = g.stands;
+    count = g.count;
+    numbers = g.numbers ∙ is;
+    shaped = g.shaped;
+    agree = λ table wide holds. subst (Agree p.columns g.rows) (same table wide) (g.agree table wide holds);
+  }
+
+  -- Of a chunk
+
+  module _ (cs : List ℕ) (c : ℕ) where
+    -- the first rows of the chunk, behind the chunks before it
+    abbrev pub GatheredFirst : ℕ → Partial → Type 0
+    GatheredFirst count partial =
+        GatheredRows z p held told (numbers_of_chunks z cs ++ range_with_len (c * z.per) count) (λ table. rows_of_chunks z.per cs table ++ numbered (c * z.per) (take count (chunk table z.per c))) partial
+
+    -- one more row
+    pub gathered_more : (old new : Partial) (row : ℕ) (cells : List Cell) → 1 ≤ z.per → has cs c ≡ false → row < rows_in z c → GatheredFirst row old → FitsPlan p new → row_count new ≤ row_count old + 1
+        → ((rows : List (Numbered Cell)) → Stands old rows → IsNew old rows (c * z.per + row) → Stands new (rows ++ matching p ((c * z.per + row, cells) ∷ [])))
+        → FitsShape z cells
+        → ((table : List (List Cell)) → AreOfShape z table → HoldsTable held told z table → (row < length (chunk table z.per c)) × RowsAgree p.columns cells (get_or (chunk table z.per c) row []))
+        → GatheredFirst (row + 1) new
+    gathered_more old new row cells some fresh low before fits count adds shaped read =
+        let start = c * z.per in
+        let n = start + row in
+        let one = (n, cells) ∷ [] in
+        let Match = λ (r : Numbered Cell). matches p.cond r.1 in
+        let first = numbers_of_chunks z cs ++ range_with_len start row in
+        let lacks : has (numbers_of before.rows) n ≡ false = ap (λ (l : List ℕ). has l n) before.numbers ∙ new_number z some cs c row fresh low in
+        record {
+          plan = fits;
+          rows = before.rows ++ one;
+          stands = subst (Stands new) (sym (filter-append Match before.rows one)) (adds (matching p before.rows) before.stands (is_new old p before.rows n lacks));
+          count = omega (arith, count, before.count, length-append before.rows one);
+          numbers = map-append (λ (r : Numbered Cell). r.0) before.rows one
+              ∙ (ap (λ (l : List ℕ). l ++ n ∷ []) before.numbers
+              ∙ (append_assoc (numbers_of_chunks z cs) (range_with_len start row) (n ∷ []) ∙ ap (λ (l : List ℕ). numbers_of_chunks z cs ++ l) (sym (range_more start row))));
+          shaped = All-push (λ (r : Numbered Cell). FitsShape z r.1) before.rows (n, cells) before.shaped shaped;
+          agree = λ table wide holds.
+              let r = read table wide holds in
+              let rows = chunk table z.per c in
+              let these = rows_of_chunks z.per cs table in
+              subst (Agree p.columns (before.rows ++ one)) (append_assoc these (numbered start (take row rows)) ((n, get_or rows row []) ∷ []) ∙ ap (λ (l : List (Numbered Cell)). these ++ l) (sym (numbered-more start row rows r.0)))
+              (agree_push p.columns before.rows (these ++ numbered start (take row rows)) (n, cells) (n, get_or rows row []) (before.agree table wide holds) refl r.1);
+        }
+
+    -- all rows of the chunk
+    pub gathered_chunk : (partial : Partial) → ((table : List (List Cell)) → AreOfShape z table → length (chunk table z.per c) ≤ rows_in z c) → GatheredFirst (rows_in z c) partial → Gathered z p held told (cs ++ c ∷ []) partial
+    gathered_chunk partial short g =
+        same_rows partial (numbers_of_chunks z cs ++ chunk_numbers z c) (numbers_of_chunks z (cs ++ c ∷ [])) (λ table. rows_of_chunks z.per cs table ++ numbered (c * z.per) (take (rows_in z c) (chunk table z.per c)))
+        (rows_of_chunks z.per (cs ++ c ∷ [])) (numbers_more z cs c)
+        (λ table wide. ap (λ (l : List (List Cell)). rows_of_chunks z.per cs table ++ numbered (c * z.per) l) (take_all (rows_in z c) (chunk table z.per c) (short table wide))
+        ∙ (ap (λ (l : List (Numbered Cell)). rows_of_chunks z.per cs table ++ l) (sym (append-nil (chunk_rows z.per table c))) ∙ sym (flat_map-append (chunk_rows z.per table) cs (c ∷ [])))) g

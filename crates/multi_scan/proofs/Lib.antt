@@ -1,0 +1,5 @@
+pub mod Delivered
+mod Numbers
+mod Gathering
+mod Reading
+mod Taking

@@ -1,0 +1,51 @@
+// The rows of a chunk that is out, gathered.
+ghost use Rattle.std.specs.Prelude.{◌≡◌, ◌≤◌, ◌+◌, ◌++◌, ◌∷◌, ℕ, List, [], false, OnOk, Some};
+ghost use Rattle.scan_story.specs.Counting.{has};
+ghost use Rattle.piece_format.specs.Shape.{rows_in};
+ghost use Rattle.query_answers.specs.Partial.{FitsPlan, row_count};
+ghost use Rattle.cscan.specs.Scans.{IsScan};
+ghost use Rattle.multi_scan.specs.Gathered.{Gathered};
+ghost use Rattle.multi_scan.specs.Parts.{ReadsPlan};
+ghost use Rattle.multi_scan.specs.Rows.{IsPlanOfShape};
+
+use coop_outside::Depot;
+use cscan::{CScan, Held};
+use frame_pool::Content;
+use piece_format::Shape;
+use query_answers::Partial;
+use relevance::Policy;
+use scan_story::Origin;
+use sql_bind::Plan;
+use table_core::{Cell, Memory};
+
+/// Adds the rows of the chunk that is out, by their numbers in the table, until memory is wanting.
+///
+/// A row is read into one place for all rows, the columns of the plan alone.
+pub(crate) fn add_rows<S: Origin, C: Content, P: Policy, D: Depot>(
+    scan: &mut CScan<'_, S, C, P, D>,
+    held: &Held,
+    shape: &Shape,
+    plan: &Plan,
+    partial: &mut Partial,
+) -> Result<(), Memory>
+    requires scan { IsScan S.origin C.pieces scan.old }
+    requires out { scan.old.out ≡ Some held.now.given }
+    requires shape { scan.old.shape.now ≡ shape.now }
+    requires plan { IsPlanOfShape shape.now plan.now }
+    requires columns { ReadsPlan S.origin.setting scan.old.query plan.now }
+    requires fits { FitsPlan plan.now partial.old }
+    requires few { row_count partial.old + rows_in shape.now held.now.given.chunk ≤ 2097152 }
+    ensures same { scan.new ≡ scan.old }
+    // a chunk more, where it isn't among those before it
+    ensures gathered { OnOk result ((cs : List ℕ) → has cs held.now.given.chunk ≡ false → Gathered shape.now plan.now S.origin.held C.pieces cs partial.old
+        → Gathered shape.now plan.now S.origin.held C.pieces (cs ++ held.now.given.chunk ∷ []) partial.new) }
+{
+    let first = held.chunk() * shape.per;
+    let mut cells = [Cell::Null; 16];
+    let cells = &mut cells[..shape.kinds.len()];
+    for row in 0..held.rows() {
+        held.row(scan, row, &plan.columns, cells);
+        partial.add_row(plan, first + row, cells)?;
+    }
+    Ok(())
+}
