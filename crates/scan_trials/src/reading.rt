@@ -1,0 +1,58 @@
+//! The rows of a held chunk, read.
+ghost use Rattle.std.specs.Prelude.{◌≡◌, ◌<◌, Some, length};
+ghost use Rattle.piece_format.specs.Shape.{TableShape};
+ghost use Rattle.cscan.specs.Rows.{ReadsColumns};
+ghost use Rattle.cscan.specs.Scans.{IsScan};
+
+use crate::notes::Notes;
+use coop_outside::Depot;
+use cscan::{CScan, Held};
+use frame_pool::Content;
+use relevance::Policy;
+use scan_story::Origin;
+use table_core::{Cell, ColumnSet};
+
+// Reads the cells of a row again, one by one, and notes where one is another than in the row.
+fn read_again<S: Origin, C: Content, P: Policy, D: Depot>(
+    scan: &mut CScan<'_, S, C, P, D>,
+    held: &Held,
+    row: u32,
+    columns: &ColumnSet,
+    cells: &[Cell],
+    notes: &mut Notes,
+)
+    requires scan { IsScan S.origin C.pieces scan.old }
+    requires out { scan.old.out ≡ Some held.now.given }
+    requires row { row < held.now.given.rows }
+    requires columns { ReadsColumns S.origin.setting scan.old.query columns.now }
+    ensures { scan.new ≡ scan.old }
+{
+    for x in 0..cells.len() {
+        notes.cell(cells[x]);
+        if x < 16 && columns.has(x as u32) && held.cell(scan, row, x as u32) != cells[x] {
+            notes.differs = true;
+        }
+    }
+}
+
+/// Reads the rows of the chunk that the scan has out: each for these columns at once, and then cell by cell.
+pub(crate) fn read_rows<S: Origin, C: Content, P: Policy, D: Depot>(
+    scan: &mut CScan<'_, S, C, P, D>,
+    held: &Held,
+    columns: &ColumnSet,
+    cells: &mut [Cell],
+    notes: &mut Notes,
+)
+    requires scan { IsScan S.origin C.pieces scan.old }
+    requires out { scan.old.out ≡ Some held.now.given }
+    requires columns { ReadsColumns S.origin.setting scan.old.query columns.now }
+    requires width { length cells.old ≡ length scan.old.shape.now.kinds }
+    ensures same { scan.new ≡ scan.old }
+    ensures width { length cells.new ≡ length cells.old }
+{
+    for row in 0..held.rows() {
+        cells.fill(Cell::Int(77));
+        held.row(scan, row, columns, cells);
+        read_again(scan, held, row, columns, cells, notes);
+    }
+}

@@ -1,0 +1,5 @@
+// What no contract says: that scans come to their end, which chunks they take in which order, what stops them, and the
+// words of a table that people can read.
+mod expected;
+mod one;
+mod two;
