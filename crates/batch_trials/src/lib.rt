@@ -1,0 +1,20 @@
+//! Trials of a batch on workers: what is answered, taken and read; depots that fail or spoil; workers that meet; and many workers
+//! over few frames while reads fail.
+//!
+//! All of it is tests. `docs/BATCH.md` tells the rules.
+#![tactic(auto)]
+
+#[cfg(test)]
+mod answers;
+#[cfg(test)]
+mod batches;
+#[cfg(test)]
+mod faults;
+#[cfg(test)]
+mod meeting;
+#[cfg(test)]
+mod stress;
+#[cfg(test)]
+mod takings;
+#[cfg(test)]
+mod wanted;
