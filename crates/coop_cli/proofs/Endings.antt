@@ -15,7 +15,7 @@ use Rattle.run_texts.specs.declared.stop.Stop.TheVariants as stop
 use Rattle.scan_story.specs.Causes.{Licensed}
 use Rattle.scan_story.specs.Spent.{reads}
 use Rattle.scan_story.specs.Views.{past}
-use Rattle.batch_inputs.specs.Ending.{AreInputs, IsReadFault, IsTextOf, SourceFails}
+use Rattle.batch_inputs.specs.Ending.{IsReadFault, IsTextOf}
 use Rattle.batch_inputs.specs.Order.{first_stop}
 use Rattle.batch_inputs.specs.Sources.{Source, made, stored, batch_source, table_source, text_in}
 use Rattle.batch_inputs.specs.Statements.{statements_in}
@@ -26,14 +26,14 @@ use Rattle.batch_texts.specs.Output.{PrintEach}
 use Rattle.batch_texts.specs.Printed.{Printed, is_answered, output, status}
 use Rattle.batch_answers.specs.Deciding.{ComesTo, HasWorked, IsDecided, IsDecision, IsUntouched, Runs}
 use Rattle.batch_answers.specs.Devices.{DepotAt, OverShelf, OverSink}
-use Rattle.batch_answers.specs.Losses.{AreLostBy, OnlyForMemory}
-use Rattle.batch_answers.specs.Running.{IsIdle, IsWorked, Text}
+use Rattle.batch_answers.specs.Losses.{OnlyForMemory}
+use Rattle.batch_answers.specs.Running.{IsIdle, Text}
 use Rattle.batch_answers.specs.Tasks.{totals_of, trace_of}
 use Rattle.batch_answers.specs.Work.{Work}
 use Rattle.batch_answers.proofs.Given.{rows-same}
 use Rattle.batch_answers.proofs.Stopping.{first-before}
-use Rattle.coop_cli.specs.Ending.{ComesExactly, HasStatus, Headline, IsExcused, Prints, WritesAll, stop_over, values_of}
-use Rattle.coop_cli.specs.Promises.{AreFaultless, AreHonest, FailsToRead, IsComplete, IsForAllParts, IsIdleElsewhere, IsUsageExactly, KeepsHeadline, KeepsHeadlineCut, LeavesItsWork, MissesFile, StopsExactly}
+use Rattle.coop_cli.specs.Ending.{HasStatus, Headline, IsExcused, Prints, values_of}
+use Rattle.coop_cli.specs.Promises.{AreHonest, FailsToRead, IsComplete, IsForAllParts, IsIdleElsewhere, IsUsageExactly, KeepsHeadline, KeepsHeadlineCut, LeavesItsWork, MissesFile, StopsExactly}
 use Rattle.coop_cli.proofs.Losses.{only-memory}
 use Rattle.coop_cli.proofs.Parts.{for-any-parts}
 
@@ -63,7 +63,7 @@ kinds (stop.Statements statements) = inr (inr (inr (inr (inr (inr (inr refl)))))
 kinds (stop.Scans scans) = inr (inr (inr (inr (inr (inr (inr refl))))))
 kinds stop.Memory = inr (inl refl)
 
-stops-late : (s : Stop) → (2 ≤ status_of s) × (status_of s ≢ 6)
+pub stops-late : (s : Stop) → (2 ≤ status_of s) × (status_of s ≢ 6)
 stops-late s = elim (kinds s) [
   | inl e ↦ rw e (omega arith, λ h. cc h)
   | inr (inl e) ↦ rw e (omega arith, λ h. cc h)

@@ -14,6 +14,7 @@ use std::test::Fail;
 use std::thread::Threads;
 
 mod answers;
+mod boxed;
 mod devices;
 mod layouts;
 mod refusals;
