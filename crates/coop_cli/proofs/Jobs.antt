@@ -5,8 +5,8 @@ use Rattle.command_words.specs.Options.{Request}
 use Rattle.policy_box.specs.First.{IsFirstOf}
 use Rattle.scan_story.specs.declared.setting.PolicyName.{PolicyName}
 use Rattle.scan_story.specs.declared.setting.PolicyName.TheVariants.{Relevance, Elevator, Normal, Attach}
-use Rattle.coop_cli.specs.Policies.{PolicyAt, policy_at}
-use Rattle.coop_cli.specs.Jobs.{first_named, is_named, job_of, alone, refused}
+use Rattle.policy_compare.specs.Policies.{PolicyAt, policy_at}
+use Rattle.coop_cli.specs.Jobs.{first_named, is_named, job_of, alone, compared, refused}
 
 -- a name is the wanted one, or the test says no
 named_or_not : (a b : PolicyName) → (a ≡ b) ⊎ (is_named a b ≡ false)
@@ -55,16 +55,16 @@ module _ {P : Type 0} (name : P → PolicyName) (cursor : P → List ℕ) (wante
     | inr not ↦ rw not (none_taken policies none.1)
   ]
 
--- there is nothing to do where the words are refused, where they ask for a comparison, and where no policy of the name is there
+-- there is nothing to do where the words are refused, and where no policy of the name is there
 pub refused-job : (ps : List PolicyAt) (asked : Option Request) → asked ≡ None → job_of ps asked ≡ refused
 refused-job ps asked none = rw none refl
-
-pub compared-job : (ps : List PolicyAt) (asked : Option Request) (r : Request) → asked ≡ Some r → r.compare ≡ true → job_of ps asked ≡ refused
-compared-job ps asked r is compare = rw (is, compare) refl
 
 pub missing-job : (ps : List PolicyAt) (asked : Option Request) (r : Request) → asked ≡ Some r → r.compare ≡ false → first_named r.policy ps ≡ None → job_of ps asked ≡ refused
 missing-job ps asked r is single none = rw (is, single, none) refl
 
--- else there is a run with one policy
+-- else there is a comparison, or a run with one policy
+pub compared-job : (ps : List PolicyAt) (asked : Option Request) (r : Request) → asked ≡ Some r → r.compare ≡ true → job_of ps asked ≡ compared r ps
+compared-job ps asked r is compare = rw (is, compare) refl
+
 pub alone-job : (ps : List PolicyAt) (asked : Option Request) (r : Request) (p : PolicyAt) → asked ≡ Some r → r.compare ≡ false → first_named r.policy ps ≡ Some p → job_of ps asked ≡ alone r p
 alone-job ps asked r p is single first = rw (is, single, first) refl

@@ -4,4 +4,5 @@ pub mod Endings
 pub mod Words
 pub mod Jobs
 pub mod Runs
+pub mod Comparing
 pub mod ByJob

@@ -6,9 +6,10 @@ use Rattle.run_texts.specs.declared.stop.Stop.{Stop}
 use Rattle.batch_answers.specs.Deciding.{IsUntouched}
 use Rattle.batch_answers.specs.Devices.{DepotAt, OverSink}
 use Rattle.coop_cli.specs.Ending.{Prints}
-use Rattle.coop_cli.specs.Policies.{PolicyAt}
-use Rattle.coop_cli.specs.Runs.{AreOfOne, joined_story, joined_taken, work_under}
-use Rattle.coop_cli.specs.declared.policy_run.PolicyRun.{PolicyRun}
+use Rattle.policy_compare.specs.Joined.{joined_story}
+use Rattle.policy_compare.specs.Policies.{PolicyAt}
+use Rattle.policy_compare.specs.declared.policy_run.PolicyRun.{PolicyRun}
+use Rattle.coop_cli.specs.Runs.{AreOfOne, joined_taken, work_under}
 use Rattle.coop_cli.proofs.Endings.{stops-late}
 
 -- no run, where the work stops before

@@ -1,7 +1,7 @@
 //! `coop_cli TABLE BATCH`: answers a batch of statements over a table. docs/COMMAND_LINE.md is its manual.
 //! `run` is the whole program over any shelf, depot and sink, for one policy, and carries the theorem; `run_boxed` is the
-//! same for a list of policies in boxes, of which the words name one; `main` hands it the four that there are, the files
-//! of the system and standard output.
+//! same for a list of policies in boxes, of which the words name one, or compare all; `main` hands it the four that there
+//! are, the files of the system and standard output.
 #![tactic(auto)]
 
 ghost use Rattle.std.specs.Prelude.{◌≡◌, ◌≤◌, ◌^◌, IfOk, is_some};
@@ -13,7 +13,6 @@ ghost use Rattle.coop_outside.specs.Either.{any_gets};
 mod boxed;
 mod boxed_end;
 mod ended;
-mod policy_run;
 mod print;
 mod run;
 mod settle;

@@ -2,10 +2,10 @@
 use super::{COUNT, TABLE_A, WORDS, shelf_of, sink_of, words_of};
 use crate::boxed::run_boxed;
 use crate::boxed_end::BoxedEnd;
-use crate::policy_run::PolicyRun;
 use coop_outside::{Bytes, MemDepot};
 use cscan::NoGate;
 use policy_box::Elevator;
+use policy_compare::PolicyRun;
 use policy_plain::{Attach, Normal};
 use relevance::{Policy, Relevance};
 use scan_story::{Entry, PolicyName};
@@ -168,6 +168,90 @@ fn a_policy_that_is_not_there(rt: HostRuntime) -> Result<(), Fail> {
         assert_eq!(rt; ended.status, 2);
         assert!(rt; ended.runs.is_empty());
         assert_eq!(rt; written.as_slice(), b"stopped 2: usage\n".as_slice());
+    }
+    Ok(())
+}
+
+const COMPARED: &str = "--frames 4 --rows 1 --compare a.csv b.sql";
+
+const FOUR_LINES: &str = "relevance: 9 reads, 5 evictions, 13 deliveries, 0 stops
+elevator: 8 reads, 4 evictions, 13 deliveries, 0 stops
+normal: 8 reads, 4 evictions, 13 deliveries, 0 stops
+attach: 9 reads, 5 evictions, 13 deliveries, 0 stops
+";
+
+#[test]
+fn four_policies_compared(rt: HostRuntime) -> Result<(), Fail> {
+    let batch =
+        "SELECT COUNT(*) FROM t; SELECT COUNT(*) FROM t; SELECT COUNT(*) FROM t WHERE v = 1;";
+    let boxes = four(rt.alloc())?;
+    let (ended, written) = run_on(&rt, rt.alloc(), boxes, COMPARED, SIX_CHUNKS, batch)?;
+    assert_eq!(rt; ended.status, 0);
+    assert_eq!(rt; ended.depot.gets, 34);
+    assert_eq!(rt; written.as_slice(), FOUR_LINES.as_bytes());
+    let [relevance, elevator, normal, attach] = ended.runs.as_slice() else {
+        assert!(rt; false);
+        return Ok(());
+    };
+    assert_eq!(rt; relevance.name, PolicyName::Relevance);
+    assert_eq!(rt; elevator.name, PolicyName::Elevator);
+    assert_eq!(rt; normal.name, PolicyName::Normal);
+    assert_eq!(rt; attach.name, PolicyName::Attach);
+    Ok(())
+}
+
+#[test]
+fn a_refused_query_in_a_comparison(rt: HostRuntime) -> Result<(), Fail> {
+    let boxes = two(rt.alloc())?;
+    let batch = "SELECT COUNT(*) FROM t; SELECT w FROM t;";
+    let (ended, written) = run_on(&rt, rt.alloc(), boxes, COMPARED, SIX_CHUNKS, batch)?;
+    assert_eq!(rt; ended.status, 1);
+    assert_eq!(rt; ended.runs.len() as u64, 2);
+    assert_eq!(rt;
+        written.as_slice(),
+        b"attach: 6 reads, 2 evictions, 6 deliveries, 0 stops\nelevator: 6 reads, 2 evictions, 6 deliveries, 0 stops\n".as_slice()
+    );
+    Ok(())
+}
+
+#[test]
+fn no_policies_compared(rt: HostRuntime) -> Result<(), Fail> {
+    // neither file is there, and neither is read
+    let words = "--compare none.csv none.sql";
+    let boxes = Vec::new(rt.alloc());
+    let (ended, written) = run_on(&rt, rt.alloc(), boxes, words, SIX_CHUNKS, COUNT)?;
+    assert_eq!(rt; ended.status, 0);
+    assert!(rt; ended.runs.is_empty() && written.as_slice().is_empty());
+    Ok(())
+}
+
+#[test]
+fn comparisons_that_stop(rt: HostRuntime) -> Result<(), Fail> {
+    let cases = [
+        (
+            "--compare --policy attach a.csv b.sql",
+            2,
+            "stopped 2: usage\n",
+        ),
+        ("--compare --summary a.csv b.sql", 2, "stopped 2: usage\n"),
+        ("--compare --threads 2 a.csv b.sql", 2, "stopped 2: usage\n"),
+        (
+            "--compare none.csv b.sql",
+            4,
+            "stopped 4: table read fault\n",
+        ),
+        (
+            "--compare --frames 3 a.csv b.sql",
+            8,
+            "stopped 8: 4 frames needed\n",
+        ),
+    ];
+    for (words, status, line) in cases {
+        let boxes = two(rt.alloc())?;
+        let (ended, written) = run_on(&rt, rt.alloc(), boxes, words, SIX_CHUNKS, COUNT)?;
+        assert_eq!(rt; ended.status, status);
+        assert!(rt; ended.runs.is_empty());
+        assert_eq!(rt; written.as_slice(), line.as_bytes());
     }
     Ok(())
 }

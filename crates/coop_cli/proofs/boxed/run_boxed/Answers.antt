@@ -1,5 +1,5 @@
 use Rattle.std.proofs.Common.{inl, inr, refl}
-use Rattle.coop_cli.proofs.ByJob.{fails-to-read, is-complete, is-for-all-parts, is-usage-exactly, job-counted, keeps-headline, keeps-headline-cut, leaves-its-work, misses-file, no-memory-of, put-fault-of, stops-exactly, write-fault-of}
+use Rattle.coop_cli.proofs.ByJob.{fails-to-read, is-complete, is-for-all-parts, is-usage-exactly, job-tells, keeps-headline, keeps-headline-cut, leaves-its-work, misses-file, no-memory-of, nothing-left, put-fault-of, stops-exactly, write-fault-of, writes-lines}
 use Rattle.coop_cli.proofs.boxed.run_boxed.Goals as goal
 
 pub returns-clause-headline : goal.returns-clause-headline
@@ -44,8 +44,14 @@ returns-clause-no_batch g c = let (d, is, prints) = c.run_taken.ensures.decides 
 pub returns-clause-worked : goal.returns-clause-worked
 returns-clause-worked g c = let (d, is, prints) = c.run_taken.ensures.decides in leaves-its-work _ _ _ _ d _ _ _ is prints
 
+pub returns-clause-lines : goal.returns-clause-lines
+returns-clause-lines g c = let (d, is, prints) = c.run_taken.ensures.decides in writes-lines _ _ _ _ _ d _ _ is prints
+
+pub returns-clause-nothing : goal.returns-clause-nothing
+returns-clause-nothing g c = let (d, is, prints) = c.run_taken.ensures.decides in nothing-left _ _ _ _ _ d _ _ is prints
+
 pub returns-clause-licensed : goal.returns-clause-licensed
-returns-clause-licensed g c = let (d, is, prints) = c.run_taken.ensures.decides in (job-counted _ _ _ _ _ d is).licensed
+returns-clause-licensed g c = let (d, is, prints) = c.run_taken.ensures.decides in (job-tells _ _ _ _ _ d is).licensed
 
 pub returns-clause-reads : goal.returns-clause-reads
-returns-clause-reads g c = let (d, is, prints) = c.run_taken.ensures.decides in (job-counted _ _ _ _ _ d is).reads
+returns-clause-reads g c = let (d, is, prints) = c.run_taken.ensures.decides in (job-tells _ _ _ _ _ d is).gets

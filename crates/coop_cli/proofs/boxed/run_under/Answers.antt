@@ -1,7 +1,7 @@
 use Rattle.std.proofs.Common.{◌≡◌, Err, All, refl, subst}
 use Rattle.run_texts.specs.declared.stop.Stop.TheVariants as stop
 use Rattle.scan_story.specs.declared.setting.PolicyName.{PolicyName}
-use Rattle.coop_cli.specs.declared.policy_run.PolicyRun.{PolicyRun}
+use Rattle.policy_compare.specs.declared.policy_run.PolicyRun.{PolicyRun}
 use Rattle.coop_cli.proofs.Runs.{none-of-one, untouched-under}
 use Rattle.coop_cli.proofs.Words.{memory-ends}
 use Rattle.coop_cli.proofs.boxed.run_under.Goals as goal
