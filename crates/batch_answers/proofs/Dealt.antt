@@ -71,7 +71,7 @@ nothing_first None false c h = (refl, refl)
 nothing_first (Some x) b c h = cc h
 
 -- a scan for which the story has no cause isn't stopped
-not_stopped : (h : History) (q : ℕ) → cause_of h q ≡ None → is_stopped h q ≡ false
+pub not_stopped : (h : History) (q : ℕ) → cause_of h q ≡ None → is_stopped h q ≡ false
 not_stopped [] q none = refl
 not_stopped (Register w r ∷ h) q none = not_stopped h q none
 not_stopped (Plan w r c ∷ h) q none = not_stopped h q none

@@ -1,10 +1,10 @@
 // From what a run is given to the answers of its queries.
-ghost use Rattle.std.specs.Prelude.{◌≡◌, ◌≢◌, ◌≤◌, ◌^◌, Err, IfErr, IfOk, None};
+ghost use Rattle.std.specs.Prelude.{◌≡◌, ◌≢◌, ◌≤◌, ◌^◌, [], Err, IfErr, IfNone, IfOk, IfSome, None};
 ghost use Rattle.run_texts.specs.declared.stop.Stop.TheVariants as stop;
 ghost use Rattle.batch_answers.specs.Answering.{IsAnswered, story_in, taken_in};
 ghost use Rattle.batch_answers.specs.Deciding.{ComesOf, stop_for};
 ghost use Rattle.batch_answers.specs.Devices.{depot_at};
-ghost use Rattle.batch_answers.specs.Running.{CanRun};
+ghost use Rattle.batch_answers.specs.Running.{CanRun, IsIdle, IsWorked};
 ghost use Rattle.batch_answers.specs.Work.{work};
 
 use crate::answered::{Answered, Unanswered};
@@ -47,6 +47,11 @@ pub fn answer<P: Policy, D: Depot + Send, T: Gate + Sync, R: Threads + Wait + Sy
     ensures unanswered { IfErr result (λ u. ComesOf inputs (work (P.name policy) (P.cursor policy) (depot_at (D.held depot) (D.gets depot) (D.faults depot))
         (depot_at (D.held u.depot) (D.gets u.depot) (D.faults u.depot)) (story_in u.ran) (taken_in u.ran)) (Err u.stop)) }
     ensures idle { IfErr result (λ u. u.stop ≢ stop.Memory → u.ran ≡ None) }
+    // what the workers left is there exactly where they ran
+    ensures worked { IfErr result (λ u. IfSome u.ran (λ ran. IsWorked inputs (work (P.name policy) (P.cursor policy) (depot_at (D.held depot) (D.gets depot) (D.faults depot))
+        (depot_at (D.held u.depot) (D.gets u.depot) (D.faults u.depot)) ran.story.items ran.taken.items))) }
+    ensures none_worked { IfErr result (λ u. IfNone u.ran (IsIdle (work (P.name policy) (P.cursor policy) (depot_at (D.held depot) (D.gets depot) (D.faults depot))
+        (depot_at (D.held u.depot) (D.gets u.depot) (D.faults u.depot)) [] []))) }
 {
     // It says of plans what a batch asks of them.
     plans_fit();

@@ -175,6 +175,11 @@ fn ranks_and_load_ratios(rt: HostRuntime) -> Result<(), Fail> {
         (load_ratio(&b, 2, 1), load_ratio(&b, 2, 2)),
         (ratio(2050, 2), ratio(1025, 2))
     );
+    // worker 0 has taken chunk 1
+    let begun = "register 0 1\nregister 1 2\nplan 0 1 1\nfill 0 0 2\nfilled 0 0 2\ndeliver 0 1 1\n";
+    let entries = story(&rt, alloc, begun);
+    let b = book(&rt, alloc, &s, entries.as_slice())?;
+    assert_eq!(rt; (query_rank(&b, 1), query_rank(&b, 2)), (-2, 0));
     Ok(())
 }
 

@@ -15,7 +15,7 @@ use Rattle.run_texts.specs.declared.stop.Stop.TheVariants as stop
 use Rattle.scan_story.specs.Causes.{Licensed}
 use Rattle.scan_story.specs.Spent.{reads}
 use Rattle.scan_story.specs.Views.{past}
-use Rattle.batch_inputs.specs.Ending.{AreInputs, IsReadFault, IsTextOf, SourceFails}
+use Rattle.batch_inputs.specs.Ending.{IsReadFault, IsTextOf}
 use Rattle.batch_inputs.specs.Order.{first_stop}
 use Rattle.batch_inputs.specs.Sources.{Source, made, stored, batch_source, table_source, text_in}
 use Rattle.batch_inputs.specs.Statements.{statements_in}
@@ -26,14 +26,14 @@ use Rattle.batch_texts.specs.Output.{PrintEach}
 use Rattle.batch_texts.specs.Printed.{Printed, is_answered, output, status}
 use Rattle.batch_answers.specs.Deciding.{ComesTo, HasWorked, IsDecided, IsDecision, IsUntouched, Runs}
 use Rattle.batch_answers.specs.Devices.{DepotAt, OverShelf, OverSink}
-use Rattle.batch_answers.specs.Losses.{AreLostBy, OnlyForMemory}
-use Rattle.batch_answers.specs.Running.{IsIdle, IsWorked, Text}
+use Rattle.batch_answers.specs.Losses.{OnlyForMemory}
+use Rattle.batch_answers.specs.Running.{IsIdle, Text}
 use Rattle.batch_answers.specs.Tasks.{totals_of, trace_of}
 use Rattle.batch_answers.specs.Work.{Work}
 use Rattle.batch_answers.proofs.Given.{rows-same}
 use Rattle.batch_answers.proofs.Stopping.{first-before}
-use Rattle.coop_cli.specs.Ending.{ComesExactly, HasStatus, Headline, IsExcused, Prints, WritesAll, stop_over, values_of}
-use Rattle.coop_cli.specs.Promises.{AreFaultless, AreHonest, FailsToRead, IsComplete, IsForAllParts, IsIdleElsewhere, IsUsageExactly, KeepsHeadline, KeepsHeadlineCut, LeavesItsWork, MissesFile, StopsExactly}
+use Rattle.coop_cli.specs.Ending.{HasStatus, Headline, IsExcused, Prints, values_of}
+use Rattle.coop_cli.specs.Promises.{AreHonest, FailsToRead, IsComplete, IsForAllParts, IsIdleElsewhere, IsUsageExactly, KeepsHeadline, KeepsHeadlineCut, LeavesItsWork, MissesFile, StopsExactly}
 use Rattle.coop_cli.proofs.Losses.{only-memory}
 use Rattle.coop_cli.proofs.Parts.{for-any-parts}
 
@@ -63,7 +63,7 @@ kinds (stop.Statements statements) = inr (inr (inr (inr (inr (inr (inr refl)))))
 kinds (stop.Scans scans) = inr (inr (inr (inr (inr (inr (inr refl))))))
 kinds stop.Memory = inr (inl refl)
 
-stops-late : (s : Stop) → (2 ≤ status_of s) × (status_of s ≢ 6)
+pub stops-late : (s : Stop) → (2 ≤ status_of s) × (status_of s ≢ 6)
 stops-late s = elim (kinds s) [
   | inl e ↦ rw e (omega arith, λ h. cc h)
   | inr (inl e) ↦ rw e (omega arith, λ h. cc h)
@@ -76,7 +76,7 @@ stops-late s = elim (kinds s) [
 ]
 
 -- a stop of a status that no refusal has
-is-usage : (s : Stop) → status_of s ≡ 2 → s ≡ stop.Usage
+pub is-usage : (s : Stop) → status_of s ≡ 2 → s ≡ stop.Usage
 is-usage s h = elim (kinds s) [
   | inl e ↦ e
   | inr (inl e) ↦ cc (h, ap status_of e)
@@ -88,7 +88,7 @@ is-usage s h = elim (kinds s) [
   | inr (inr (inr (inr (inr (inr (inr e)))))) ↦ cc (h, e)
 ]
 
-is-memory : (s : Stop) → status_of s ≡ 7 → s ≡ stop.Memory
+pub is-memory : (s : Stop) → status_of s ≡ 7 → s ≡ stop.Memory
 is-memory s h = elim (kinds s) [
   | inl e ↦ cc (h, ap status_of e)
   | inr (inl e) ↦ e
@@ -100,7 +100,7 @@ is-memory s h = elim (kinds s) [
   | inr (inr (inr (inr (inr (inr (inr e)))))) ↦ cc (h, e)
 ]
 
-is-fault : (s : Stop) → status_of s ≡ 4 → (s ≡ stop.TableFault) ⊎ (s ≡ stop.BatchFault)
+pub is-fault : (s : Stop) → status_of s ≡ 4 → (s ≡ stop.TableFault) ⊎ (s ≡ stop.BatchFault)
 is-fault s h = elim (kinds s) [
   | inl e ↦ cc (h, ap status_of e)
   | inr (inl e) ↦ cc (h, ap status_of e)
@@ -112,18 +112,18 @@ is-fault s h = elim (kinds s) [
   | inr (inr (inr (inr (inr (inr (inr e)))))) ↦ cc (h, e)
 ]
 
-fault-status : (s : Stop) → IsReadFault s → status_of s ≡ 4
+pub fault-status : (s : Stop) → IsReadFault s → status_of s ≡ 4
 fault-status s (inl e) = ap status_of e
 fault-status s (inr e) = ap status_of e
 
 -- ---- what is written
 
-no-change : (old : Option (List ℕ)) → grown old [] ≡ old
+pub no-change : (old : Option (List ℕ)) → grown old [] ≡ old
 no-change None = refl
 no-change (Some t) = ap Some (append-nil t)
 
 -- for want of memory nothing is written
-memory-writes : (status : ℕ) (sink : OverSink) → Prints (Err stop.Memory) status sink → sink.new ≡ sink.old
+pub memory-writes : (status : ℕ) (sink : OverSink) → Prints (Err stop.Memory) status sink → sink.new ≡ sink.old
 memory-writes status sink (is, inl all) = all ∙ no-change sink.old
 memory-writes status sink (is, inr (k, less, part, rose)) = let no : ⊥ = omega (arith, less) in absurd no
 
@@ -133,7 +133,7 @@ small : (b : Bool) → cond b 0 1 ≤ 1
 small true = omega arith
 small false = omega arith
 
-status-small : (ps : List Printed) → status ps ≤ 1
+pub status-small : (ps : List Printed) → status ps ≤ 1
 status-small ps = small (list_all is_answered ps)
 
 decided-small : (r : Request) (table batch : Option (List ℕ)) (shelf : OverShelf) (w : Work) (o : Text) → ComesTo r table batch shelf w (Ok o) → o.0 ≤ 1
@@ -147,14 +147,24 @@ decision-small None shelf w o (inr h, untouched) = cc h
 decision-small (Some r) shelf w o is = decided-small r is.table is.batch shelf w o is.comes
 
 -- a status that no output has and that is not 6 is that of a stop
+pub stopped-by : (d : Result Text Stop) (status : ℕ) (sink : OverSink) → ((o : Text) → d ≡ Ok o → o.0 ≤ 1) → Prints d status sink → 2 ≤ status → status ≢ 6 → (s : Stop) × (d ≡ Err s) × (status ≡ status_of s)
+stopped-by (Ok o) status sink small (inl (e, all)) late other = let low = small o refl in let no : ⊥ = omega (arith, e, low, late) in absurd no
+stopped-by (Ok o) status sink small (inr (six, cut)) late other = absurd (other six)
+stopped-by (Err s) status sink small (e, some) late other = (s, refl, e)
+
 stopped : (asked : Option Request) (shelf : OverShelf) (w : Work) (d : Result Text Stop) (status : ℕ) (sink : OverSink) → IsDecision asked shelf w d
     → Prints d status sink → 2 ≤ status → status ≢ 6 → (s : Stop) × (d ≡ Err s) × (status ≡ status_of s)
-stopped asked shelf w (Ok o) status sink is (inl (e, all)) late other = let low = decision-small asked shelf w o is in let no : ⊥ = omega (arith, e, low, late) in absurd no
-stopped asked shelf w (Ok o) status sink is (inr (six, cut)) late other = absurd (other six)
-stopped asked shelf w (Err s) status sink is (e, some) late other = (s, refl, e)
+stopped asked shelf w d status sink is prints late other =
+    stopped-by d status sink (λ o e. decision-small asked shelf w o (subst (λ (x : Result Text Stop). IsDecision asked shelf w x) e is)) prints late other
+
+-- 6 comes where the sink failed
+pub write-fault-by : (d : Result Text Stop) (status : ℕ) (sink : OverSink) → ((o : Text) → d ≡ Ok o → o.0 ≤ 1) → Prints d status sink → status ≡ 6 → Rose sink.before sink.now
+write-fault-by (Ok o) status sink small (inl (e, all)) six = let low = small o refl in let no : ⊥ = omega (arith, e, low, six) in absurd no
+write-fault-by (Ok o) status sink small (inr (e, (k, less, part, rose))) six = rose
+write-fault-by (Err s) status sink small (e, some) six = absurd ((stops-late s).1 (sym e ∙ six))
 
 -- where the shelf tells what it holds, a text is the one that it tells
-text-told : (held : Held) (files : List ℕ → Option (List ℕ)) (source : Source) (t : Option (List ℕ)) → held ≡ Some files → IsTextOf held source t → t ≡ text_in source files
+pub text-told : (held : Held) (files : List ℕ → Option (List ℕ)) (source : Source) (t : Option (List ℕ)) → held ≡ Some files → IsTextOf held source t → t ≡ text_in source files
 text-told held files (made text) t h is = is
 text-told held files (stored name) None h is = let e : ◌≡◌ {A = Option (Option (List ℕ))} (Some (files name)) (Some None) = rw h at is in cc e
 text-told held files (stored name) (Some text) h is = sym (is (files name) (rw h refl))
@@ -173,7 +183,7 @@ decided-for asked r shelf w d h is = subst (λ (a : Option Request). IsDecision 
 -- ---- the headline
 
 -- a batch that ran over a depot that tells its pieces gives the output over the table's values
-headline-of : (r : Request) (files : List ℕ → Option (List ℕ)) (w : Work) (o : Text) → Tells w.old.held → Runs r (text_in (table_source r.table) files) (text_in (batch_source r.batch) files) w (Ok o)
+pub headline-of : (r : Request) (files : List ℕ → Option (List ℕ)) (w : Work) (o : Text) → Tells w.old.held → Runs r (text_in (table_source r.table) files) (text_in (batch_source r.batch) files) w (Ok o)
     → Headline r files w o.0 o.1
 headline-of r files w o tells runs =
     let i = runs.given in
@@ -239,7 +249,7 @@ stop-excused r table batch shelf w s none no_read no_put (inr (inr (inl memory),
 stop-excused r table batch shelf w s none no_read no_put (inr (inr (inr (fault, rose)), untouched)) = absurd (no_read rose)
 
 -- a headline over a depot that counted no fault loses no query but for want of memory
-only-for-memory : (r : Request) (files : List ℕ → Option (List ℕ)) (w : Work) (ends : ℕ) (text : List ℕ) (h : Headline r files w ends text) → Tells w.old.held → (Rose w.old.faults w.new.faults → ⊥)
+pub only-for-memory : (r : Request) (files : List ℕ → Option (List ℕ)) (w : Work) (ends : ℕ) (text : List ℕ) (h : Headline r files w ends text) → Tells w.old.held → (Rose w.old.faults w.new.faults → ⊥)
     → AllByRecursion OnlyForMemory h.losses
 only-for-memory r files w ends text h tells none = only-memory w.old.held (past w.story) r.parts w.old.faults w.new.faults tells none h.worked.story.licensed 1 h.losses h.lost
 
@@ -278,7 +288,7 @@ refused-words-of (Some r) shelf w d status sink is prints none = cc none
 pub is-usage-exactly : (asked : Option Request) (shelf : OverShelf) (w : Work) (d : Result Text Stop) (status : ℕ) (sink : OverSink) → IsDecision asked shelf w d → Prints d status sink → IsUsageExactly asked status
 is-usage-exactly asked shelf w d status sink is prints = record { only = usage-of asked shelf w d status sink is prints; always = refused-words-of asked shelf w d status sink is prints }
 
-refused-others : (due : ℕ) → IsRefused due → (due ≢ 7) × (due ≢ 5) × (due ≢ 4)
+pub refused-others : (due : ℕ) → IsRefused due → (due ≢ 7) × (due ≢ 5) × (due ≢ 4)
 refused-others due (inl h) = (λ e. cc (h, e), λ e. cc (h, e), λ e. cc (h, e))
 refused-others due (inr (inl h)) = (λ e. cc (h, e), λ e. cc (h, e), λ e. cc (h, e))
 refused-others due (inr (inr h)) = (λ e. cc (h, e), λ e. cc (h, e), λ e. cc (h, e))
@@ -303,7 +313,7 @@ first-always r table batch shelf w (Err s) status sink due (inr (inl is, untouch
 first-always r table batch shelf w (Err s) status sink due (inr (inr (inl memory), untouched)) prints h = inr (inl (prints.0 ∙ ap status_of memory))
 first-always r table batch shelf w (Err s) status sink due (inr (inr (inr (fault, rose)), untouched)) prints h = inr (inr (prints.0 ∙ fault-status s fault, rose))
 
-late-status : (due : ℕ) → IsRefused due → (2 ≤ due) × (due ≢ 6)
+pub late-status : (due : ℕ) → IsRefused due → (2 ≤ due) × (due ≢ 6)
 late-status due (inl h) = (omega (arith, h), λ e. cc (h, e))
 late-status due (inr (inl h)) = (omega (arith, h), λ e. cc (h, e))
 late-status due (inr (inr h)) = (omega (arith, h), λ e. cc (h, e))
@@ -370,9 +380,7 @@ put-fault-of (Some r) shelf w d status sink is prints five =
 
 pub write-fault-of : (asked : Option Request) (shelf : OverShelf) (w : Work) (d : Result Text Stop) (status : ℕ) (sink : OverSink) → IsDecision asked shelf w d
     → Prints d status sink → status ≡ 6 → Rose sink.before sink.now
-write-fault-of asked shelf w (Ok o) status sink is (inl (e, all)) six = let low = decision-small asked shelf w o is in let no : ⊥ = omega (arith, e, low, six) in absurd no
-write-fault-of asked shelf w (Ok o) status sink is (inr (e, (k, less, part, rose))) six = rose
-write-fault-of asked shelf w (Err s) status sink is (e, some) six = absurd ((stops-late s).1 (sym e ∙ six))
+write-fault-of asked shelf w d status sink is prints six = write-fault-by d status sink (λ o e. decision-small asked shelf w o (subst (λ (x : Result Text Stop). IsDecision asked shelf w x) e is)) prints six
 
 pub no-memory-of : (asked : Option Request) (shelf : OverShelf) (w : Work) (d : Result Text Stop) (status : ℕ) (sink : OverSink) → IsDecision asked shelf w d
     → Prints d status sink → status ≡ 7 → sink.new ≡ sink.old

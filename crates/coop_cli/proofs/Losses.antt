@@ -1,5 +1,5 @@
 -- Over a depot that tells what it holds and counted no fault, queries are lost for want of memory alone.
-use Rattle.std.proofs.Common.{◌≡◌, ◌≢◌, ◌∙◌, ◌≤◌, ◌+◌, ◌==◌, ℕ, zero, suc, Bool, true, false, List, [], ◌∷◌, Option, Some, None, refl, sym, subst, arith, inl, inr}
+use Rattle.std.proofs.Common.{◌≤◌, ◌+◌, ◌==◌, ℕ, zero, suc, Bool, true, false, List, [], ◌∷◌, Option, Some, None, refl, sym, subst, arith, inl, inr}
 use Rattle.std.specs.Prelude.{is_some}
 use Rattle.std.specs.List.{AllByRecursion}
 use Rattle.coop_outside.specs.Causes.{Rose}
@@ -12,7 +12,7 @@ use Rattle.scan_story.specs.Causes.{Licensed, cause_of, or_else}
 use Rattle.scan_story.specs.MayFollow.{IsRise}
 use Rattle.scan_story.specs.Views.{History}
 use Rattle.batch_plan.specs.Scans.{scan_number}
-use Rattle.batch_run.specs.Lost.{IsLostBy, Tells, cause_from, cause_of_query, or_first}
+use Rattle.batch_run.specs.Lost.{IsLostBy, Tells, cause_from, or_first}
 use Rattle.batch_answers.specs.Losses.{AreLostBy, OnlyForMemory}
 
 -- the counts of a licensed story don't fall

@@ -1,5 +1,5 @@
 -- Words that are refused, and want of memory for them.
-use Rattle.std.proofs.Common.{◌≡◌, ◌≢◌, ◌∙◌, ℕ, List, Option, Some, None, Result, Ok, Err, refl, sym, ap, inl, inr, ◌⊎◌}
+use Rattle.std.proofs.Common.{◌≡◌, Option, Some, None, Err, refl, ap, inl, inr, ◌⊎◌}
 use Rattle.command_words.specs.Options.{Request}
 use Rattle.run_texts.specs.declared.stop.Stop.{Stop}
 use Rattle.run_texts.specs.declared.stop.Stop.TheVariants as stop
@@ -7,11 +7,10 @@ use Rattle.batch_inputs.specs.Sources.{batch_source, table_source}
 use Rattle.batch_inputs.proofs.Texts.{some-text}
 use Rattle.batch_answers.specs.Deciding.{IsDecided, IsDecision, IsUntouched}
 use Rattle.batch_answers.specs.Devices.{OverShelf}
-use Rattle.batch_answers.specs.Running.{Text}
 use Rattle.batch_answers.specs.Work.{Work}
 
 -- want of memory may end any run before it reads
-memory-ends : (r : Request) (shelf : OverShelf) (w : Work) → IsUntouched w → IsDecided r shelf w (Err stop.Memory)
+pub memory-ends : (r : Request) (shelf : OverShelf) (w : Work) → IsUntouched w → IsDecided r shelf w (Err stop.Memory)
 memory-ends r shelf w untouched =
     let (table, table_is) = some-text shelf.held (table_source r.table) in
     let (batch, batch_is) = some-text shelf.held (batch_source r.batch) in

@@ -1,27 +1,34 @@
 //! `coop_cli TABLE BATCH`: answers a batch of statements over a table. docs/COMMAND_LINE.md is its manual.
-//! `run` is the whole program over any shelf, depot and sink, and carries the theorem; `main` hands it the
-//! files of the system and standard output.
+//! `run` is the whole program over any shelf, depot and sink, for one policy, and carries the theorem; `run_boxed` is the
+//! same for a list of policies in boxes, of which the words name one, or compare all; `main` hands it the four that there
+//! are, the files of the system and standard output.
 #![tactic(auto)]
 
-ghost use Rattle.std.specs.Prelude.{◌≡◌, IfOk, is_some};
+ghost use Rattle.std.specs.Prelude.{◌≡◌, ◌≤◌, ◌^◌, IfOk, is_some};
 ghost use Rattle.command_words.specs.Matched.{texts};
 ghost use Rattle.command_words.specs.Options.{scratch_of as name_of_file};
 ghost use Rattle.coop_cli.specs.Chosen.{is_in_file};
 ghost use Rattle.coop_outside.specs.Either.{any_gets};
 
+mod boxed;
+mod boxed_end;
 mod ended;
 mod print;
 mod run;
 mod settle;
+mod taken_policy;
 #[cfg(test)]
 mod tests;
 
+use boxed::run_boxed;
 use command_words::scratch_of;
 use coop_outside::{AnyDepot, DiskShelf, MemDepot, ScratchDepot, StdoutSink, write_all};
 use cscan::NoGate;
-use relevance::Relevance;
-use run::run;
+use policy_box::Elevator;
+use policy_plain::{Attach, Normal};
+use relevance::{Policy, Relevance};
 use run_texts::Stop;
+use std::alloc::AllocError;
 use std::hash::RandomState;
 use std::process::ExitCode;
 use std::sync::Wait;
@@ -63,6 +70,30 @@ fn depot_of(rt: HostRuntime, words: &[String]) -> Result<AnyDepot<HostRuntime>, 
     }
 }
 
+// Runs the program with the four policies, and answers its status; or memory was wanting for a box.
+fn run_with_four<R: Threads + Wait + Sync>(
+    handle: &R,
+    rt: HostRuntime,
+    keys: RandomState,
+    words: &[String],
+    depot: AnyDepot<HostRuntime>,
+    out: &mut StdoutSink<HostRuntime>,
+) -> Result<u8, AllocError>
+    requires gets { any_gets depot ≤ 2 ^ 62 }
+{
+    let alloc = rt.alloc();
+    let mut policies: Vec<Box<dyn Policy + Send>> = Vec::new(alloc);
+    policies.push(Box::new(alloc, Relevance)?)?;
+    policies.push(Box::new(alloc, Elevator::new())?)?;
+    policies.push(Box::new(alloc, Normal::new())?)?;
+    policies.push(Box::new(alloc, Attach::new())?)?;
+    let mut shelf = DiskShelf::new(rt);
+    let ended = run_boxed(
+        handle, alloc, keys, words, &mut shelf, depot, policies, &NoGate, out,
+    );
+    Ok(ended.status)
+}
+
 // Runs the program over the devices of the system, and answers its status.
 fn run_on<R: Threads + Wait + Sync>(
     handle: &R,
@@ -72,12 +103,7 @@ fn run_on<R: Threads + Wait + Sync>(
     let words = words_of(&rt).map_err(stop_of)?;
     let keys = RandomState::new(&rt).map_err(stop_of)?;
     let depot = depot_of(rt, &words)?;
-    let mut shelf = DiskShelf::new(rt);
-    let alloc = rt.alloc();
-    let ended = run(
-        handle, alloc, keys, &words, &mut shelf, depot, Relevance, &NoGate, out,
-    );
-    Ok(ended.status)
+    Ok(run_with_four(handle, rt, keys, &words, depot, out)?)
 }
 
 fn main(rt: HostRuntime) -> ExitCode {

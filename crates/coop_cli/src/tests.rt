@@ -4,7 +4,7 @@ ghost use Rattle.std.specs.Prelude.{◌≤◌, ◌^◌};
 use crate::ended::Ended;
 use crate::run::run;
 use coop_outside::{Bytes, Depot, MemDepot, MemShelf, MemSink};
-use cscan::NoGate;
+use cscan::{Gate, NoGate};
 use relevance::Relevance;
 use std::alloc::Global;
 use std::hash::RandomState;
@@ -14,8 +14,12 @@ use std::test::Fail;
 use std::thread::Threads;
 
 mod answers;
+mod boxed;
 mod devices;
+mod generated;
+mod hostile;
 mod layouts;
+mod meeting;
 mod refusals;
 mod stories;
 
@@ -26,6 +30,8 @@ const TABLE_A: &str = "id,dept,pay\n1,a,10\n2,b,20\n3,a,\n4,c,40\n5,b,-5\n";
 const WORDS: &str = "--threads 1 --frames 4 --rows 2 a.csv b.sql";
 
 const COUNT: &str = "SELECT COUNT(*) FROM t;";
+
+const COUNT_TWICE: &str = "SELECT COUNT(*) FROM t; SELECT COUNT(*) FROM t;";
 
 const SUMS: &str = "SELECT dept, SUM(pay), COUNT(pay) FROM t GROUP BY dept;";
 
@@ -100,12 +106,28 @@ fn run_on<D: Depot + Send, R: RandomSource + Threads + Wait + Sync>(
 ) -> Result<(Ended<D>, Bytes), Fail>
     requires gets { D.gets depot ≤ 2 ^ 63 }
 {
+    let (table, batch) = (table.as_bytes(), batch.as_bytes());
+    run_beside(rt, alloc, line, table, batch, depot, &NoGate)
+}
+
+// The same beside a gate, over texts of any bytes.
+fn run_beside<D: Depot + Send, T: Gate + Sync, R: RandomSource + Threads + Wait + Sync>(
+    rt: &R,
+    alloc: Global,
+    line: &str,
+    table: &[u8],
+    batch: &[u8],
+    depot: D,
+    gate: &T,
+) -> Result<(Ended<D>, Bytes), Fail>
+    requires gets { D.gets depot ≤ 2 ^ 63 }
+{
     let words = words_of(alloc, line)?;
     let keys = RandomState::new(rt)?;
-    let mut shelf = shelf_of(alloc, table.as_bytes(), batch.as_bytes())?;
+    let mut shelf = shelf_of(alloc, table, batch)?;
     let mut out = sink_of(alloc, 100);
     let ended = run(
-        rt, alloc, keys, &words, &mut shelf, depot, Relevance, &NoGate, &mut out,
+        rt, alloc, keys, &words, &mut shelf, depot, Relevance, gate, &mut out,
     );
     Ok((ended, out.taken))
 }

@@ -3,6 +3,7 @@
 //! `docs/MANAGER.md` tells the rules.
 #![tactic(auto)]
 
+mod calls;
 mod next;
 mod out;
 mod reading;
@@ -12,6 +13,7 @@ mod script;
 mod seat;
 mod walks;
 
+pub use calls::{Call, answers};
 pub use said::Said;
 pub use script::play;
 pub use walks::{Walked, walk};
@@ -22,3 +24,5 @@ mod bound;
 mod expected;
 #[cfg(test)]
 mod tests;
+#[cfg(test)]
+mod worked;

@@ -23,11 +23,11 @@ use story_judge::{first_illegal, is_licensed, is_undisturbed, is_whole};
 use story_walks::some_setting;
 
 /// No piece has this number.
-const NO_PIECE: u32 = 4294967295;
+pub const NO_PIECE: u32 = 4294967295;
 
 /// A depot that has each piece of the setting, a word with its number. It fails at these gets, and gives the spoilt
 /// piece wrong.
-fn depot<R: Abort>(
+pub fn depot<R: Abort>(
     rt: &R,
     alloc: Global,
     s: &Setting,

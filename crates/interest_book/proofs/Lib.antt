@@ -15,3 +15,4 @@ pub mod Beginning
 pub mod Marking
 pub mod Named
 pub mod ReadPieces
+pub mod Shared

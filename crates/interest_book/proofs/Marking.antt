@@ -13,7 +13,7 @@ use Rattle.interest_book.specs.Frames.{frame_at, free_in, is_free_frame}
 use Rattle.interest_book.specs.Freed.{bit}
 use Rattle.interest_book.specs.Clients.{client_at, vacant, is_active_phase}
 use Rattle.interest_book.specs.Counted.{size_of}
-use Rattle.interest_book.specs.Counts.{is_active_in, is_interested_in, is_starved_for, is_close_in, overlaps_by, starved_overlaps_by, feeds_in}
+use Rattle.interest_book.specs.Counts.{is_active_in, needs_in, is_interested_in, is_starved_for, is_close_in, overlaps_by, starved_overlaps_by, feeds_in}
 use Rattle.interest_book.specs.Marked.{is_active, is_starved, is_near, is_over_phase, is_over, row_at, AreMarks, IsNear, Follows, BeginsMarks}
 use Rattle.interest_book.proofs.Below.{count_same, equal_number, other_number, true_false}
 use Rattle.interest_book.proofs.Counting.{counted_one, count_cut}
@@ -168,13 +168,13 @@ front true b e = refl
 front false b e = absurd (true_false false e refl)
 
 -- the queries of one set that are in a chunk's set
-marked_both : (passes : Client → Bool) (of : Client → List ℕ) (ks : List Client) (who row both : List ℕ) (rows : List (List ℕ)) (c : ℕ) → c < length rows → ((k : Client) → passes k ≡ true → is_active k ≡ true)
+marked_both : (passes : Client → Bool) (of : Client → List ℕ) (ks : List Client) (who row : List ℕ) (rows : List (List ℕ)) (c : ℕ) → c < length rows → ((k : Client) → passes k ≡ true → is_active k ≡ true)
     → ((q : ℕ) → has who q ≡ passes (client_at ks q)) → ((q : ℕ) → is_over (client_at ks q) ≡ false → has (row_at rows c) q ≡ has (of (client_at ks q)) c)
-    → row ≡ get_or rows c row → ((x : ℕ) → has both x ≡ (has who x && has row x)) → (q : ℕ) → has both q ≡ (passes (client_at ks q) && has (of (client_at ks q)) c)
-marked_both passes of ks who row both rows c lt active are in_row read is q =
+    → row ≡ get_or rows c row → (q : ℕ) → (has who q && has row q) ≡ (passes (client_at ks q) && has (of (client_at ks q)) c)
+marked_both passes of ks who row rows c lt active are in_row read q =
     let found : row ≡ row_at rows c = read ∙ sym (get_or_default rows c [] row lt) in
-    is q ∙ (ap (λ (b : Bool). b && has row q) (are q)
-    ∙ where_first (passes (client_at ks q)) (has row q) (has (of (client_at ks q)) c) (λ so. ap (λ (xs : List ℕ). has xs q) found ∙ in_row q (active_goes_on (client_at ks q) (active (client_at ks q) so))))
+    ap (λ (b : Bool). b && has row q) (are q)
+    ∙ where_first (passes (client_at ks q)) (has row q) (has (of (client_at ks q)) c) (λ so. ap (λ (xs : List ℕ). has xs q) found ∙ in_row q (active_goes_on (client_at ks q) (active (client_at ks q) so)))
 
 starved_active : (k : Client) → is_starved k ≡ true → is_active k ≡ true
 starved_active k e = front (is_active k) (nat_lt (size_of k.available) 2) e
@@ -218,52 +218,65 @@ running_number ks vs m n are same size = number_is ks vs m is_active_in (has m.a
 
 -- for each kind: the row is the chunk's, and the members are in both
 
-interested_has : (ks : List Client) (m : Marks) (c : ℕ) (row both : List ℕ) → AreMarks ks m → c < 1024 → row ≡ get_or m.needing.items c row → ((x : ℕ) → has both x ≡ (has m.active x && has row x)) → (q : ℕ) → has both q ≡ is_interested_in ks c q
-interested_has ks m c row both are lt read is = marked_both is_active (λ k. k.remaining) ks m.active row both m.needing.items c (omega (arith, are.needing_size, lt)) (λ k e. e) are.active (λ q on. are.needing q c lt on) read is
+interested_has : (ks : List Client) (m : Marks) (c : ℕ) (row : List ℕ) → AreMarks ks m → c < 1024 → row ≡ get_or m.needing.items c row → (q : ℕ) → (has m.active q && has row q) ≡ is_interested_in ks c q
+interested_has ks m c row are lt read = marked_both is_active (λ k. k.remaining) ks m.active row m.needing.items c (omega (arith, are.needing_size, lt)) (λ k e. e) are.active (λ q on. are.needing q c lt on) read
 
-starved_has : (ks : List Client) (m : Marks) (c : ℕ) (row both : List ℕ) → AreMarks ks m → c < 1024 → row ≡ get_or m.needing.items c row → ((x : ℕ) → has both x ≡ (has m.starved x && has row x)) → (q : ℕ) → has both q ≡ is_starved_for ks c q
-starved_has ks m c row both are lt read is = marked_both is_starved (λ k. k.remaining) ks m.starved row both m.needing.items c (omega (arith, are.needing_size, lt)) starved_active are.starved (λ q on. are.needing q c lt on) read is
+starved_has : (ks : List Client) (m : Marks) (c : ℕ) (row : List ℕ) → AreMarks ks m → c < 1024 → row ≡ get_or m.needing.items c row → (q : ℕ) → (has m.starved q && has row q) ≡ is_starved_for ks c q
+starved_has ks m c row are lt read = marked_both is_starved (λ k. k.remaining) ks m.starved row m.needing.items c (omega (arith, are.needing_size, lt)) starved_active are.starved (λ q on. are.needing q c lt on) read
 
 not_starved : (ks : List Client) (q : ℕ) → is_active (client_at ks q) ≡ false → is_starved (client_at ks q) ≡ false
 not_starved ks q e = inactive (is_active (client_at ks q)) (nat_lt (size_of (client_at ks q).available) 2) e
 
-pub interested_number : (ks vs : List Client) (m : Marks) (c n : ℕ) (row both : List ℕ) → AreMarks ks m → ks ≡ vs → c < 1024 → row ≡ get_or m.needing.items c row → ((x : ℕ) → has both x ≡ (has m.active x && has row x)) → n ≡ count_below (has both) 320
+pub interested_number : (ks vs : List Client) (m : Marks) (c n : ℕ) (row : List ℕ) → AreMarks ks m → ks ≡ vs → c < 1024 → row ≡ get_or m.needing.items c row → n ≡ count_below (λ x. has m.active x && has row x) 320
     → IsNumber vs (λ us. is_interested_in us c) n
-interested_number ks vs m c n row both are same lt read is size =
-    number_is ks vs m (λ us. is_interested_in us c) (has both) n are same size (interested_has ks m c row both are lt read is) (λ q e. inactive (is_active (client_at ks q)) (has (client_at ks q).remaining c) e)
+interested_number ks vs m c n row are same lt read size =
+    number_is ks vs m (λ us. is_interested_in us c) (λ x. has m.active x && has row x) n are same size (interested_has ks m c row are lt read) (λ q e. inactive (is_active (client_at ks q)) (has (client_at ks q).remaining c) e)
 
-pub starved_number : (ks vs : List Client) (m : Marks) (c n : ℕ) (row both : List ℕ) → AreMarks ks m → ks ≡ vs → c < 1024 → row ≡ get_or m.needing.items c row → ((x : ℕ) → has both x ≡ (has m.starved x && has row x)) → n ≡ count_below (has both) 320
+pub starved_number : (ks vs : List Client) (m : Marks) (c n : ℕ) (row : List ℕ) → AreMarks ks m → ks ≡ vs → c < 1024 → row ≡ get_or m.needing.items c row → n ≡ count_below (λ x. has m.starved x && has row x) 320
     → IsNumber vs (λ us. is_starved_for us c) n
-starved_number ks vs m c n row both are same lt read is size =
-    number_is ks vs m (λ us. is_starved_for us c) (has both) n are same size (starved_has ks m c row both are lt read is) (λ q e. inactive (is_starved (client_at ks q)) (has (client_at ks q).remaining c) (not_starved ks q e))
+starved_number ks vs m c n row are same lt read size =
+    number_is ks vs m (λ us. is_starved_for us c) (λ x. has m.starved x && has row x) n are same size (starved_has ks m c row are lt read) (λ q e. inactive (is_starved (client_at ks q)) (has (client_at ks q).remaining c) (not_starved ks q e))
 
-pub close_number : (ks vs : List Client) (m : Marks) (c n : ℕ) (row both : List ℕ) → AreMarks ks m → ks ≡ vs → c < 1024 → row ≡ get_or m.having.items c row → ((x : ℕ) → has both x ≡ (has m.near x && has row x)) → n ≡ count_below (has both) 320
+pub close_number : (ks vs : List Client) (m : Marks) (c n : ℕ) (row : List ℕ) → AreMarks ks m → ks ≡ vs → c < 1024 → row ≡ get_or m.having.items c row → n ≡ count_below (λ x. has m.near x && has row x) 320
     → IsNumber vs (λ us. is_close_in us c) n
-close_number ks vs m c n row both are same lt read is size =
-    number_is ks vs m (λ us. is_close_in us c) (has both) n are same size
-    (λ q. marked_both is_near (λ k. k.available) ks m.near row both m.having.items c (omega (arith, are.having_size, lt)) near_active are.near (λ q on. are.having q c lt on) read is q ∙ near_is_close ks c q)
+close_number ks vs m c n row are same lt read size =
+    number_is ks vs m (λ us. is_close_in us c) (λ x. has m.near x && has row x) n are same size
+    (λ q. marked_both is_near (λ k. k.available) ks m.near row m.having.items c (omega (arith, are.having_size, lt)) near_active are.near (λ q on. are.having q c lt on) read q ∙ near_is_close ks c q)
     (λ q e. inactive (is_active (client_at ks q) && has (client_at ks q).available c) (nat_le (size_of (client_at ks q).available) 2) (inactive (is_active (client_at ks q)) (has (client_at ks q).available c) e))
 
-pub fed_number : (ks vs : List Client) (m : Marks) (c n : ℕ) (row both : List ℕ) → AreMarks ks m → ks ≡ vs → c < 1024 → row ≡ get_or m.having.items c row → ((x : ℕ) → has both x ≡ (has m.starved x && has row x)) → n ≡ count_below (has both) 320
+pub fed_number : (ks vs : List Client) (m : Marks) (c n : ℕ) (row : List ℕ) → AreMarks ks m → ks ≡ vs → c < 1024 → row ≡ get_or m.having.items c row → n ≡ count_below (λ x. has m.starved x && has row x) 320
     → IsNumber vs (λ us. feeds_in us c) n
-fed_number ks vs m c n row both are same lt read is size =
-    number_is ks vs m (λ us. feeds_in us c) (has both) n are same size
-    (marked_both is_starved (λ k. k.available) ks m.starved row both m.having.items c (omega (arith, are.having_size, lt)) starved_active are.starved (λ q on. are.having q c lt on) read is)
+fed_number ks vs m c n row are same lt read size =
+    number_is ks vs m (λ us. feeds_in us c) (λ x. has m.starved x && has row x) n are same size
+    (marked_both is_starved (λ k. k.available) ks m.starved row m.having.items c (omega (arith, are.having_size, lt)) starved_active are.starved (λ q on. are.having q c lt on) read)
     (λ q e. inactive (is_starved (client_at ks q)) (has (client_at ks q).available c) (not_starved ks q e))
 
 pub overlap_number : (ks vs : List Client) (m : Marks) (c n : ℕ) (among row both : List ℕ) → AreMarks ks m → ks ≡ vs → c < 1024 → row ≡ get_or m.needing.items c row → ((x : ℕ) → has both x ≡ (has m.active x && has row x))
     → n ≡ count_below (λ x. has both x && has among x) 320 → IsNumber vs (λ us. overlaps_by us among c) n
 overlap_number ks vs m c n among row both are same lt read is size =
     number_is ks vs m (λ us. overlaps_by us among c) (λ x. has both x && has among x) n are same size
-    (λ q. ap (λ (b : Bool). b && has among q) (interested_has ks m c row both are lt read is q))
+    (λ q. ap (λ (b : Bool). b && has among q) (is q ∙ interested_has ks m c row are lt read q))
     (λ q e. inactive (is_interested_in ks c q) (has among q) (inactive (is_active (client_at ks q)) (has (client_at ks q).remaining c) e))
 
 pub starved_overlap_number : (ks vs : List Client) (m : Marks) (c n : ℕ) (among row both : List ℕ) → AreMarks ks m → ks ≡ vs → c < 1024 → row ≡ get_or m.needing.items c row → ((x : ℕ) → has both x ≡ (has m.starved x && has row x))
     → n ≡ count_below (λ x. has both x && has among x) 320 → IsNumber vs (λ us. starved_overlaps_by us among c) n
 starved_overlap_number ks vs m c n among row both are same lt read is size =
     number_is ks vs m (λ us. starved_overlaps_by us among c) (λ x. has both x && has among x) n are same size
-    (λ q. ap (λ (b : Bool). b && has among q) (starved_has ks m c row both are lt read is q))
+    (λ q. ap (λ (b : Bool). b && has among q) (is q ∙ starved_has ks m c row are lt read q))
     (λ q e. inactive (is_starved_for ks c q) (has among q) (inactive (is_starved (client_at ks q)) (has (client_at ks q).remaining c) (not_starved ks q e)))
+
+-- of queries that are all active, those that need the chunk
+pub needing_number : (ks vs : List Client) (m : Marks) (c n : ℕ) (these row : List ℕ) → AreMarks ks m → ks ≡ vs → c < 1024 → row ≡ get_or m.needing.items c row → ((q : ℕ) → has these q ≡ true → is_active_in vs q ≡ true)
+    → n ≡ count_below (λ x. has these x && has row x) 320 → n ≡ count_below (λ q. has these q && needs_in vs q c) (length vs)
+needing_number ks vs m c n these row are same lt read active size =
+    let found : row ≡ row_at m.needing.items c = read ∙ sym (get_or_default m.needing.items c [] row (omega (arith, are.needing_size, lt))) in
+    let on : (q : ℕ) → has these q ≡ true → is_active (client_at ks q) ≡ true = subst (λ (us : List Client). (q : ℕ) → has these q ≡ true → is_active_in us q ≡ true) (sym same) active in
+    (number_is ks vs m (λ us q. has these q && needs_in us q c) (λ x. has these x && has row x) n are same size
+    (λ q. where_first (has these q) (has row q) (needs_in ks q c) (λ so. ap (λ (xs : List ℕ). has xs q) found ∙ are.needing q c lt (active_goes_on (client_at ks q) (on q so))))
+    (λ q off. elim (cases_Bool (has these q)) [
+      | inl so ↦ absurd (true_false (is_active (client_at ks q)) (on q so) off)
+      | inr not ↦ inactive (has these q) (needs_in ks q c) not
+    ])).0
 
 -- Frames
 

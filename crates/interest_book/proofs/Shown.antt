@@ -249,6 +249,30 @@ target_is b s h q c st lt =
 pub deliverable_is : (b : Book) (s : Setting) (h : History) (q c : ℕ) → Stands b s h → q ≤ 256 → is_ready_in b.clients b.chunks q c ≡ is_ready s h q c
 deliverable_is b s h q c st lt = ap (λ (n : ℕ). nat_lt c n && is_available_in b.clients q c) st.chunks ∙ ap (λ (x : Bool). nat_lt c s.chunks && x) (ready_is b s h q st lt c)
 
+-- what is needed and available is inside the table, and so the sets have just the candidates
+
+lt_is : (a b : ℕ) → a < b → nat_lt a b ≡ true
+lt_is a b e = grind (arith, nat_tests)
+
+pub target_set : (b : Book) (s : Setting) (h : History) (q c : ℕ) → Stands b s h → q ≤ 256 → (needs_in b.clients q c && not (is_available_in b.clients q c)) ≡ is_target s h q c
+target_set b s h q c st lt =
+    inside (nat_lt c b.chunks) (needs_in b.clients q c) (is_available_in b.clients q c) (λ e. ap (nat_lt c) st.chunks ∙ lt_is c s.chunks (needed_inside s h q c st.setting (sym (needs_is b s h q c st lt) ∙ e)))
+    ∙ target_is b s h q c st lt
+  where
+    inside : (a n w : Bool) → (n ≡ true → a ≡ true) → (n && not w) ≡ (a && n && not w)
+    inside true n w f = refl
+    inside false true w f = absurd (true_false false (f refl) refl)
+    inside false false w f = refl
+
+pub ready_set : (b : Book) (s : Setting) (h : History) (q c : ℕ) → Stands b s h → q ≤ 256 → is_available_in b.clients q c ≡ is_ready s h q c
+ready_set b s h q c st lt =
+    ready_is b s h q st lt c ∙ inside (nat_lt c s.chunks) (needs_chunk s h q c) (is_wholly_framed s h q c) (λ e. lt_is c s.chunks (needed_inside s h q c st.setting e))
+  where
+    inside : (a n w : Bool) → (n ≡ true → a ≡ true) → (n && w) ≡ (a && (n && w))
+    inside true n w f = refl
+    inside false true w f = absurd (true_false false (f refl) refl)
+    inside false false w f = refl
+
 -- some target is left where fewer chunks are available than needed
 parts : (p w : ℕ → Bool) (n : ℕ) → count_below p n ≡ count_below (λ c. p c && w c) n + count_below (λ c. p c && not (w c)) n
 parts p w zero = refl
@@ -278,9 +302,6 @@ has_target s h q =
   where
     more : (a n k : ℕ) → n ≡ a + k → nat_lt a n ≡ nat_lt 0 k
     more a n k e = grind (arith, nat_tests)
-
-    lt_is : (a b : ℕ) → a < b → nat_lt a b ≡ true
-    lt_is a b e = grind (arith, nat_tests)
 
     inside : (c : ℕ) (n w : Bool) → nat_lt c s.chunks ≡ true → (n && not w) ≡ (nat_lt c s.chunks && n && not w)
     inside c n w e = sym (ap (λ (x : Bool). x && n && not w) e)

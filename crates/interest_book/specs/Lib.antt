@@ -13,3 +13,4 @@ pub mod Marked
 pub mod Freed
 pub mod Firsts
 pub mod Placed
+pub mod Sharing

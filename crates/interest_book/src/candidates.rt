@@ -29,6 +29,15 @@ impl Book {
         c < self.chunks && client.remaining.has(c) && !client.available.has(c)
     }
 
+    /// The chunks that the query needs, and that aren't wholly in frames for it.
+    pub fn targets(&self, q: u32) -> CountedSet
+        requires { q ≤ 256 }
+        ensures { (s : Setting) (h : History) → Stands self.now s h → (c : ℕ) → has result c ≡ is_target s h q c }
+    {
+        let client = self.client(q);
+        client.remaining.without(&client.available)
+    }
+
     /// Whether the chunk is available to the query.
     pub fn is_ready(&self, q: u32, c: u32) -> bool
         requires { q ≤ 256 }
@@ -42,6 +51,14 @@ impl Book {
         ensures { result ≡ is_ready_in self.now.clients self.now.chunks q c }
     {
         c < self.chunks && self.client(q).available.has(c)
+    }
+
+    /// The chunks that are available to the query.
+    pub fn deliverable(&self, q: u32) -> CountedSet
+        requires { q ≤ 256 }
+        ensures { (s : Setting) (h : History) → Stands self.now s h → (c : ℕ) → has result c ≡ is_ready s h q c }
+    {
+        self.client(q).available.copy()
     }
 
     /// Whether the query is starved and needs a chunk that isn't wholly in frames for it, while no load is underway.

@@ -1,12 +1,12 @@
 //! The clients of all queries, each at the place of its query's number.
-ghost use Rattle.std.specs.Prelude.{◌≡◌, ◌≢◌, ◌+◌, ◌<◌, ◌≤◌, ◌^◌, ◌∷◌, ◌⊎◌, [], ℕ, All, IfOk, length, set, true, false};
+ghost use Rattle.std.specs.Prelude.{◌≡◌, ◌≢◌, ◌+◌, ◌<◌, ◌≤◌, ◌^◌, ◌∷◌, ◌⊎◌, ◌&&◌, [], ℕ, All, IfOk, length, set, true, false};
 ghost use Rattle.scan_story.specs.declared.entry.Why.{Why};
 ghost use Rattle.scan_story.specs.declared.entry.Entry.TheVariants.{Register, Failed, Deliver, Release, Stop, End};
 ghost use Rattle.scan_story.specs.declared.setting.Setting.{Setting};
-ghost use Rattle.scan_story.specs.Counting.{count_below};
+ghost use Rattle.scan_story.specs.Counting.{has, count_below};
 ghost use Rattle.scan_story.specs.Views.{History, is_stopped};
 ghost use Rattle.interest_book.specs.Clients.{AreClients, AreReady, client_at};
-ghost use Rattle.interest_book.specs.Counts.{is_active_in, is_interested_in, is_starved_for, is_close_in, overlaps_by, starved_overlaps_by, feeds_in};
+ghost use Rattle.interest_book.specs.Counts.{is_active_in, is_starved_in, needs_in, is_interested_in, is_starved_for, is_close_in, overlaps_by, starved_overlaps_by, feeds_in};
 ghost use Rattle.interest_book.specs.Fresh.{AreFresh};
 ghost use Rattle.interest_book.specs.Renewed.{IsRenewed};
 ghost use Rattle.interest_book.specs.Marked.{IsNear, is_active, is_over};
@@ -16,6 +16,7 @@ use crate::client::Client;
 use crate::marks::{Marks, follow};
 use crate::need::Need;
 use crate::query_set::QuerySet;
+use crate::sharing::Sharing;
 use std::alloc::Global;
 use std::marker::Model;
 use table_core::Memory;
@@ -208,10 +209,7 @@ impl Clients {
         ensures number { result ≡ count_below (is_interested_in self.now c) (length self.now) }
         ensures few { result ≤ 256 }
     {
-        self.marks
-            .active
-            .both(&self.marks.needing[c as usize])
-            .size()
+        self.marks.active.common(&self.marks.needing[c as usize])
     }
 
     /// How many starved queries need the chunk, at most 256.
@@ -220,10 +218,7 @@ impl Clients {
         ensures number { result ≡ count_below (is_starved_for self.now c) (length self.now) }
         ensures few { result ≤ 256 }
     {
-        self.marks
-            .starved
-            .both(&self.marks.needing[c as usize])
-            .size()
+        self.marks.starved.common(&self.marks.needing[c as usize])
     }
 
     /// How many active queries have the chunk available, and at most two available chunks; at most 256.
@@ -232,7 +227,7 @@ impl Clients {
         ensures number { result ≡ count_below (is_close_in self.now c) (length self.now) }
         ensures few { result ≤ 256 }
     {
-        self.marks.near.both(&self.marks.having[c as usize]).size()
+        self.marks.near.common(&self.marks.having[c as usize])
     }
 
     /// How many active queries among these need the chunk, at most 256.
@@ -259,14 +254,31 @@ impl Clients {
             .common(among)
     }
 
+    /// The active and the starved ones of these queries.
+    pub fn among(&self, these: &QuerySet) -> Sharing
+        ensures active { (r : ℕ) → has result.active r ≡ (is_active_in self.now r && has these.now r) }
+        ensures starved { (r : ℕ) → has result.starved r ≡ (is_starved_in self.now r && has these.now r) }
+    {
+        Sharing {
+            active: self.marks.active.both(these),
+            starved: self.marks.starved.both(these),
+        }
+    }
+
+    /// How many of these queries, which are all active, need the chunk; at most 320.
+    pub fn needing(&self, these: &QuerySet, c: u32) -> u32
+        requires { c < 1024 }
+        ensures number { ((r : ℕ) → has these.now r ≡ true → is_active_in self.now r ≡ true) → result ≡ count_below (λ r. has these.now r && needs_in self.now r c) (length self.now) }
+        ensures few { result ≤ 320 }
+    {
+        these.common(&self.marks.needing[c as usize])
+    }
+
     /// To how many starved queries the chunk is available.
     pub fn fed(&self, c: u32) -> u32
         requires { c < 1024 }
         ensures { result ≡ count_below (feeds_in self.now c) (length self.now) }
     {
-        self.marks
-            .starved
-            .both(&self.marks.having[c as usize])
-            .size()
+        self.marks.starved.common(&self.marks.having[c as usize])
     }
 }

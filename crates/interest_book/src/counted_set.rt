@@ -95,6 +95,19 @@ impl CountedSet {
         }
     }
 
+    /// The members that aren't members of the other set.
+    pub fn without(&self, other: &CountedSet) -> CountedSet
+        ensures { (x : ℕ) → has result x ≡ (has self.now x && not (has other.now x)) }
+    {
+        let mut left = self.copy();
+        let mut from = 0;
+        while let Some(c) = other.least_from(from) {
+            left.remove(c);
+            from = c + 1;
+        }
+        left
+    }
+
     /// The least member that is at least `c`; None where there is none.
     pub fn least_from(&self, c: u32) -> Option<u32>
         ensures none { IfNone result ((x : ℕ) → c ≤ x → has self.now x ≡ false) }

@@ -22,6 +22,7 @@ mod placing;
 mod query_set;
 mod reading;
 mod sharers;
+mod sharing;
 mod shifting;
 
 pub use book::Book;
@@ -30,4 +31,5 @@ pub use loading::Underway;
 pub use need::Need;
 pub use pieces::Pieces;
 pub use scan_story::Phase;
+pub use sharing::{Overlaps, Sharing};
 pub use table_core::Memory;

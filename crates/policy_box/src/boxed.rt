@@ -10,7 +10,8 @@ use scan_story::PolicyName;
 /// A policy that was handed in. Its name, its cursor and its picks are those of the policy in the box.
 #[derive(Drop)]
 pub struct Boxed {
-    policy: Box<dyn Policy + Send>,
+    /// The policy that was handed in.
+    pub policy: Box<dyn Policy + Send>,
 }
 
 impl Policy for Boxed {

@@ -1,3 +1,4 @@
 mod Attaching
 mod Using
 mod Picking
+mod Placing

@@ -1,9 +1,10 @@
 -- The chunks that were used stay so few that there is room for one more.
 use Rattle.std.proofs.Common.{◌≡◌, ◌<◌, ◌≤◌, ◌==◌, ◌&&◌, ◌||◌, not, ℕ, Bool, true, false, List, [], ◌∷◌, ◌++◌, length, nat_lt, filter, if◌then◌else◌, refl, arith}
-use Rattle.std.specs.List.{list_any, AllByRecursion, IsDistinct}
+use Rattle.std.specs.List.{All, list_any, AllByRecursion, IsDistinct}
 use Rattle.std.proofs.Math.Dec.{eqb}
 use Rattle.std.proofs.lemmas.Bool.Decides.{nat_tests}
 use Rattle.std.proofs.lemmas.List.{length_push}
+use Rattle.std.proofs.lemmas.List.Elements.{All-from_recursion}
 use Rattle.std.proofs.lemmas.Map.Steps.{length-le_from_distinct_below}
 use Rattle.scan_story.specs.Counting.{has}
 use Rattle.scan_story.specs.Policies.{moved_last}
@@ -84,3 +85,15 @@ room_for c xs small uses =
     let few = uses_few (moved_last xs c) (uses_moved c small xs uses) in
     let long = length_push (filter (λ x. not (x == c)) xs) c in
     omega (arith, few, long)
+
+small_each : (xs : List ℕ) → are_uses xs ≡ true → AllByRecursion (λ (c : ℕ). c < 1024) xs
+small_each [] uses = tt
+small_each (x ∷ xs) uses =
+    let rest = second (nat_lt x 1024) (not (has xs x) && are_uses xs) uses in
+    (small_of x (first (nat_lt x 1024) (not (has xs x) && are_uses xs) uses), small_each xs (second (not (has xs x)) (are_uses xs) rest))
+  where
+    small_of : (a : ℕ) → nat_lt a 1024 ≡ true → a < 1024
+    small_of a lt = grind (arith, nat_tests)
+
+pub uses_small : (xs : List ℕ) → are_uses xs ≡ true → All (λ (c : ℕ). c < 1024) xs
+uses_small xs uses = All-from_recursion (λ (c : ℕ). c < 1024) xs (small_each xs uses)

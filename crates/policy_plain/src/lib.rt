@@ -5,6 +5,7 @@
 
 mod attach;
 mod normal;
+mod places;
 
 pub use attach::Attach;
 pub use normal::Normal;

@@ -1,9 +1,9 @@
 //! The policy normal.
-ghost use Rattle.std.specs.Prelude.{◌≡◌, ◌==◌, ◌<◌, ◌≤◌, length, not, true};
+ghost use Rattle.std.specs.Prelude.{◌≡◌, ◌==◌, ◌<◌, not, true};
 ghost use Rattle.std.specs.List.{filter};
-ghost use Rattle.scan_story.specs.Policies.{place_in};
 ghost use Rattle.policy_plain.specs.Uses.{are_uses};
 
+use crate::places::places_in;
 use arrayvec::ArrayVec;
 use interest_book::Book;
 use policy_picks::{
@@ -22,24 +22,6 @@ pub struct Normal {
     // the chunks that were picked to be loaded or delivered, least recently used first
     used: ArrayVec<u32, 1024>,
     ghost uses: { are_uses used.items ≡ true },
-}
-
-// The chunk's place among those that were used, from 1; 0 where it was not used.
-fn place_in(used: &[u32], c: u32) -> u32
-    requires { length used.now ≤ 1024 }
-    ensures value { result ≡ place_in used.now c }
-    ensures small { result ≤ length used.now }
-{
-    match used {
-        [] => 0,
-        [first, rest @ ..] => {
-            if *first == c {
-                return 1;
-            }
-            let place = place_in(rest, c);
-            if place == 0 { 0 } else { place + 1 }
-        }
-    }
 }
 
 // Takes the chunk out, wherever it stands.
@@ -106,11 +88,12 @@ impl Policy for Normal {
 
     #[tactic(auto, using(relevance::proofs::Choosing::best_below_more))]
     fn pick_victim(&mut self, book: &Book) -> Option<u32> {
+        let places = places_in(&self.used);
         let mut best = None;
         for c in 0..book.chunks() {
             if book.is_victim(c) {
                 let close = book.close(c);
-                let key = place_in(&self.used, c);
+                let key = places[c as usize];
                 best = fitter_of(best, c, Fitness { close, key });
             }
         }

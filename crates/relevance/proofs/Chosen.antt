@@ -66,14 +66,6 @@ target_misses s h q c e = positive (missing_for s h q c) (sym (whole_is s h q c)
     last_not true false true e = absurd (true_false false e refl)
     last_not false b true e = absurd (true_false false e refl)
 
-pub not_needed : (s : Setting) (h : History) (q c : ℕ) → needs_chunk s h q c ≡ false → is_target s h q c ≡ false
-not_needed s h q c e = middle (nat_lt c s.chunks) (needs_chunk s h q c) (is_wholly_framed s h q c) e
-  where
-    middle : (a b d : Bool) → b ≡ false → (a && b && not d) ≡ false
-    middle a true d e = absurd (true_false true refl e)
-    middle true false d e = refl
-    middle false false d e = refl
-
 victim_cached : (s : Setting) (h : History) (c : ℕ) → is_victim s h c ≡ true → 0 < cached s h c
 victim_cached s h c e = above (cached s h c) (second (nat_lt c s.chunks) (nat_lt 0 (cached s h c)) (not (is_load_of c (underway s h))) (not (is_held s h c)) (not (feeds_starved s h c)) e)
   where

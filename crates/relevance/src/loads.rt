@@ -4,12 +4,13 @@ ghost use Rattle.scan_story.specs.declared.setting.Setting.{Setting};
 ghost use Rattle.scan_story.specs.Views.{History};
 ghost use Rattle.scan_story.specs.Ratios.{load_ratio};
 ghost use Rattle.scan_story.specs.MayFollow.{is_target};
+ghost use Rattle.interest_book.specs.Sharing.{IsSharing};
 ghost use Rattle.interest_book.specs.Stands.{Stands};
 ghost use Rattle.relevance.specs.Best.{greater_of, may_exceed};
 
 use crate::best::{BestChunk, greater_of};
 use crate::ranks::load_gain;
-use interest_book::Book;
+use interest_book::{Book, Sharing};
 use scan_story::Ratio;
 
 // Whether a ratio with this number over one or more may be greater than the best so far.
@@ -24,12 +25,18 @@ fn may_exceed(num: u32, best: Option<BestChunk>) -> bool
 
 /// The chunk where its load ratio is greater than the best so far, or else the best so far. The missing pieces are
 /// counted only where the ratio may be greater.
-pub fn gaining_more(best: Option<BestChunk>, book: &Book, q: u32, c: u32) -> Option<BestChunk>
+pub fn gaining_more(
+    best: Option<BestChunk>,
+    book: &Book,
+    sharing: &Sharing,
+    q: u32,
+    c: u32,
+) -> Option<BestChunk>
     requires query { q ≤ 256 }
     requires chunk { c < 1024 }
-    ensures { (s : Setting) (h : History) → Stands book.now s h → is_target s h q c ≡ true → result ≡ greater_of best c (load_ratio s h q c) }
+    ensures { (s : Setting) (h : History) → Stands book.now s h → IsSharing s h q sharing.now → is_target s h q c ≡ true → result ≡ greater_of best c (load_ratio s h q c) }
 {
-    let num = load_gain(book, q, c);
+    let num = load_gain(book, sharing, c);
     if !may_exceed(num, best) {
         return best;
     }

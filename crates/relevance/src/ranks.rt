@@ -1,11 +1,12 @@
 //! The rank of a query and the ratios of a chunk.
-ghost use Rattle.std.specs.Prelude.{◌≡◌, ◌*◌, ◌<◌, ◌≤◌};
+ghost use Rattle.std.specs.Prelude.{◌≡◌, ◌*◌, ◌<◌, ◌≤◌, ℕ};
 ghost use Rattle.scan_story.specs.declared.setting.Setting.{Setting};
 ghost use Rattle.scan_story.specs.Views.{History};
 ghost use Rattle.scan_story.specs.Ratios.{query_rank, load_ratio, use_ratio, keep_ratio};
+ghost use Rattle.interest_book.specs.Sharing.{IsSharing};
 ghost use Rattle.interest_book.specs.Stands.{Stands};
 
-use interest_book::Book;
+use interest_book::{Book, Sharing};
 use scan_story::Ratio;
 
 #[tactic(auto, using(crate::proofs::Choosing::small_product))]
@@ -27,12 +28,12 @@ pub fn query_rank(book: &Book, q: u32) -> i64
     waited - wanted
 }
 
-/// The number of the ratio by which a chunk is loaded for the query, before it is divided.
-pub fn load_gain(book: &Book, q: u32, c: u32) -> u32
-    requires { q ≤ 256 }
-    ensures { (s : Setting) (h : History) → Stands book.now s h → result ≡ (load_ratio s h q c).num }
+/// The number of the ratio by which a chunk is loaded for the query whose sharing this is, before it is divided.
+pub fn load_gain(book: &Book, sharing: &Sharing, c: u32) -> u32
+    ensures { (s : Setting) (h : History) (q : ℕ) → Stands book.now s h → IsSharing s h q sharing.now → result ≡ (load_ratio s h q c).num }
 {
-    1024 * book.starved_overlap(q, c) + book.overlap(q, c)
+    let overlaps = book.overlaps(sharing, c);
+    1024 * overlaps.starved + overlaps.active
 }
 
 /// How much is gained by loading the chunk for the query.
@@ -42,7 +43,7 @@ pub fn load_ratio(book: &Book, q: u32, c: u32) -> Ratio
     ensures { (s : Setting) (h : History) → Stands book.now s h → result ≡ load_ratio s h q c }
 {
     Ratio {
-        num: load_gain(book, q, c),
+        num: load_gain(book, &book.sharing(q), c),
         den: book.missing_for(q, c),
     }
 }

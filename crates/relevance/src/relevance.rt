@@ -52,29 +52,29 @@ impl Policy for Relevance {
         ensures first { (s : Setting) (h : History) → Stands book.now s h → IfSome result (IsFirstBest is_greater (is_target s h q) (load_ratio s h q)) }
         ensures cursor { (s : Setting) (h : History) → Stands book.now s h → [] ≡ cursor_after_load names.Relevance s [] q result }
     {
+        let sharing = book.sharing(q);
+        let targets = book.targets(q);
         let mut best = None;
         let mut from = 0;
-        while let Some(c) = book.least_needed_from(q, from) {
-            if book.is_target(q, c) {
-                best = gaining_more(best, book, q, c);
-            }
+        while let Some(c) = targets.least_from(from) {
+            best = gaining_more(best, book, &sharing, q, c);
             from = c + 1;
         }
         chunk_in(best)
     }
 
-    #[tactic(auto, using(crate::proofs::Choosing::best_below_more))]
     fn pick_delivery(&mut self, book: &Book, q: u32) -> Option<u32>
         requires { HasActive book.now q }
         ensures picks { (s : Setting) (h : History) → Stands book.now s h → PicksDelivery names.Relevance [] s h q result }
         ensures first { (s : Setting) (h : History) → Stands book.now s h → IfSome result (IsFirstBest is_greater (is_ready s h q) (use_ratio s h q)) }
         ensures cursor { [] ≡ cursor_after_delivery names.Relevance [] q result }
     {
+        let ready = book.deliverable(q);
         let mut best = None;
-        for c in 0..book.chunks() {
-            if book.is_ready(q, c) {
-                best = greater_of(best, c, use_ratio(book, q, c));
-            }
+        let mut from = 0;
+        while let Some(c) = ready.least_from(from) {
+            best = greater_of(best, c, use_ratio(book, q, c));
+            from = c + 1;
         }
         chunk_in(best)
     }

@@ -6,6 +6,7 @@
 
 mod desks;
 mod fitting;
+mod handing;
 mod notes;
 mod outcome;
 mod pair;
@@ -14,6 +15,7 @@ mod seats;
 mod single;
 mod steps;
 
+pub use handing::hand_on;
 pub use notes::{Notes, Saw};
 pub use outcome::Outcome;
 pub use pair::by_turns;

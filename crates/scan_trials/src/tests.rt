@@ -2,4 +2,5 @@
 // words of a table that people can read.
 mod expected;
 mod one;
+mod passes;
 mod two;

@@ -1,24 +1,41 @@
 // Each device fails at each call.
-use super::{COUNT, TABLE_A, WORDS, run_on, shelf_of, sink_of, words_of};
+use super::{COUNT, COUNT_TWICE, TABLE_A, WORDS, run_on, shelf_of, sink_of, words_of};
 use crate::run::{run, run_settings};
 use command_words::{Call, options_of};
 use coop_outside::{MemDepot, SpoiltDepot};
 use cscan::NoGate;
 use relevance::Relevance;
+use scan_story::{Entry, Why};
+use std::alloc::Global;
 use std::hash::RandomState;
 use std::test::Fail;
 
-const COUNT_TWICE: &str = "SELECT COUNT(*) FROM t; SELECT COUNT(*) FROM t;";
+// The counts of faults that the story names, before and after each.
+fn faults(alloc: Global, story: &[Entry]) -> Result<Vec<(u64, u64)>, Fail> {
+    let mut all = Vec::new(alloc);
+    for entry in story {
+        if let Entry::Failed {
+            why: Why::Fault { before, after },
+            ..
+        } = *entry
+        {
+            all.push((before, after))?;
+        }
+    }
+    Ok(all)
+}
 
 #[test]
 fn each_get_fails_in_turn(rt: HostRuntime) -> Result<(), Fail> {
     let one = "refused 1: read fault\nquery 2\n5\n";
-    for (first, second, status, gets, output) in [
-        (1, 0, 1, 4, one),
-        (2, 0, 1, 4, one),
-        (3, 0, 1, 4, one),
-        (4, 0, 0, 3, "query 1\n5\nquery 2\n5\n"),
-        (1, 2, 1, 2, "refused 1: read fault\nrefused 2: read fault\n"),
+    let two = "refused 1: read fault\nrefused 2: read fault\n";
+    let rises = [(0, 1), (1, 2)];
+    for (first, second, status, gets, output, rose) in [
+        (1, 0, 1, 4, one, 1),
+        (2, 0, 1, 4, one, 1),
+        (3, 0, 1, 4, one, 1),
+        (4, 0, 0, 3, "query 1\n5\nquery 2\n5\n", 0),
+        (1, 2, 1, 2, two, 2),
     ] {
         let mut depot = MemDepot::new(rt.alloc());
         depot.fail_gets.push(first)?;
@@ -27,6 +44,8 @@ fn each_get_fails_in_turn(rt: HostRuntime) -> Result<(), Fail> {
         assert_eq!(rt; ended.status, status, "get {first}");
         assert_eq!(rt; ended.depot.gets, gets, "get {first}");
         assert_eq!(rt; taken.as_slice(), output.as_bytes(), "get {first}");
+        let told = faults(rt.alloc(), ended.story.as_slice())?;
+        assert_eq!(rt; told.as_slice(), &rises[..rose], "get {first}");
     }
     Ok(())
 }

@@ -1,6 +1,8 @@
 // Both layouts: the same answers, and what each of them reads.
-use super::{COUNT, SUMS, SUMS_PRINTED, TABLE_A, WORDS, run_on, wrong_case};
+use super::{SUMS, SUMS_PRINTED, TABLE_A, WORDS, run_on, wrong_case};
 use coop_outside::MemDepot;
+use scan_story::Entry;
+use std::alloc::Global;
 use std::test::Fail;
 
 const COLUMNS: &str = "--threads 1 --rows 2 --layout column a.csv b.sql";
@@ -30,7 +32,6 @@ fn answers_by_columns(rt: HostRuntime) -> Result<(), Fail> {
             0,
             "query 1\n2\n",
         ),
-        (COLUMNS, "id,dept,pay", COUNT, 0, "query 1\n0\n"),
         (
             COLUMNS,
             "v\n9223372036854775807\n1\n",
@@ -45,16 +46,101 @@ fn answers_by_columns(rt: HostRuntime) -> Result<(), Fail> {
             0,
             "query 1\nNULL, 4\n'x', 2\n",
         ),
-        (
-            COLUMNS,
-            TABLE_A,
-            "SELECT id, pay FROM t ORDER BY pay DESC, id LIMIT 3",
-            0,
-            "query 1\n4, 40\n2, 20\n1, 10\n",
-        ),
     ];
     assert_eq!(rt; wrong_case(&rt, rt.alloc(), cases.as_slice())?, 0);
     Ok(())
+}
+
+// Statements, and the first rows that they print.
+const ORDERED: [(&str, &str); 4] = [
+    (
+        "SELECT id, pay FROM t ORDER BY pay DESC, id LIMIT 3",
+        "query 1\n4, 40\n2, 20\n1, 10\n",
+    ),
+    ("SELECT id FROM t ORDER BY pay LIMIT 1", "query 1\n3\n"),
+    (
+        "SELECT dept FROM t WHERE id > 1 ORDER BY dept LIMIT 10",
+        "query 1\n'a'\n'b'\n'b'\n'c'\n",
+    ),
+    ("SELECT id FROM t LIMIT 0", "query 1\n"),
+];
+
+#[test]
+fn first_rows_in_an_order(rt: HostRuntime) -> Result<(), Fail> {
+    for words in [
+        WORDS,
+        "--threads 2 --rows 2 a.csv b.sql",
+        COLUMNS,
+        "--threads 1 --frames 4 --rows 2 --parts 2 a.csv b.sql",
+    ] {
+        for (statement, output) in ORDERED {
+            let cases = [(words, TABLE_A, statement, 0, output)];
+            assert_eq!(rt;
+                wrong_case(&rt, rt.alloc(), cases.as_slice())?,
+                0,
+                "{statement}"
+            );
+        }
+    }
+    Ok(())
+}
+
+#[test]
+fn a_sum_that_passes_64_bits_on_the_way(rt: HostRuntime) -> Result<(), Fail> {
+    let alloc = rt.alloc();
+    let table = "v\n9223372036854775807\n1\n-1\n";
+    for layout in ["row", "column"] {
+        for workers in 1..=2 {
+            for per in 1..=3 {
+                let words = format!(in alloc;
+                    "--threads {workers} --rows {per} --layout {layout} a.csv b.sql"
+                )?;
+                let (ended, taken) = run_on(
+                    &rt,
+                    alloc,
+                    words.as_str(),
+                    table,
+                    "SELECT SUM(v) FROM t",
+                    MemDepot::new(alloc),
+                )?;
+                assert_eq!(rt; ended.status, 0, "{workers} {per} {layout}");
+                assert_eq!(rt;
+                    taken.as_slice(),
+                    b"query 1\n9223372036854775807\n".as_slice(),
+                    "{workers} {per} {layout}"
+                );
+            }
+        }
+    }
+    Ok(())
+}
+
+#[test]
+fn a_table_without_rows(rt: HostRuntime) -> Result<(), Fail> {
+    let both = "SELECT COUNT(*) FROM t; SELECT dept, SUM(pay), COUNT(pay) FROM t GROUP BY dept;";
+    for words in [WORDS, COLUMNS] {
+        let depot = MemDepot::new(rt.alloc());
+        let (ended, taken) = run_on(&rt, rt.alloc(), words, "id,dept,pay\n", both, depot)?;
+        assert_eq!(rt; ended.status, 0, "{words}");
+        assert_eq!(rt; (ended.depot.puts, ended.depot.gets), (0, 0), "{words}");
+        assert_eq!(rt;
+            taken.as_slice(),
+            b"query 1\n0\nquery 2\n".as_slice(),
+            "{words}"
+        );
+    }
+    Ok(())
+}
+
+// The frames and pieces of the entries that tell of a read.
+fn filled(alloc: Global, story: &[Entry]) -> Result<Vec<(u32, u32)>, Fail> {
+    let mut all = Vec::new(alloc);
+    for entry in story {
+        if let Entry::Filled { frame, piece, .. } = *entry {
+            all.push((frame, piece))?;
+        }
+    }
+    Ok(all)
 }
 
 #[test]
@@ -89,6 +175,8 @@ fn what_is_read(rt: HostRuntime) -> Result<(), Fail> {
     assert_eq!(rt; ended.depot.puts, 9);
     assert_eq!(rt; ended.depot.gets, 3);
     assert_eq!(rt; taken.as_slice(), b"query 1\n65\n".as_slice());
+    let reads = filled(rt.alloc(), ended.story.as_slice())?;
+    assert_eq!(rt; reads.as_slice(), [(0, 2), (1, 5), (2, 8)].as_slice());
     let none = "SELECT COUNT(*) FROM t WHERE id > 9;";
     let (ended, _) = run_on(
         &rt,

@@ -26,21 +26,6 @@ fn refused_queries(rt: HostRuntime) -> Result<(), Fail> {
             1,
             "refused 1: too many items\nrefused 2: syntax\n",
         ),
-        (WORDS, TABLE_A, "SELECT 'a", 1, "refused 1: syntax\n"),
-        (
-            WORDS,
-            TABLE_A,
-            "SELECT COUNT(*) FROM t WHERE id = 9223372036854775808; SELECT COUNT(*) FROM t WHERE id = -9223372036854775808",
-            1,
-            "refused 1: syntax\nquery 2\n0\n",
-        ),
-        (
-            WORDS,
-            TABLE_A,
-            "SELECT zz, yy FROM t WHERE dept = 1",
-            1,
-            "refused 1: unknown column 'zz'\n",
-        ),
     ];
     assert_eq!(rt; wrong_case(&rt, rt.alloc(), cases.as_slice())?, 0);
     Ok(())
@@ -87,20 +72,6 @@ fn runs_that_stop(rt: HostRuntime) -> Result<(), Fail> {
             "stopped 3: row 2 has 1 fields\n",
         ),
         (
-            WORDS,
-            "a,b,b,a\n",
-            COUNT,
-            3,
-            "stopped 3: columns 1 and 2 have one name\n",
-        ),
-        (
-            WORDS,
-            "a,b,c,d,e,f,g,h,i,j,k,l,m,n,o,p,q\n",
-            COUNT,
-            3,
-            "stopped 3: 17 columns\n",
-        ),
-        (
             "--rows 1 gen:1:1025 b.sql",
             "",
             COUNT,
@@ -122,11 +93,11 @@ fn runs_that_stop(rt: HostRuntime) -> Result<(), Fail> {
             "stopped 4: batch read fault\n",
         ),
         (
-            "--threads 1 --frames 3 c.csv b.sql",
+            "--threads 1 --frames 3 --rows 2 a.csv b.sql",
             TABLE_A,
             COUNT,
-            4,
-            "stopped 4: table read fault\n",
+            8,
+            "stopped 8: 4 frames needed\n",
         ),
         (
             "--threads 1 --frames 3 --rows 2 a.csv c.sql",

@@ -1,10 +1,9 @@
 // The stories of runs with one worker, and the chunks that their scans took.
-use super::{COUNT, SUMS, SUMS_PRINTED, TABLE_A, WORDS, run_on};
+use super::{COUNT, COUNT_TWICE, SUMS, SUMS_PRINTED, TABLE_A, WORDS, run_on};
 use batch_run::Taken;
 use coop_outside::MemDepot;
+use scan_story::Entry;
 use std::test::Fail;
-
-const COUNT_TWICE: &str = "SELECT COUNT(*) FROM t; SELECT COUNT(*) FROM t;";
 
 const ONE_COUNT: &str = "query 1
 5
@@ -193,12 +192,9 @@ fn one_query_in_two_parts(rt: HostRuntime) -> Result<(), Fail> {
     )?;
     assert_eq!(rt; ended.status, 0);
     assert_eq!(rt; taken.as_slice(), SUMS_PRINTED.as_bytes());
-    let [one, other] = ended.taken.as_slice() else {
-        assert!(rt; false);
-        return Ok(());
-    };
-    assert_eq!(rt; (one.part, one.worker, one.chunks.len()), (0, 0, 2));
-    assert_eq!(rt; (other.part, other.worker, other.chunks.len()), (1, 1, 1));
+    let first: (u32, u32, u32, &[u32]) = (1, 0, 0, &[0, 2]);
+    let second: (u32, u32, u32, &[u32]) = (1, 1, 1, &[1]);
+    assert!(rt; are_taken(&ended.taken, &[first, second]));
     let alone = "--threads 1 --frames 4 --rows 2 --parts 2 a.csv b.sql";
     let (ended, taken) = run_on(
         &rt,
@@ -225,6 +221,11 @@ fn a_part_that_meets_a_fault(rt: HostRuntime) -> Result<(), Fail> {
     assert_eq!(rt; ended.status, 1);
     assert_eq!(rt; ended.depot.gets, 3);
     assert_eq!(rt; taken.as_slice(), b"refused 1: read fault\n".as_slice());
+    let ends = Entry::End {
+        worker: 0,
+        query: 2,
+    };
+    assert!(rt; ended.story.contains(&ends));
     Ok(())
 }
 

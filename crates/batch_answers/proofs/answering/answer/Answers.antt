@@ -13,6 +13,7 @@ use Rattle.batch_answers.proofs.Given.{plans-of-table}
 use Rattle.batch_answers.proofs.Losing.{lost_by}
 use Rattle.batch_answers.proofs.Parting.{each-answer, each-task, joined-parted, scans-few, tasks-rise, zip-length}
 use Rattle.batch_answers.proofs.answering.answer.Goals as goal
+use Rattle.batch_answers.proofs.answering.answer.Goals.{After-drop-answers}
 
 pub run_batch-requires-clause-plans : goal.run_batch-requires-clause-plans
 run_batch-requires-clause-plans g c κs within =
@@ -57,13 +58,20 @@ returns-in-Ok-join-clause-answered g c =
       written = written;
     }
 
-pub returns-in-Err-join-clause-unanswered : goal.returns-in-Err-join-clause-unanswered
-returns-in-Err-join-clause-unanswered g c =
+-- what the workers did, where there was no memory for the statements behind them
+worked-unjoined : (g : _) (c : After-drop-answers g) → IsWorked c.args.inputs (work (g.P.Policy.name c.args.policy) (g.P.Policy.cursor c.args.policy) (depot_at (g.D.Depot.held c.args.depot) (g.D.Depot.gets c.args.depot) (g.D.Depot.faults c.args.depot))
+    (depot_at (g.D.Depot.held c.in-Ok-run_batch.end.depot) (g.D.Depot.gets c.in-Ok-run_batch.end.depot) (g.D.Depot.faults c.in-Ok-run_batch.end.depot)) c.in-Ok-run_batch.end.story.items c.in-Ok-run_batch.end.taken.items)
+worked-unjoined g c =
     let i = c.args.inputs in
-    let os = i.outcomes.items in
     let end = c.in-Ok-run_batch.end in
     let told = c.in-Ok-run_batch.ensures in
-    let tasks : c.deref.result.now ≡ tasks_in 1 os = c.deref.ensures.value ∙ c.in-Ok.ensures.tasks in
+    let tasks : c.deref.result.now ≡ tasks_in 1 i.outcomes.items = c.deref.ensures.value ∙ c.in-Ok.ensures.tasks in
     let w = work (g.P.Policy.name c.args.policy) (g.P.Policy.cursor c.args.policy) (depot_at (g.D.Depot.held c.args.depot) (g.D.Depot.gets c.args.depot) (g.D.Depot.faults c.args.depot))
     (depot_at (g.D.Depot.held end.depot) (g.D.Depot.gets end.depot) (g.D.Depot.faults end.depot)) end.story.items end.taken.items in
-    inl (record { stop_is = refl; when = inr (is-worked i w c.requires.can (rw tasks at told.story) (rw tasks at told.taken) (rw tasks at told.took) told.stored) })
+    is-worked i w c.requires.can (rw tasks at told.story) (rw tasks at told.taken) (rw tasks at told.took) told.stored
+
+pub returns-in-Err-join-clause-unanswered : goal.returns-in-Err-join-clause-unanswered
+returns-in-Err-join-clause-unanswered g c = inl (record { stop_is = refl; when = inr (worked-unjoined g c) })
+
+pub returns-in-Err-join-clause-worked : goal.returns-in-Err-join-clause-worked
+returns-in-Err-join-clause-worked g c = worked-unjoined g c

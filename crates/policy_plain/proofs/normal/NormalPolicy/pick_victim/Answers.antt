@@ -1,9 +1,14 @@
-use Rattle.std.proofs.Common.{◌≡◌, refl, arith}
+use Rattle.std.proofs.Common.{◌≡◌, ◌<◌, ℕ, List, refl, sym, subst, arith}
+use Rattle.std.specs.List.{All}
 use Rattle.scan_story.specs.Numbers.{close}
 use Rattle.scan_story.specs.Policies.{place_in}
 use Rattle.policy_picks.proofs.Leading.{fittest_is}
 use Rattle.policy_plain.proofs.Picking.{normal_victim}
+use Rattle.policy_plain.proofs.Using.{uses_small}
 use Rattle.policy_plain.proofs.normal.NormalPolicy.pick_victim.Goals as goal
+
+pub places_in-places-requires-clause-small : goal.places_in-places-requires-clause-small
+places_in-places-requires-clause-small c = subst (λ (xs : List ℕ). All (λ (c : ℕ). c < 1024) xs) (sym c.deref.ensures.0) (uses_small c.args.self.now.used.items c.args.self.now.uses)
 
 pub returns-clause-picks : goal.returns-clause-picks
 returns-clause-picks c = λ s h st.

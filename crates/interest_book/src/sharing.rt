@@ -1,0 +1,51 @@
+//! Who counts for the overlaps of a query, looked up once for many chunks.
+use crate::book::Book;
+use crate::query_set::QuerySet;
+
+/// The active and the starved queries that read a group that one query reads.
+#[derive(Drop)]
+pub struct Sharing {
+    pub(crate) active: QuerySet,
+    pub(crate) starved: QuerySet,
+}
+
+/// How many active queries need a chunk and read a piece of it that one query reads, and how many of these are starved.
+#[derive(Clone, Copy, Debug, PartialEq, Eq)]
+pub struct Overlaps {
+    pub active: u32,
+    pub starved: u32,
+}
+
+impl Book {
+    ghost use Rattle.std.specs.Prelude.{◌≡◌, ◌≤◌, ℕ};
+    ghost use Rattle.scan_story.specs.declared.setting.Setting.{Setting};
+    ghost use Rattle.scan_story.specs.Views.{History};
+    ghost use Rattle.interest_book.specs.Sharing.{IsSharing, overlaps};
+    ghost use Rattle.interest_book.specs.Stands.{Stands};
+
+    /// The queries that count for the overlaps of the query, with whatever chunk.
+    pub fn sharing(&self, q: u32) -> Sharing
+        requires { q ≤ 256 }
+        ensures { (s : Setting) (h : History) → Stands self.now s h → IsSharing s h q result }
+    {
+        self.clients.among(&self.sharers[q as usize])
+    }
+
+    /// The `overlap` and the `starved_overlap` with the chunk, of the query whose sharing this is; each at most 320.
+    pub fn overlaps(&self, sharing: &Sharing, c: u32) -> Overlaps
+        ensures number { (s : Setting) (h : History) (q : ℕ) → Stands self.now s h → IsSharing s h q sharing.now → result ≡ overlaps s h q c }
+        ensures few_active { result.active ≤ 320 }
+        ensures few_starved { result.starved ≤ 320 }
+    {
+        if c >= self.chunks {
+            return Overlaps {
+                active: 0,
+                starved: 0,
+            };
+        }
+        Overlaps {
+            active: self.clients.needing(&sharing.active, c),
+            starved: self.clients.needing(&sharing.starved, c),
+        }
+    }
+}

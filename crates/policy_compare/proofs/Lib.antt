@@ -1,0 +1,6 @@
+pub mod Small
+pub mod Counting
+pub mod Joining
+pub mod Chain
+pub mod Meaning
+pub mod Ends

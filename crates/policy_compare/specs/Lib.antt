@@ -1,0 +1,6 @@
+pub mod Lines
+pub mod Policies
+pub mod Runs
+pub mod Next
+pub mod Comparing
+pub mod Joined

@@ -1,0 +1,19 @@
+//! Policies compared: one batch over one table, run with each policy in turn, and a line for each run.
+//!
+//! docs/POLICIES.md tells the rules.
+#![tactic(auto)]
+
+mod compared;
+mod comparing;
+mod ending;
+mod handed;
+mod lines;
+mod made;
+mod policy_run;
+mod single;
+#[cfg(test)]
+mod tests;
+
+pub use compared::Compared;
+pub use comparing::compare;
+pub use policy_run::PolicyRun;
