@@ -13,7 +13,7 @@ use coop_outside::Depot;
 use cscan::Gate;
 use csv_load::{Loaded, load};
 use piece_format::{Layout, Shape, frame_words, groups};
-use relevance::Relevance;
+use relevance::{Policy, Relevance};
 use sql_bind::{Plan, plan_of};
 use std::alloc::Global;
 use std::hash::RandomState;
@@ -141,7 +141,7 @@ fn expect_options(
     Ok(())
 }
 
-// A batch that starts, or why it doesn't.
+// A batch that starts under relevance, or why it doesn't.
 pub(crate) fn run<R: Abort + Threads + Wait + Sync, D: Depot + Send, T: Gate + Sync>(
     rt: &R,
     alloc: Global,
@@ -154,13 +154,37 @@ pub(crate) fn run<R: Abort + Threads + Wait + Sync, D: Depot + Send, T: Gate + S
 ) -> Result<Result<BatchEnd<D>, BatchRefusal>, Fail>
     requires { D.gets depot ≤ 2 ^ 63 }
 {
+    run_under(
+        rt, alloc, keys, text, statements, options, depot, Relevance, gate,
+    )
+}
+
+// The same under a policy.
+pub(crate) fn run_under<
+    R: Abort + Threads + Wait + Sync,
+    P: Policy,
+    D: Depot + Send,
+    T: Gate + Sync,
+>(
+    rt: &R,
+    alloc: Global,
+    keys: RandomState,
+    text: &[u8],
+    statements: &[&[u8]],
+    options: Options,
+    depot: D,
+    policy: P,
+    gate: &T,
+) -> Result<Result<BatchEnd<D>, BatchRefusal>, Fail>
+    requires { D.gets depot ≤ 2 ^ 63 }
+{
     let loaded = load_text(rt, alloc, keys, text)?;
     let tasks = tasks_of(rt, alloc, &loaded, statements, options.parts)?;
     assert!(rt; options.per >= 1 && options.per <= 16384);
     assert!(rt; loaded.table.len() <= 1000);
     assert!(rt; chunk_count(loaded.table.len() as u32, options.per) <= 1024);
     expect_options(rt, alloc, &loaded, &options)?;
-    match run_batch(rt, alloc, loaded, &tasks, &options, depot, Relevance, gate) {
+    match run_batch(rt, alloc, loaded, &tasks, &options, depot, policy, gate) {
         Ok(end) => Ok(Ok(end)),
         Err((_, refusal)) => Ok(Err(refusal)),
     }
