@@ -424,19 +424,6 @@ fn an_empty_chunk_has_no_truth(rt: HostRuntime) -> Result<(), Fail> {
             set_of(b'N', false),
             "{op:?} AND"
         );
-        let or = either(
-            alloc,
-            compare(0, op, 1),
-            Cond::IsNull {
-                column: 1,
-                negated: false,
-            },
-        )?;
-        assert_eq!(rt;
-            possible(&rt, &or, &chunk),
-            set_of(b'N', false),
-            "{op:?} OR"
-        );
     }
     Ok(())
 }
