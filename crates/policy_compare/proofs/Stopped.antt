@@ -12,7 +12,6 @@ use Rattle.scan_story.specs.Setting.{AreDistinct, need_of}
 use Rattle.scan_story.specs.Spent.{stopped_queries}
 use Rattle.scan_story.specs.Views.{History, is_stopped}
 use Rattle.story_laws.proofs.Bools.{same_number}
-use Rattle.story_laws.proofs.Sums.{found_query}
 use Rattle.batch_answers.proofs.Asked.{only_asked}
 use Rattle.batch_answers.proofs.Dealt.{not_stopped}
 use Rattle.policy_compare.specs.Lines.{stops}
