@@ -1,4 +1,6 @@
 // Runs with policies in boxes, by the worked examples.
+ghost use Rattle.std.specs.Prelude.{◌≤◌, IfOk, length};
+
 use super::{COUNT, TABLE_A, WORDS, shelf_of, sink_of, words_of};
 use crate::boxed::run_boxed;
 use crate::boxed_end::BoxedEnd;
