@@ -1,5 +1,5 @@
 -- What a comparison comes to, from what was read and from its runs, and what follows from it.
-use Rattle.std.proofs.Common.{◌≡◌, ◌≢◌, ◌∙◌, ◌≤◌, ◌++◌, ◌∷◌, [], ℕ, true, false, length, List, Option, Some, None, Result, Ok, Err, arith, refl, sym, ap, subst, inl, inr}
+use Rattle.std.proofs.Common.{◌≡◌, ◌≢◌, ◌∙◌, ◌∷◌, [], ℕ, true, false, length, List, Option, Some, Result, Ok, Err, arith, refl, sym, ap, subst, inl, inr}
 use Rattle.std.specs.Prelude.{◌⊎◌, ◌==◌, IfOk, map}
 use Rattle.std.proofs.lemmas.Bool.Decides.{nat_tests}
 use Rattle.command_words.specs.Options.{Request}
@@ -14,9 +14,9 @@ use Rattle.batch_answers.specs.Deciding.{shown}
 use Rattle.batch_answers.specs.Devices.{DepotAt, OverShelf}
 use Rattle.batch_answers.specs.Running.{Text}
 use Rattle.batch_answers.specs.declared.output.Output.{Output}
-use Rattle.policy_compare.specs.Comparing.{AreRuns, Compares, IsCompared, followed}
+use Rattle.policy_compare.specs.Comparing.{AreRuns, Compares, IsCompared}
 use Rattle.policy_compare.specs.Joined.{joined_story}
-use Rattle.policy_compare.specs.Lines.{line_of, lines_of}
+use Rattle.policy_compare.specs.Lines.{lines_of}
 use Rattle.policy_compare.specs.Policies.{PolicyAt}
 use Rattle.policy_compare.specs.Runs.{IsHindered}
 use Rattle.policy_compare.specs.declared.policy_run.PolicyRun.{PolicyRun}

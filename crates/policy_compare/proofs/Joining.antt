@@ -1,5 +1,5 @@
 -- The stories of runs, joined.
-use Rattle.std.proofs.Common.{◌≡◌, ◌∙◌, ◌≤◌, ◌+◌, ◌++◌, ◌∷◌, [], ℕ, Bool, List, Option, None, Some, Result, Ok, Err, arith, refl, sym, ap, subst, inl, inr, ◌⊎◌}
+use Rattle.std.proofs.Common.{◌≡◌, ◌∙◌, ◌≤◌, ◌+◌, ◌++◌, ◌∷◌, [], ℕ, Bool, List, Option, None, Some, Result, Ok, Err, arith, refl, sym, ap, subst, inl, inr}
 use Rattle.std.specs.Prelude.{is_some, max}
 use Rattle.std.proofs.lemmas.List.{append-nil, reverse-append}
 use Rattle.command_words.specs.Options.{Request}

@@ -1,5 +1,6 @@
 pub mod Small
 pub mod Counting
+pub mod Stopped
 pub mod Joining
 pub mod Chain
 pub mod Meaning

@@ -4,7 +4,7 @@ use Rattle.csv_rows.specs.Judged.{Fields}
 use Rattle.table_core.specs.declared.schema.Column.{Column}
 use Rattle.query_answers.specs.declared.answer.Answer.{Answer}
 use Rattle.batch_texts.specs.Answers.{printed}
-use Rattle.batch_texts.specs.Printed.{output, status}
+use Rattle.batch_texts.specs.Printed.{status}
 use Rattle.batch_texts.specs.declared.outcome.Outcome.{Outcome}
 use Rattle.batch_texts.proofs.Prints.{print_each}
 use Rattle.batch_inputs.specs.declared.inputs.Inputs.{Inputs}

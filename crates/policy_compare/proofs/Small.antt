@@ -1,6 +1,6 @@
 -- What a run is given is small: a run's story has few entries, and its scans have small numbers.
-use Rattle.std.proofs.Common.{◌≡◌, ◌∙◌, ◌≤◌, ◌<◌, ◌+◌, ◌-◌, ◌*◌, ◌++◌, ◌==◌, ◌∷◌, [], ℕ, zero, suc, Bool, true, false, List, Option, Some, None, length, arith, refl, sym, ap, cond, subst}
-use Rattle.std.specs.Prelude.{map, All, find, if◌then◌else◌}
+use Rattle.std.proofs.Common.{◌≡◌, ◌≤◌, ◌<◌, ◌+◌, ◌-◌, ◌*◌, ◌++◌, ◌==◌, ◌∷◌, [], ℕ, zero, suc, Bool, true, false, List, Option, Some, None, length, arith, refl, ap, cond, subst}
+use Rattle.std.specs.Prelude.{map, find, if◌then◌else◌}
 use Rattle.std.specs.List.{AllByRecursion}
 use Rattle.std.proofs.lemmas.List.{length-map, length-append}
 use Rattle.std.proofs.lemmas.List.Elements.{recursion_from_All}
@@ -21,7 +21,7 @@ use Rattle.scan_story.specs.Legal.{Legal}
 use Rattle.scan_story.specs.Setting.{need_of}
 use Rattle.scan_story.specs.Spent.{reads}
 use Rattle.scan_story.specs.Views.{History, is_stopped, past}
-use Rattle.story_laws.specs.Bounds.{IsShort, capacity_for, sizes}
+use Rattle.story_laws.specs.Bounds.{capacity_for, sizes}
 use Rattle.story_laws.specs.Lists.{sum_among}
 use Rattle.story_laws.proofs.Sums.{found_query}
 use Rattle.batch_plan.specs.declared.task.Task.{Task}

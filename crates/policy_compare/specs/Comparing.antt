@@ -1,5 +1,5 @@
 -- What a comparison of policies comes to.
-use Rattle.std.specs.Prelude.{◌≡◌, ◌≢◌, ◌⊎◌, ◌++◌, ℕ, max, List, [], ◌∷◌, Option, Some, None, Result, Ok, Err}
+use Rattle.std.specs.Prelude.{◌≡◌, ◌≢◌, ◌⊎◌, ◌++◌, ℕ, max, List, [], ◌∷◌, Option, None, Result, Ok, Err}
 use Rattle.command_words.specs.Options.{Request}
 use Rattle.run_texts.specs.declared.stop.Stop.{Stop}
 use Rattle.run_texts.specs.declared.stop.Stop.TheVariants as stop

@@ -1,5 +1,5 @@
 -- How a run changes what was made before it.
-use Rattle.std.specs.Prelude.{◌≡◌, ◌⊎◌, ◌++◌, ℕ, max, List, [], ◌∷◌, Result, Ok, Err}
+use Rattle.std.specs.Prelude.{◌≡◌, ◌⊎◌, ◌++◌, ℕ, max, List, [], ◌∷◌, Result, Err}
 use Rattle.run_texts.specs.declared.stop.Stop.{Stop}
 use Rattle.run_texts.specs.declared.stop.Stop.TheVariants as stop
 use Rattle.batch_inputs.specs.declared.inputs.Inputs.{Inputs}

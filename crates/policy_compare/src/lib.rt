@@ -7,6 +7,7 @@ mod compared;
 mod comparing;
 mod ending;
 mod handed;
+mod laws;
 mod lines;
 mod made;
 mod policy_run;
@@ -16,4 +17,5 @@ mod tests;
 
 pub use compared::Compared;
 pub use comparing::compare;
+pub use laws::stops_are_stopped_queries;
 pub use policy_run::PolicyRun;

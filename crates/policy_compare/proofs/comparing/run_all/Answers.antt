@@ -1,4 +1,4 @@
-use Rattle.std.proofs.Common.{◌≡◌, ◌∙◌, ◌∷◌, [], length, refl, sym, ap, inl, arith}
+use Rattle.std.proofs.Common.{◌∙◌, length, refl, sym, ap, inl, arith}
 use Rattle.std.specs.Prelude.{Some}
 use Rattle.command_words.specs.Views.{request_view}
 use Rattle.batch_answers.proofs.Given.{can-run}

@@ -1,10 +1,7 @@
 use Rattle.std.proofs.Common.{◌≡◌, ◌∙◌, ◌++◌, ◌∷◌, [], refl, ap, inl, inr, arith}
 use Rattle.run_texts.specs.declared.stop.Stop.TheVariants as stop
 use Rattle.scan_story.specs.Views.{past}
-use Rattle.batch_answers.specs.Devices.{depot_at}
 use Rattle.policy_compare.specs.Lines.{counted, line_of}
-use Rattle.policy_compare.specs.Policies.{policy_at}
-use Rattle.policy_compare.specs.Runs.{IsCutOff, IsMade}
 use Rattle.policy_compare.proofs.Small.{stopped_small}
 use Rattle.policy_compare.proofs.made.run_next.Goals as goal
 
