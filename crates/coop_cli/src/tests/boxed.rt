@@ -154,23 +154,42 @@ fn all_rows_are_counted_under_relevance(rt: HostRuntime) -> Result<(), Fail> {
     Ok(())
 }
 
+// Whether a run with these policies is refused as usage, with nothing done.
+fn is_refused<R: RandomSource + Threads + Wait + Sync>(
+    rt: &R,
+    alloc: Global,
+    policies: Boxes,
+    line: &str,
+) -> Result<bool, Fail>
+    requires few { length policies.items ≤ 16 }
+{
+    let (ended, written) = run_on(rt, alloc, policies, line, TABLE_A, COUNT)?;
+    let is_told = written.as_slice() == b"stopped 2: usage\n".as_slice();
+    Ok(ended.status == 2 && ended.runs.is_empty() && is_told)
+}
+
 #[test]
 fn a_policy_that_is_not_there(rt: HostRuntime) -> Result<(), Fail> {
-    let unknown = "--policy fast --threads 1 a.csv b.sql";
-    let missing = "--policy normal --threads 1 a.csv b.sql";
+    let alloc = rt.alloc();
+    let unknown = is_refused(
+        &rt,
+        alloc,
+        four(alloc)?,
+        "--policy fast --threads 1 a.csv b.sql",
+    )?;
+    assert!(rt; unknown);
+    let missing = is_refused(
+        &rt,
+        alloc,
+        two(alloc)?,
+        "--policy normal --threads 1 a.csv b.sql",
+    )?;
+    assert!(rt; missing);
     // the list has no relevance, which stands where no policy is named
-    let unnamed = "--threads 1 a.csv b.sql";
-    for (boxes, words) in [
-        (four(rt.alloc())?, unknown),
-        (two(rt.alloc())?, missing),
-        (two(rt.alloc())?, unnamed),
-        (Vec::new(rt.alloc()), unnamed),
-    ] {
-        let (ended, written) = run_on(&rt, rt.alloc(), boxes, words, TABLE_A, COUNT)?;
-        assert_eq!(rt; ended.status, 2);
-        assert!(rt; ended.runs.is_empty());
-        assert_eq!(rt; written.as_slice(), b"stopped 2: usage\n".as_slice());
-    }
+    let unnamed = is_refused(&rt, alloc, two(alloc)?, "--threads 1 a.csv b.sql")?;
+    assert!(rt; unnamed);
+    let of_none = is_refused(&rt, alloc, Vec::new(alloc), "--threads 1 a.csv b.sql")?;
+    assert!(rt; of_none);
     Ok(())
 }
 
