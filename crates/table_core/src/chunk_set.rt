@@ -1,11 +1,13 @@
 // A set of chunks.
 ghost use Rattle.std.specs.Prelude.{◌≡◌, ◌<◌, ◌≤◌, ◌*◌, ◌&&◌, ◌||◌, ◌==◌, ℕ, [], List, IfNone, IfSome, length, not, false};
 ghost use Rattle.table_core.specs.Sets.{AreMembers, IsLeastFrom, bit_of, has, numbers_below};
+ghost use Rattle.table_core.specs.declared.limits.TheConstants.{MOST_CHUNKS};
 
+use crate::limits::MOST_CHUNKS;
 use crate::words::count_members;
 use std::marker::Model;
 
-/// A set of numbers below 1024, seen as the rising list of its members.
+/// A set of numbers of chunks, each below `MOST_CHUNKS`, seen as the rising list of its members.
 ///
 /// It is a fixed array of bits, and none of its calls takes memory.
 #[derive(Debug, Drop)]
@@ -16,7 +18,7 @@ pub struct ChunkSet {
 impl Model for ChunkSet {
     ghost Value = { List ℕ };
 
-    ghost view = { λ s. numbers_below (bit_of s.words) 1024 };
+    ghost view = { λ s. numbers_below (bit_of s.words) MOST_CHUNKS };
 }
 
 impl ChunkSet {
@@ -34,16 +36,16 @@ impl ChunkSet {
         ChunkSet { words: self.words }
     }
 
-    /// Whether the number is a member. A number from 1024 on is none.
+    /// Whether the number is a member. A number from `MOST_CHUNKS` on is none.
     pub fn has(&self, c: u32) -> bool
         ensures { result ≡ has self.now c }
     {
-        c < 1024 && self.words[(c / 64) as usize] >> (c % 64) & 1 == 1
+        c < MOST_CHUNKS && self.words[(c / 64) as usize] >> (c % 64) & 1 == 1
     }
 
     /// Makes the number a member.
     pub fn insert(&mut self, c: u32)
-        requires { c < 1024 }
+        requires { c < MOST_CHUNKS }
         ensures { (x : ℕ) → has self.new x ≡ (has self.old x || x == c) }
     {
         self.words[(c / 64) as usize] |= 1 << (c % 64);
@@ -51,7 +53,7 @@ impl ChunkSet {
 
     /// Makes the number no member.
     pub fn remove(&mut self, c: u32)
-        requires { c < 1024 }
+        requires { c < MOST_CHUNKS }
         ensures { (x : ℕ) → has self.new x ≡ (has self.old x && not (x == c)) }
     {
         self.words[(c / 64) as usize] &= !(1 << (c % 64));
@@ -60,7 +62,7 @@ impl ChunkSet {
     /// How many members there are.
     pub fn len(&self) -> u32
         ensures len { result ≡ length self.now }
-        ensures members { AreMembers 1024 self.now }
+        ensures members { AreMembers MOST_CHUNKS self.now }
     {
         count_members(&self.words)
     }
@@ -71,7 +73,7 @@ impl ChunkSet {
         ensures least { IfSome result (λ m. IsLeastFrom self.now c m) }
     {
         let mut from = c;
-        while from < 1024 {
+        while from < MOST_CHUNKS {
             let word = self.words[(from / 64) as usize] >> (from % 64);
             if word != 0 {
                 return Some(from + word.trailing_zeros());

@@ -1,10 +1,12 @@
 // A set of columns.
 ghost use Rattle.std.specs.Prelude.{◌≡◌, ◌<◌, ◌≤◌, ◌*◌, ◌&&◌, ◌||◌, ◌==◌, ℕ, [], List, IfNone, IfSome, length, not, false};
 ghost use Rattle.table_core.specs.Sets.{AreMembers, bit_of, has, numbers_below};
+ghost use Rattle.table_core.specs.declared.limits.TheConstants.{MOST_COLUMNS};
 
+use crate::limits::MOST_COLUMNS;
 use std::marker::Model;
 
-/// A set of numbers below 16, seen as the rising list of its members.
+/// A set of numbers of columns, each below `MOST_COLUMNS`, seen as the rising list of its members.
 ///
 /// It is a fixed array of bits, and none of its calls takes memory.
 #[derive(Debug, Drop)]
@@ -15,7 +17,7 @@ pub struct ColumnSet {
 impl Model for ColumnSet {
     ghost Value = { List ℕ };
 
-    ghost view = { λ s. numbers_below (bit_of s.words) 16 };
+    ghost view = { λ s. numbers_below (bit_of s.words) MOST_COLUMNS };
 }
 
 impl ColumnSet {
@@ -33,16 +35,16 @@ impl ColumnSet {
         ColumnSet { words: self.words }
     }
 
-    /// Whether the number is a member. A number from 16 on is none.
+    /// Whether the number is a member. A number from `MOST_COLUMNS` on is none.
     pub fn has(&self, c: u32) -> bool
         ensures { result ≡ has self.now c }
     {
-        c < 16 && self.words[(c / 64) as usize] >> (c % 64) & 1 == 1
+        c < MOST_COLUMNS && self.words[(c / 64) as usize] >> (c % 64) & 1 == 1
     }
 
     /// Makes the number a member.
     pub fn insert(&mut self, c: u32)
-        requires { c < 16 }
+        requires { c < MOST_COLUMNS }
         ensures { (x : ℕ) → has self.new x ≡ (has self.old x || x == c) }
     {
         self.words[(c / 64) as usize] |= 1 << (c % 64);
@@ -51,7 +53,7 @@ impl ColumnSet {
     /// How many members there are.
     pub fn len(&self) -> u32
         ensures len { result ≡ length self.now }
-        ensures members { AreMembers 16 self.now }
+        ensures members { AreMembers MOST_COLUMNS self.now }
     {
         (self.words[0] % 65536).count_ones()
     }

@@ -84,8 +84,8 @@ impl Dict {
             return self.put(text);
         }
         match self.texts.get(len - 1).cmp(&text) {
-            Ordering::Equal => return Ok((len - 1) as u32),
-            Ordering::Less => return self.put(text),
+            Ordering::Equal => Ok((len - 1) as u32),
+            Ordering::Less => self.put(text),
             Ordering::Greater => unreachable!(),
         }
     }

@@ -25,7 +25,7 @@ pub struct Column {
 
 /// The columns of a table from left to right, seen as their list.
 ///
-/// It is made from a vector and gives it back without taking memory.
+/// It is made from a vector without taking memory.
 #[derive(Debug, Drop)]
 pub struct Schema {
     pub columns: Vec<Column>,
@@ -43,14 +43,6 @@ impl Schema {
         ensures { result ≡ columns.items }
     {
         Schema { columns }
-    }
-
-    /// The vector of these columns.
-    pub fn into_columns(self) -> Vec<Column>
-        ensures { result.items ≡ self }
-    {
-        let Schema { columns } = self;
-        columns
     }
 
     /// The columns themselves.
