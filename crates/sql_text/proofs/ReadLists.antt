@@ -4,7 +4,7 @@ use Rattle.sql_tokens.specs.declared.refusal.TextRefusal.{TextRefusal}
 use Rattle.sql_tokens.specs.declared.refusal.TextRefusal.TheVariants as refusal
 use Rattle.sql_text.specs.declared.word.Sign.TheVariants.{Comma}
 use Rattle.sql_text.specs.Grammar.{Token, Symbol, list_tokens}
-use Rattle.sql_text.specs.Reading.{Read, Fails, ◌>>=◌, choose, after_sign, list_at, all_at}
+use Rattle.sql_text.specs.Reading.{Read, Takes, Fails, ◌>>=◌, choose, after_sign, list_at, all_at}
 use Rattle.sql_text.proofs.Tokens.{bind_ok, choose_ok, no_some, some_pair, sign_is}
 
 seen : {A : Type 0} (o : Option A) → (o ≡ None) ⊎ ((x : A) × (o ≡ Some x))
@@ -25,7 +25,7 @@ follow thing done us = choose (after_sign Comma us) (Some (done, us)) (λ vs. pr
 
 -- ---- a thing that takes a token at least
 
-module _ {A : Type 0} (thing : List Token → Read A) (takes : (ts us : List Token) (a : A) → thing ts ≡ Some (a, us) → length us < length ts) where
+module _ {A : Type 0} (thing : List Token → Read A) (takes : Takes thing) where
   nothing : thing [] ≡ None
   nothing = elim (seen (thing [])) [
     | inl e ↦ e
@@ -121,7 +121,7 @@ module _ {A : Type 0} (thing : List Token → Read A) (takes : (ts us : List Tok
 abbrev pub Found : {A B : Type 0} → (List Token → Read A) → (B → List Token) → (B → A) → Type 0
 Found {A = A} {B = B} thing f g = (ts us : List Token) (a : A) → thing ts ≡ Some (a, us) → (b : B) × (f b ++ us ≡ ts) × (g b ≡ a)
 
-pub found_takes : {A B : Type 0} (thing : List Token → Read A) (f : B → List Token) (g : B → A) → ((b : B) → 0 < length (f b)) → Found thing f g → (ts us : List Token) (a : A) → thing ts ≡ Some (a, us) → length us < length ts
+pub found_takes : {A B : Type 0} (thing : List Token → Read A) (f : B → List Token) (g : B → A) → ((b : B) → 0 < length (f b)) → Found thing f g → Takes thing
 found_takes thing f g some found ts us a e =
     let r = found ts us a e in
     let z : length (f r.0 ++ us) ≡ length ts = ap length r.1 in

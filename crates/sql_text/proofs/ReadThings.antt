@@ -7,7 +7,7 @@ use Rattle.sql_text.specs.declared.query.QItem.{QItem}
 use Rattle.sql_text.specs.declared.query.QItem.TheVariants as item
 use Rattle.sql_text.specs.declared.query.QOrder.{QOrder}
 use Rattle.sql_text.specs.Grammar.{Token, Key, Symbol, Column, OrderText, bare, ascending, descending, item_tokens, column_tokens, order_tokens, order_of}
-use Rattle.sql_text.specs.Reading.{Read, ◌>>=◌, after_key, after_sign, column_at, inside_at, star_at, count_at, keyed_item, item_at, direction_at, order_at}
+use Rattle.sql_text.specs.Reading.{Read, Takes, ◌>>=◌, after_key, after_sign, column_at, inside_at, star_at, count_at, keyed_item, item_at, direction_at, order_at}
 use Rattle.sql_text.proofs.Tokens.{bind_ok, choose_ok, no_some, some_pair, key_is, sign_is, column_is}
 use Rattle.sql_text.proofs.ReadLists.{Found, found_takes}
 
@@ -125,11 +125,11 @@ order_read (descending c) us h = refl
 
 -- ---- each takes a token at least
 
-pub item_takes : (ts us : List Token) (i : QItem) → item_at ts ≡ Some (i, us) → length us < length ts
+pub item_takes : Takes item_at
 item_takes = found_takes item_at item_tokens (λ i. i) item_some item_found
 
-pub column_takes : (ts us : List Token) (c : List ℕ) → column_at ts ≡ Some (c, us) → length us < length ts
+pub column_takes : Takes column_at
 column_takes = found_takes column_at column_tokens (λ c. c) column_some column_found
 
-pub order_takes : (ts us : List Token) (o : QOrder) → order_at ts ≡ Some (o, us) → length us < length ts
+pub order_takes : Takes order_at
 order_takes = found_takes order_at order_tokens order_of order_some order_found

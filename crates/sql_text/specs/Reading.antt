@@ -1,6 +1,7 @@
 -- Reading from left to right: what each function of the reader gives. It reads just what the grammar has, as the clauses
 -- of `read_query` say.
-use Rattle.std.specs.Prelude.{◌≡◌, ℕ, zero, suc, ◌^◌, Bool, true, false, if◌then◌else◌, ◌&&◌, nat_le, nat_lt, List, [], ◌∷◌, length, Option, Some, None, Result, Ok, Err, ℤ, pos, neg_ℤ, option_and_then}
+use Rattle.std.specs.Prelude.{◌≡◌, ◌<◌, ℕ, zero, suc, ◌^◌, Bool, true, false, if◌then◌else◌, ◌&&◌, nat_le, nat_lt, List, [], ◌∷◌, length, Option, Some, None, Result, Ok, Err, ℤ, pos, neg_ℤ, option_and_then}
+use Rattle.std.specs.List.{list_all}
 use Rattle.std.specs.Borrow.{Bor}
 use denote.Enum.Bare.{sameb}
 use Rattle.sql_tokens.specs.declared.keyword.Keyword.{Keyword}
@@ -66,6 +67,10 @@ choose (Some a) none some = some a
 -- What is read, and the tokens behind it.
 abbrev pub Read : Type 0 → Type 0
 Read A = Option (A × List Token)
+
+-- each thing that is read takes a token at least
+abbrev pub Takes : {A : Type 0} → (List Token → Read A) → Type 0
+Takes {A} thing = (ts us : List Token) (a : A) → thing ts ≡ Some (a, us) → length us < length ts
 
 abbrev pub rest_seen : Option (Bor (List Word)) → Option (List Token)
 rest_seen None = None
@@ -249,8 +254,7 @@ is_plain (item.Plain c) = true
 is_plain _ = false
 
 abbrev pub all_plain : List QItem → Bool
-all_plain [] = true
-all_plain (i ∷ is) = is_plain i && all_plain is
+all_plain items = list_all is_plain items
 
 abbrev pub joined : List QItem → List ℕ → Option Tree → TailTree → QueryTree
 joined items table c tail = record { items = items; table = table; cond = c; keys = tail.keys; order = tail.order; limit = tail.limit }

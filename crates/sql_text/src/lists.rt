@@ -1,8 +1,9 @@
 // Reads lists with a comma between their things.
 
-ghost use Rattle.std.specs.Prelude.{◌≡◌};
+ghost use Rattle.std.specs.Prelude.{◌≡◌, List};
 ghost use Rattle.sql_text.specs.Reading as spec;
-ghost use Rattle.sql_text.specs.Reading.{Gives};
+ghost use Rattle.sql_text.specs.Grammar.{Token};
+ghost use Rattle.sql_text.specs.Reading.{Gives, Read, Takes};
 ghost use Rattle.sql_text.specs.Words.{tokens_of};
 
 use crate::query::{QItem, QOrder};
@@ -11,6 +12,18 @@ use crate::word::{Sign, Word};
 use sql_tokens::{Keyword, TextRefusal};
 use std::alloc::Global;
 use table_core::Bytes;
+
+/// A thing of a list: an item, a name or an order.
+pub trait Listed: Drop + Sized {
+    ghost thing_at: { List Token → Read Self };
+
+    /// The thing that comes first, and what stands behind it.
+    fn read<'a, 'b>(
+        alloc: Global,
+        words: &'a [Word<'b>],
+    ) -> Result<(Self, &'a [Word<'b>]), TextRefusal>
+        ensures { Gives (λ x. (x.0, tokens_of x.1.now)) result (thing_at (tokens_of words.now)) };
+}
 
 /// A name in parentheses.
 fn inside_at<'a, 'b>(
@@ -79,17 +92,30 @@ fn keyed_item<'a, 'b>(
     }
 }
 
-fn item_at<'a, 'b>(
-    alloc: Global,
-    words: &'a [Word<'b>],
-) -> Result<(QItem, &'a [Word<'b>]), TextRefusal>
-    ensures { Gives (λ x. (x.0, tokens_of x.1.now)) result (spec.item_at (tokens_of words.now)) }
-{
-    if let [Word::Key(keyword), rest @ ..] = words {
-        return keyed_item(alloc, *keyword, rest);
+impl Listed for QItem {
+    ghost thing_at = { spec.item_at };
+
+    fn read<'a, 'b>(
+        alloc: Global,
+        words: &'a [Word<'b>],
+    ) -> Result<(QItem, &'a [Word<'b>]), TextRefusal> {
+        if let [Word::Key(keyword), rest @ ..] = words {
+            return keyed_item(alloc, *keyword, rest);
+        }
+        let (name, rest) = name_at(alloc, words)?;
+        Ok((QItem::Plain(name), rest))
     }
-    let (name, rest) = name_at(alloc, words)?;
-    Ok((QItem::Plain(name), rest))
+}
+
+impl Listed for Bytes {
+    ghost thing_at = { spec.column_at };
+
+    fn read<'a, 'b>(
+        alloc: Global,
+        words: &'a [Word<'b>],
+    ) -> Result<(Bytes, &'a [Word<'b>]), TextRefusal> {
+        name_at(alloc, words)
+    }
 }
 
 /// `ASC`, `DESC` or nothing: whether it is descending, and what stands behind.
@@ -105,67 +131,34 @@ fn direction_at<'a, 'b>(words: &'a [Word<'b>]) -> (bool, &'a [Word<'b>])
     }
 }
 
-fn order_at<'a, 'b>(
-    alloc: Global,
-    words: &'a [Word<'b>],
-) -> Result<(QOrder, &'a [Word<'b>]), TextRefusal>
-    ensures { Gives (λ x. (x.0, tokens_of x.1.now)) result (spec.order_at (tokens_of words.now)) }
-{
-    let (column, rest) = name_at(alloc, words)?;
-    let (descending, rest) = direction_at(rest);
-    Ok((QOrder { column, descending }, rest))
+impl Listed for QOrder {
+    ghost thing_at = { spec.order_at };
+
+    fn read<'a, 'b>(
+        alloc: Global,
+        words: &'a [Word<'b>],
+    ) -> Result<(QOrder, &'a [Word<'b>]), TextRefusal> {
+        let (column, rest) = name_at(alloc, words)?;
+        let (descending, rest) = direction_at(rest);
+        Ok((QOrder { column, descending }, rest))
+    }
 }
 
-/// Items with a comma between them, and what stands behind.
-pub fn items_at<'a, 'b>(
+/// Things with a comma between them, and what stands behind.
+pub fn all_at<'a, 'b, T: Listed>(
     alloc: Global,
     words: &'a [Word<'b>],
-) -> Result<(Vec<QItem>, &'a [Word<'b>]), TextRefusal>
-    ensures { Gives (λ x. (x.0.items, tokens_of x.1.now)) result (spec.all_at spec.item_at (tokens_of words.now)) }
+) -> Result<(Vec<T>, &'a [Word<'b>]), TextRefusal>
+    requires takes { Takes T.thing_at }
+    ensures { Gives (λ x. (x.0.items, tokens_of x.1.now)) result (spec.all_at T.thing_at (tokens_of words.now)) }
 {
-    let mut items = Vec::new(alloc);
-    let (first, mut left) = item_at(alloc, words)?;
-    items.push(first)?;
+    let mut things = Vec::new(alloc);
+    let (first, mut left) = T::read(alloc, words)?;
+    things.push(first)?;
     while let Some(more) = after_sign(Sign::Comma, left) {
-        let (item, rest) = item_at(alloc, more)?;
-        items.push(item)?;
+        let (thing, rest) = T::read(alloc, more)?;
+        things.push(thing)?;
         left = rest;
     }
-    Ok((items, left))
-}
-
-/// Names with a comma between them, and what stands behind.
-pub fn columns_at<'a, 'b>(
-    alloc: Global,
-    words: &'a [Word<'b>],
-) -> Result<(Vec<Bytes>, &'a [Word<'b>]), TextRefusal>
-    ensures { Gives (λ x. (x.0.items, tokens_of x.1.now)) result (spec.all_at spec.column_at (tokens_of words.now)) }
-{
-    let mut columns = Vec::new(alloc);
-    let (first, mut left) = name_at(alloc, words)?;
-    columns.push(first)?;
-    while let Some(more) = after_sign(Sign::Comma, left) {
-        let (column, rest) = name_at(alloc, more)?;
-        columns.push(column)?;
-        left = rest;
-    }
-    Ok((columns, left))
-}
-
-/// Orders with a comma between them, and what stands behind.
-pub fn orders_at<'a, 'b>(
-    alloc: Global,
-    words: &'a [Word<'b>],
-) -> Result<(Vec<QOrder>, &'a [Word<'b>]), TextRefusal>
-    ensures { Gives (λ x. (x.0.items, tokens_of x.1.now)) result (spec.all_at spec.order_at (tokens_of words.now)) }
-{
-    let mut orders = Vec::new(alloc);
-    let (first, mut left) = order_at(alloc, words)?;
-    orders.push(first)?;
-    while let Some(more) = after_sign(Sign::Comma, left) {
-        let (order, rest) = order_at(alloc, more)?;
-        orders.push(order)?;
-        left = rest;
-    }
-    Ok((orders, left))
+    Ok((things, left))
 }

@@ -11,7 +11,7 @@ ghost use Rattle.sql_tokens.specs.declared.refusal.TextRefusal.TheVariants.{Memo
 
 use crate::condition::QCond;
 use crate::conditions::where_at;
-use crate::lists::items_at;
+use crate::lists::all_at;
 use crate::literals::value;
 use crate::query::{QItem, Query};
 use crate::steps::{after_key, name_at};
@@ -36,16 +36,10 @@ fn is_plain(item: &QItem) -> bool
     matches!(item, QItem::Plain(_))
 }
 
-fn all_plain(mut items: &[QItem]) -> bool
-    ensures { result ≡ spec.all_plain items.entry.now }
+fn all_plain(items: &[QItem]) -> bool
+    ensures { result ≡ spec.all_plain items.now }
 {
-    while let [item, rest @ ..] = items {
-        if !is_plain(item) {
-            return false;
-        }
-        items = rest;
-    }
-    true
+    items.iter().all(is_plain)
 }
 
 /// The items, the table's name and what stands behind.
@@ -58,7 +52,7 @@ fn head_at<'a, 'b>(
     let Some(rest) = after_key(Keyword::Select, words) else {
         return Err(TextRefusal::Syntax);
     };
-    let (items, rest) = items_at(alloc, rest)?;
+    let (items, rest) = all_at(alloc, rest)?;
     let Some(rest) = after_key(Keyword::From, rest) else {
         return Err(TextRefusal::Syntax);
     };
@@ -109,10 +103,7 @@ fn within_limits(parts: Parsed<'_>) -> Result<Query, TextRefusal>
         return Err(TextRefusal::TooManyItems);
     }
     let limit = match limit {
-        Some(digits) => match limit_of(digits) {
-            Some(n) => Some(n),
-            None => return Err(TextRefusal::TooManyItems),
-        },
+        Some(digits) => Some(limit_of(digits).ok_or(TextRefusal::TooManyItems)?),
         None => None,
     };
     Ok(Query {

@@ -5,7 +5,7 @@ ghost use Rattle.sql_text.specs.Reading as spec;
 ghost use Rattle.sql_text.specs.Reading.{Gives, tail_of};
 ghost use Rattle.sql_text.specs.Words.{tokens_of};
 
-use crate::lists::{columns_at, orders_at};
+use crate::lists::all_at;
 use crate::query::QOrder;
 use crate::steps::after_key;
 use crate::word::Word;
@@ -28,7 +28,7 @@ fn grouped_at<'b>(alloc: Global, words: &[Word<'b>]) -> Result<Tail<'b>, TextRef
     let Some(rest) = after_key(Keyword::By, words) else {
         return Err(TextRefusal::Syntax);
     };
-    let (keys, rest) = columns_at(alloc, rest)?;
+    let (keys, rest) = all_at(alloc, rest)?;
     match rest {
         [] => Ok(Tail {
             keys,
@@ -62,7 +62,7 @@ fn ordered_at<'b>(alloc: Global, words: &[Word<'b>]) -> Result<Tail<'b>, TextRef
     let Some(rest) = after_key(Keyword::By, words) else {
         return Err(TextRefusal::Syntax);
     };
-    let (order, rest) = orders_at(alloc, rest)?;
+    let (order, rest) = all_at(alloc, rest)?;
     match after_key(Keyword::Limit, rest) {
         Some(rest) => limited_at(alloc, order, rest),
         None => Err(TextRefusal::Syntax),
