@@ -2,3 +2,4 @@ mod Keeps
 mod Endings
 pub mod Turns
 mod Writers
+pub mod Zips

@@ -1,5 +1,5 @@
 //! An example: workers that write into one diary, each in a thread of its own.
-ghost use Rattle.std.specs.Prelude.{◌≡◌, ◌+◌, ◌≤◌, ◌++◌, ◌∷◌, [], All, IfOk, OnOk, OnErr, vec_len, vec_capacity};
+ghost use Rattle.std.specs.Prelude.{◌≡◌, ◌+◌, ◌<◌, ◌≤◌, ◌++◌, ◌∷◌, [], All, IfOk, OnOk, OnErr, length, vec_len, vec_capacity};
 ghost use Rattle.std.specs.List.{AllZip};
 ghost use Rattle.scan_story.specs.Makers.{maker_of, entries_by};
 ghost use Rattle.scan_story.specs.declared.entry.Entry.TheVariants.{Register};
@@ -11,8 +11,8 @@ use scan_story::{Entry, Memory, Origin, Storied};
 use std::alloc::Global;
 use std::marker::{Model, PhantomData};
 use std::sync::Wait;
+use std::thread;
 use std::thread::Threads;
-use workers::{Serve, serve_list};
 
 /// A state whose story is all that it has. Contracts see its entries.
 #[derive(Drop)]
@@ -124,16 +124,6 @@ pub struct Writer<S: Origin> {
     pub pass: Pass<Diary<S>>,
 }
 
-impl<S: Origin> Serve<Baton<Diary<S>>> for Writer<S> {
-    ghost ready = { λ baton w. IsReady baton w };
-
-    ghost served = { λ baton v w. HasWritten v w };
-
-    fn serve<R: Wait>(&mut self, rt: &R, shared: &Baton<Diary<S>>) {
-        write_notes(rt, shared, self);
-    }
-}
-
 // Takes the writer's turns, as long as there is memory, and notes a chunk in each.
 fn write_notes<S: Origin, R: Wait>(rt: &R, baton: &Baton<Diary<S>>, writer: &mut Writer<S>)
     requires { IsReady baton.now writer.old }
@@ -150,6 +140,28 @@ fn write_notes<S: Origin, R: Wait>(rt: &R, baton: &Baton<Diary<S>>, writer: &mut
         }
         writer.done += 1;
     }
+}
+
+// Lets all writers take their turns at once, each in a thread of its own as far as there are threads.
+fn write_all<S: Origin + Send + Sync, R: Threads + Wait + Sync>(
+    rt: &R,
+    baton: &Baton<Diary<S>>,
+    writers: &mut [Writer<S>],
+)
+    requires some { 0 < length writers.old }
+    requires ready { All (IsReady baton.now) writers.old }
+    ensures { AllZip HasWritten writers.old writers.new }
+{
+    let threads = writers.len();
+    thread::for_each_mut(
+        rt,
+        writers,
+        threads,
+        &|_, writer|
+            requires { IsReady baton.now writer.now }
+            ensures { HasWritten writer.entry.now writer.exit.now }
+        { write_notes(rt, baton, writer) },
+    );
 }
 
 /// Writers in a thread each: the diary, and beside each writer's number how many turns it took. The diary has just each
@@ -176,8 +188,8 @@ pub fn write_at_once<S: Origin + Send + Sync, R: Threads + Wait + Sync>(
         Ok(made) => made,
         Err((_, Memory)) => return Err(Memory),
     };
-    let writers = seated(&baton, passes, writers, turns);
-    let writers = serve_list(rt, &baton, writers);
+    let mut writers = seated(&baton, passes, writers, turns);
+    write_all(rt, &baton, writers.as_mut_slice());
     let (passes, counts) = unseated(&baton, writers, back, counts);
     let diary = baton.finish(rt, passes);
     Ok((diary.into_entries(), counts))

@@ -1,7 +1,7 @@
 use Rattle.std.proofs.Common.{◌≡◌, ◌+◌, Some, vec_len, sym, arith}
 use Rattle.std.proofs.lemmas.List.Elements.{All-pop}
-use Rattle.workers.proofs.Sides.{AllZip-parts}
 use Rattle.baton.specs.Diaries.{IsDone, IsLeft}
+use Rattle.baton.proofs.Zips.{zip_pushed}
 use Rattle.baton.proofs.example.unseated.Goals as goal
 
 pub loop-writer-preserved : goal.loop-writer-preserved
@@ -16,5 +16,5 @@ loop-writer-preserved g c =
       omega (arith, c.push_reserved-in-Some.ensures.len, c.push_reserved-in-Some.ensures.capacity),
       omega (arith, c.push_reserved.ensures.len),
       omega (arith, c.push_reserved-in-Some.ensures.len),
-      AllZip-parts (IsLeft id) _ _ _ _ _ _ c.push_reserved.ensures.items c.push_reserved-in-Some.ensures.items i.5 (here, tt),
+      zip_pushed (IsLeft id) _ _ _ _ _ _ c.push_reserved.ensures.items c.push_reserved-in-Some.ensures.items i.5 here,
     )
