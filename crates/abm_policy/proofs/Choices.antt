@@ -16,7 +16,7 @@ use Rattle.scan_story.specs.Legal.{Legal, Chosen, cursor_at}
 use Rattle.story_laws.proofs.Bools.{and_both, below, not_both}
 use Rattle.story_laws.proofs.Proper.{target_parts}
 use Rattle.story_laws.proofs.Laws.{always_a_far_victim}
-use Rattle.interest_book.proofs.Needs.{need_small, has_need, is_need}
+use Rattle.chunk_interest.proofs.Needs.{need_small, has_need, is_need}
 use Rattle.abm_policy.specs.Loads.{IsUnbegun}
 
 pub query_candidate : (name : PolicyName) (cursor : List ℕ) (s : Setting) (h : History) (q : ℕ) → BestQuery name cursor s h q → is_trigger s h q ≡ true

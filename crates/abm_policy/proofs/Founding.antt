@@ -11,8 +11,9 @@ use Rattle.scan_story.specs.Views.{History, past}
 use Rattle.scan_story.specs.Loads.{underway}
 use Rattle.scan_story.specs.Legal.{Legal, cursor_at}
 use Rattle.interest_book.specs.declared.book.Book.{Book}
-use Rattle.interest_book.specs.declared.need.Need.{Need}
-use Rattle.interest_book.specs.Fresh.{as_need, made_for, IsMadeFor}
+use Rattle.chunk_interest.specs.declared.need.Need.{Need}
+use Rattle.chunk_interest.specs.Fresh.{as_need}
+use Rattle.interest_book.specs.Made.{made_for, IsMadeFor}
 use Rattle.interest_book.specs.Stands.{Stands}
 use Rattle.story_laws.specs.Bounds.{capacity_for}
 use Rattle.story_laws.proofs.Laws.{all_room_new}

@@ -4,8 +4,8 @@ use Rattle.std.proofs.lemmas.List.{take_more, take_all, length-map}
 use Rattle.scan_story.specs.declared.setting.Setting.{Setting}
 use Rattle.story_laws.specs.Lists.{sum_among}
 use Rattle.story_laws.specs.Bounds.{sizes, capacity_for}
-use Rattle.interest_book.specs.declared.need.Need.{Need}
-use Rattle.interest_book.specs.Fresh.{as_need}
+use Rattle.chunk_interest.specs.declared.need.Need.{Need}
+use Rattle.chunk_interest.specs.Fresh.{as_need}
 
 -- how many chunks these needs have together
 abbrev pub wanted : List Need → ℕ

@@ -5,7 +5,7 @@ use Rattle.scan_story.specs.declared.setting.Setting.{Setting}
 use Rattle.scan_story.specs.Setting.{pieces_read}
 use Rattle.scan_story.specs.Views.{History, is_framed, is_wholly_framed}
 use Rattle.story_laws.proofs.Bools.{and_both, not_both}
-use Rattle.interest_book.specs.Frames.{IsPlace}
+use Rattle.chunk_interest.specs.Frames.{IsPlace}
 use Rattle.abm_policy.specs.Turns.{StandIn}
 
 all_at : (t : ℕ → Bool) (ps : List ℕ) (i : ℕ) → list_all t ps ≡ true → i < length ps → t (get_or ps i 0) ≡ true

@@ -9,8 +9,8 @@ use Rattle.scan_story.specs.Views.{past}
 use Rattle.scan_story.specs.Loads.{underway}
 use Rattle.scan_story.specs.Legal.{Legal, cursor_at}
 use Rattle.interest_book.specs.declared.book.Book.{Book}
-use Rattle.interest_book.specs.declared.need.Need.{Need}
-use Rattle.interest_book.specs.Fresh.{as_need}
+use Rattle.chunk_interest.specs.declared.need.Need.{Need}
+use Rattle.chunk_interest.specs.Fresh.{as_need}
 use Rattle.interest_book.specs.Stands.{Stands}
 use Rattle.story_laws.specs.Bounds.{HasAllRoom}
 use Rattle.abm_policy.specs.Depots.{DepotView, HasDepot}

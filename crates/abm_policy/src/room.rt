@@ -3,7 +3,7 @@ ghost use Rattle.std.specs.Prelude.{◌≡◌, ◌+◌, ◌*◌, ◌≤◌, map}
 ghost use Rattle.scan_story.specs.declared.setting.Setting.{Setting};
 ghost use Rattle.scan_story.specs.Setting.{IsSetting};
 ghost use Rattle.story_laws.specs.Bounds.{capacity_for};
-ghost use Rattle.interest_book.specs.Fresh.{as_need};
+ghost use Rattle.chunk_interest.specs.Fresh.{as_need};
 
 use interest_book::Need;
 use scan_story::capacity;

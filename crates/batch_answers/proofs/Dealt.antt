@@ -21,7 +21,7 @@ use Rattle.story_laws.specs.Lists.{NoneTwice}
 use Rattle.story_laws.specs.Queries.{chunks_delivered}
 use Rattle.story_laws.proofs.Bools.{either, not_both, or_off}
 use Rattle.story_laws.proofs.Lists.{rising_once}
-use Rattle.interest_book.specs.Fresh.{as_need}
+use Rattle.chunk_interest.specs.Fresh.{as_need}
 use Rattle.query_parts.specs.Deal.{deal, dealt_to, is_dealt}
 use Rattle.query_parts.proofs.Dealt.{all_dealt}
 use Rattle.batch_plan.specs.Scans.{Scan, need_of, needs, scan_number, scan_of, scans, scans_from, scans_from_part}

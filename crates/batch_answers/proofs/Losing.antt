@@ -10,7 +10,7 @@ use Rattle.scan_story.specs.declared.setting.Need as asked
 use Rattle.scan_story.specs.Causes.{cause_of}
 use Rattle.scan_story.specs.Setting as setting
 use Rattle.scan_story.specs.Views.{History}
-use Rattle.interest_book.specs.Fresh.{as_need}
+use Rattle.chunk_interest.specs.Fresh.{as_need}
 use Rattle.query_answers.specs.declared.answer.Answer.{Answer}
 use Rattle.query_answers.specs.declared.answer.Answer.TheVariants as answer
 use Rattle.batch_plan.specs.Scans.{Scan, need_of, needs, scan_number, scan_of, scans, scans_from, scans_from_part}

@@ -17,7 +17,7 @@ use Rattle.scan_story.specs.declared.setting.Need as asked
 use Rattle.scan_story.specs.declared.setting.PolicyName.{PolicyName}
 use Rattle.scan_story.specs.declared.setting.Setting.{Setting}
 use Rattle.scan_story.specs.Setting.{IsSetting, IsNeed, IsRising, AreColumns, AreDistinct}
-use Rattle.interest_book.specs.Fresh.{as_need}
+use Rattle.chunk_interest.specs.Fresh.{as_need}
 use Rattle.query_parts.specs.Deal as dealing
 use Rattle.query_parts.specs.Deal.{deal, is_dealt}
 use Rattle.batch_plan.specs.declared.task.Task.{Task}

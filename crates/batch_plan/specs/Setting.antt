@@ -2,7 +2,7 @@
 use Rattle.std.specs.Prelude.{◌≡◌, ◌<◌, ◌≤◌, ◌*◌, ◌+◌, ℕ, All, List, IfSome, length, map}
 use Rattle.scan_story.specs.declared.setting.PolicyName.{PolicyName}
 use Rattle.scan_story.specs.declared.setting.Setting.{Setting}
-use Rattle.interest_book.specs.Fresh.{as_need}
+use Rattle.chunk_interest.specs.Fresh.{as_need}
 use Rattle.table_core.specs.Sets.{Rising}
 use Rattle.piece_format.specs.Shape.{TableShape, IsShape, chunks, groups}
 use Rattle.filter_zones.specs.declared.zone.ChunkZones.{ChunkZones}

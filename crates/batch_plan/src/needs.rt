@@ -10,8 +10,8 @@ ghost use Rattle.batch_plan.specs.Setting.{IsBatch, batch_setting};
 
 use crate::options::Options;
 use crate::task::Task;
+use chunk_interest::Need;
 use filter_zones::{ChunkZones, needed};
-use interest_book::Need;
 use piece_format::Shape;
 use query_parts::deal;
 use std::alloc::Global;

@@ -24,8 +24,8 @@ use Rattle.scan_story.specs.Setting.{HasRoom, IsSetting}
 use Rattle.scan_story.specs.Spent.{reads}
 use Rattle.scan_story.specs.Views.{is_ended, past}
 use Rattle.story_laws.proofs.Laws.{ended_are_not_stopped}
-use Rattle.interest_book.specs.Fresh.{as_need}
-use Rattle.interest_book.specs.declared.need.Need.{Need}
+use Rattle.chunk_interest.specs.Fresh.{as_need}
+use Rattle.chunk_interest.specs.declared.need.Need.{Need}
 use Rattle.abm_policy.specs.Depots.{Agrees, DepotView}
 use Rattle.abm_policy.specs.Sound.{setting_of, start_of}
 use Rattle.piece_format.specs.Cells.{IsTableOf}

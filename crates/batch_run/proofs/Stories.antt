@@ -21,7 +21,7 @@ use Rattle.scan_story.specs.Views.{History, is_ended, is_stopped, past}
 use Rattle.story_laws.specs.Queries.{chunks_delivered}
 use Rattle.story_laws.proofs.Bools.{equal_number, other_number, or_false}
 use Rattle.story_laws.proofs.Laws.{delivered_once_each, ended_took_all}
-use Rattle.interest_book.specs.Fresh.{as_need}
+use Rattle.chunk_interest.specs.Fresh.{as_need}
 use Rattle.cscan.proofs.Stories.{delivered_append}
 use Rattle.query_parts.specs.Deal.{deal, is_dealt}
 use Rattle.batch_plan.specs.Scans.{Scan, need_of, needs}

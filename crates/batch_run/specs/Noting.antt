@@ -2,7 +2,7 @@
 use Rattle.std.specs.Prelude.{◌≡◌, ◌<◌, ◌≤◌, ◌+◌, ◌-◌, ◌*◌, ◌/◌, ◌%◌, ◌++◌, ◌∷◌, ◌==◌, ℕ, List, [], length, vec_capacity, if◌then◌else◌}
 use Rattle.scan_story.specs.declared.entry.Entry.{Entry}
 use Rattle.story_laws.specs.Queries.{chunks_delivered}
-use Rattle.interest_book.specs.declared.need.Need.{Need}
+use Rattle.chunk_interest.specs.declared.need.Need.{Need}
 use Rattle.batch_plan.specs.Scans.{scan_number}
 use Rattle.batch_run.specs.declared.taken.Taken.{Taken}
 

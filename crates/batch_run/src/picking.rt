@@ -15,9 +15,9 @@ ghost use Rattle.batch_run.specs.Picked.{HoldsSomeTable, content_of};
 
 use batch_plan::{Options, Task};
 use batch_scans::{ScansEnd, run_scans};
+use chunk_interest::Need;
 use coop_outside::Depot;
 use cscan::Gate;
-use interest_book::Need;
 use piece_format::Shape;
 use relevance::Policy;
 use scan_story::Memory;

@@ -19,7 +19,7 @@ ghost use Rattle.batch_run.specs.Noting.{IsOpened};
 use crate::taken::Taken;
 use crate::takings::takings_of;
 use batch_plan::{Options, Task, needs_of};
-use interest_book::Need;
+use chunk_interest::Need;
 use piece_format::Shape;
 use query_answers::Answer;
 use std::alloc::Global;

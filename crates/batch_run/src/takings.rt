@@ -5,7 +5,7 @@ ghost use Rattle.batch_run.specs.Noting.{HasRoomFor, IsNamed, IsOpened, NotesAll
 
 use crate::taken::Taken;
 use batch_plan::scan_number;
-use interest_book::Need;
+use chunk_interest::Need;
 use scan_story::Entry;
 use std::alloc::Global;
 use table_core::Memory;

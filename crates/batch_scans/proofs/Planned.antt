@@ -8,8 +8,8 @@ use Rattle.scan_story.specs.Counting.{has}
 use Rattle.scan_story.specs.Setting.{AreDistinct, IsSetting, columns_in, need_of, worker_in}
 use Rattle.story_laws.specs.Lists.{NoneTwice}
 use Rattle.story_laws.proofs.Bools.{either, equal_number, if_here, if_not, if_other, not_both, or_off, same_number}
-use Rattle.interest_book.specs.declared.need.Need as asked
-use Rattle.interest_book.specs.Fresh.{as_need}
+use Rattle.chunk_interest.specs.declared.need.Need as asked
+use Rattle.chunk_interest.specs.Fresh.{as_need}
 use Rattle.piece_format.specs.Shape.{TableShape, IsShape}
 use Rattle.sql_bind.specs.declared.plan.Plan.{Plan}
 use Rattle.multi_scan.specs.Rows.{IsPlanOfShape}

@@ -6,7 +6,7 @@ use Rattle.scan_story.specs.declared.origin.Start.{Start}
 use Rattle.scan_story.specs.Views.{past, is_ended}
 use Rattle.scan_story.specs.Causes.{cause_of}
 use Rattle.story_laws.specs.Queries.{chunks_delivered}
-use Rattle.interest_book.specs.declared.need.Need.{Need}
+use Rattle.chunk_interest.specs.declared.need.Need.{Need}
 use Rattle.frame_pool.specs.Frames.{Told}
 use Rattle.piece_format.specs.Shape.{TableShape}
 use Rattle.sql_bind.specs.declared.plan.Plan.{Plan}

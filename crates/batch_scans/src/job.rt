@@ -6,7 +6,7 @@ ghost use Rattle.batch_scans.specs.Came.{IsNeedOf};
 ghost use Rattle.batch_scans.specs.Jobs.{IsJobOf};
 
 use batch_plan::Task;
-use interest_book::Need;
+use chunk_interest::Need;
 use scan_story::Memory;
 use sql_bind::Plan;
 use std::alloc::Global;

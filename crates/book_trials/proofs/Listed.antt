@@ -9,10 +9,10 @@ use Rattle.scan_story.specs.declared.setting.Need as asked
 use Rattle.scan_story.specs.Counting.{has}
 use Rattle.scan_story.specs.Setting.{IsRising, AreDistinct}
 use Rattle.table_core.specs.Sets.{Rising}
-use Rattle.interest_book.specs.declared.need.Need.{Need}
-use Rattle.interest_book.specs.Fresh.{as_need}
-use Rattle.interest_book.proofs.Below.{equal_number, other_number, true_false, either}
-use Rattle.interest_book.proofs.Counting.{above_start}
+use Rattle.chunk_interest.specs.declared.need.Need.{Need}
+use Rattle.chunk_interest.specs.Fresh.{as_need}
+use Rattle.chunk_interest.proofs.Below.{equal_number, other_number, true_false, either}
+use Rattle.chunk_interest.proofs.Counting.{above_start}
 
 -- Rising numbers
 

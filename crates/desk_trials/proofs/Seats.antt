@@ -9,7 +9,7 @@ use Rattle.scan_story.specs.declared.setting.Setting.{Setting}
 use Rattle.scan_story.specs.Setting.{worker_of}
 use Rattle.scan_story.specs.Views.{History, past, registers, is_ended, is_registered, held_by}
 use Rattle.scan_story.proofs.Prefixes.{past_next}
-use Rattle.interest_book.proofs.Below.{other_number}
+use Rattle.chunk_interest.proofs.Below.{other_number}
 use Rattle.interest_book.proofs.Holding.{delivered_other, released_other}
 use Rattle.abm_policy.specs.Turns.{RunsOn}
 use Rattle.desk_trials.specs.declared.seat.Seat.{Seat}

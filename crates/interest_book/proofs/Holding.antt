@@ -7,7 +7,7 @@ use Rattle.scan_story.specs.declared.entry.Entry.TheVariants.{Deliver, Release}
 use Rattle.scan_story.specs.declared.view.Hold.{Hold}
 use Rattle.scan_story.specs.Views.{History, held_by}
 use Rattle.interest_book.specs.Held.{AreHolds}
-use Rattle.interest_book.proofs.Below.{equal_number, other_number}
+use Rattle.chunk_interest.proofs.Below.{equal_number, other_number}
 
 pub holds_set : (e : Entry) (h : History) (hs : List (Option Hold)) (w : ℕ) (o : Option Hold) → ((v : ℕ) → v ≢ w → held_by (e ∷ h) v ≡ held_by h v) → held_by (e ∷ h) w ≡ o → w < length hs
     → AreHolds h hs → AreHolds (e ∷ h) (set hs w o)

@@ -10,8 +10,8 @@ use Rattle.scan_story.specs.Views.{History, is_available}
 use Rattle.scan_story.specs.MayFollow.{Allowed, is_ready}
 use Rattle.interest_book.specs.declared.book.Book.{Book}
 use Rattle.interest_book.specs.Stands.{Stands, MayFollow}
-use Rattle.interest_book.proofs.Needs.{worker_within, has_need, need_small}
-use Rattle.interest_book.proofs.Kept.{Keeps, keeps, target_inside, victim_inside, active_registered, starved_active}
+use Rattle.chunk_interest.proofs.Needs.{worker_within, has_need, need_small}
+use Rattle.chunk_interest.proofs.Kept.{Keeps, keeps, target_inside, victim_inside, active_registered, starved_active}
 
 few : (b : Book) (s : Setting) (h : History) → Stands b s h → length h < 2 ^ 63 - 1 → b.noted < 2 ^ 63 - 1
 few b s h st short = subst (λ (n : ℕ). n < 2 ^ 63 - 1) st.noted short

@@ -6,9 +6,9 @@ use Rattle.scan_story.specs.declared.setting.Need as asked
 use Rattle.scan_story.specs.declared.setting.Setting.{Setting}
 use Rattle.scan_story.specs.Counting.{count_among, count_below}
 use Rattle.scan_story.specs.Setting.{IsNeed, AreDistinct}
-use Rattle.interest_book.proofs.Below.{equal_number, other_number}
-use Rattle.interest_book.proofs.Counting.{count_add}
-use Rattle.interest_book.proofs.Below.{count_none}
+use Rattle.chunk_interest.proofs.Below.{equal_number, other_number}
+use Rattle.chunk_interest.proofs.Counting.{count_add}
+use Rattle.chunk_interest.proofs.Below.{count_none}
 
 -- the query is one of these needs'
 abbrev pub is_named : List asked.Need → ℕ → Bool

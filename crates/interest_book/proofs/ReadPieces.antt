@@ -9,13 +9,13 @@ use Rattle.scan_story.specs.declared.setting.Setting.{Setting}
 use Rattle.scan_story.specs.Counting.{has}
 use Rattle.scan_story.specs.Setting.{IsSetting, IsRising, groups_read, reads_group, pieces_read}
 use Rattle.scan_story.specs.Views.{History, is_framed}
-use Rattle.interest_book.specs.declared.frame.Frame.{Frame}
-use Rattle.interest_book.specs.Frames.{place_at}
-use Rattle.interest_book.specs.Buffers.{AreFrames}
+use Rattle.chunk_interest.specs.declared.frame.Frame.{Frame}
+use Rattle.chunk_interest.specs.Frames.{place_at}
+use Rattle.chunk_interest.specs.Buffers.{AreFrames}
 use Rattle.interest_book.specs.Placed.{read_below, unplaced}
-use Rattle.interest_book.proofs.Below.{other_number}
-use Rattle.interest_book.proofs.Needs.{groups_rise}
-use Rattle.interest_book.proofs.Counting.{placed_is}
+use Rattle.chunk_interest.proofs.Below.{other_number}
+use Rattle.chunk_interest.proofs.Needs.{groups_rise}
+use Rattle.chunk_interest.proofs.Counting.{placed_is}
 
 -- the members of a rising list below a number
 

@@ -10,17 +10,17 @@ use Rattle.scan_story.specs.Setting.{IsSetting, groups_read, piece_at, chunk_of}
 use Rattle.scan_story.specs.Views.{History, piece_in, is_framed, is_wholly_framed, needs_chunk, is_available}
 use Rattle.scan_story.specs.MayFollow.{MayFilled}
 use Rattle.scan_story.proofs.Chunks.{evict_keeps}
-use Rattle.interest_book.specs.declared.frame.Frame.{Frame}
-use Rattle.interest_book.specs.declared.client.Client.{Client}
-use Rattle.interest_book.specs.Frames.{missing_in}
-use Rattle.interest_book.specs.Clients.{IsClient, AreClients, IsReady, AreReady, Spares, vacant}
-use Rattle.interest_book.specs.Buffers.{AreFrames}
-use Rattle.interest_book.specs.Renewed.{IsRenewed}
-use Rattle.interest_book.proofs.Below.{any_same, same_number, equal_number, other_number}
-use Rattle.interest_book.proofs.Needs.{groups_rise, piece_chunk}
-use Rattle.interest_book.proofs.Kept.{Keeps, filled_empty}
-use Rattle.interest_book.proofs.Following.{needs_on}
-use Rattle.interest_book.proofs.Counting.{missing_is, whole_is}
+use Rattle.chunk_interest.specs.declared.frame.Frame.{Frame}
+use Rattle.chunk_interest.specs.declared.client.Client.{Client}
+use Rattle.chunk_interest.specs.Frames.{missing_in}
+use Rattle.chunk_interest.specs.Clients.{IsClient, AreClients, IsReady, AreReady, Spares, vacant}
+use Rattle.chunk_interest.specs.Buffers.{AreFrames}
+use Rattle.chunk_interest.specs.Renewed.{IsRenewed}
+use Rattle.chunk_interest.proofs.Below.{any_same, same_number, equal_number, other_number}
+use Rattle.chunk_interest.proofs.Needs.{groups_rise, piece_chunk}
+use Rattle.chunk_interest.proofs.Kept.{Keeps, filled_empty}
+use Rattle.chunk_interest.proofs.Following.{needs_on}
+use Rattle.chunk_interest.proofs.Counting.{missing_is, whole_is}
 
 -- the entry leaves the pieces of all other chunks where they were
 abbrev pub LeavesOthers : Setting → Entry → History → ℕ → Type 0

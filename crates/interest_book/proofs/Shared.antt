@@ -9,13 +9,13 @@ use Rattle.scan_story.specs.Views.{History, is_active, needs_chunk}
 use Rattle.scan_story.specs.Numbers.{is_starved, overlap, starved_overlap}
 use Rattle.interest_book.specs.declared.book.Book.{Book}
 use Rattle.interest_book.specs.declared.sharing.Sharing.{Sharing}
-use Rattle.interest_book.specs.Clients.{vacant, is_active_phase}
-use Rattle.interest_book.specs.Counts.{is_active_in, is_starved_in, needs_in, available_in}
-use Rattle.interest_book.specs.Marked.{row_at}
+use Rattle.chunk_interest.specs.Clients.{vacant, is_active_phase}
+use Rattle.chunk_interest.specs.Counts.{is_active_in, is_starved_in, needs_in, available_in}
+use Rattle.chunk_interest.specs.Marked.{row_at}
 use Rattle.interest_book.specs.Sharing.{IsSharing}
 use Rattle.interest_book.specs.Stands.{Stands}
-use Rattle.interest_book.proofs.Needs.{need_small}
-use Rattle.interest_book.proofs.Kept.{keeps, active_registered, starved_active, and_first}
+use Rattle.chunk_interest.proofs.Needs.{need_small}
+use Rattle.chunk_interest.proofs.Kept.{keeps, active_registered, starved_active, and_first}
 use Rattle.interest_book.proofs.Shown.{active_is, starved_is, needs_is, counted_is}
 
 active_small : (b : Book) (s : Setting) (h : History) (r : ℕ) → Stands b s h → is_active h r ≡ true → r ≤ 256

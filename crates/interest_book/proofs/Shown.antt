@@ -13,27 +13,29 @@ use Rattle.scan_story.specs.declared.view.Load.{Load}
 use Rattle.scan_story.specs.MayFollow.{feeds_starved, is_target, is_ready, is_trigger}
 use Rattle.std.proofs.lemmas.Bool.Decides.{nat_tests}
 use Rattle.interest_book.specs.declared.loading.Loading.{Loading}
-use Rattle.interest_book.specs.declared.client.Client.{Client}
+use Rattle.chunk_interest.specs.declared.client.Client.{Client}
 use Rattle.interest_book.specs.declared.book.Book.{Book}
-use Rattle.interest_book.specs.Clients.{IsClient, IsReady, client_at, is_active_phase}
-use Rattle.interest_book.specs.Counted.{size_of}
-use Rattle.interest_book.specs.Counts.{is_active_in, needs_in, is_available_in, needed_in, available_in, is_starved_in, is_interested_in, is_starved_for, is_close_in, overlaps_by, starved_overlaps_by, feeds_in, is_target_in, is_ready_in}
-use Rattle.interest_book.specs.Marked.{row_at}
+use Rattle.chunk_interest.specs.Clients.{IsClient, IsReady, client_at, is_active_phase}
+use Rattle.chunk_interest.specs.Counted.{size_of}
+use Rattle.chunk_interest.specs.Counts.{is_active_in, needs_in, is_available_in, needed_in, available_in, is_starved_in, is_interested_in, is_starved_for, is_close_in, overlaps_by, starved_overlaps_by, feeds_in}
+use Rattle.interest_book.specs.Candidates.{is_target_in, is_ready_in}
+use Rattle.chunk_interest.specs.Marked.{row_at}
 use Rattle.interest_book.specs.Stands.{Stands}
 use Rattle.interest_book.specs.Held.{hold_for}
-use Rattle.interest_book.proofs.Below.{any_same, count_same, true_false}
+use Rattle.chunk_interest.proofs.Below.{any_same, count_same, true_false}
 use Rattle.scan_story.specs.Setting.{piece_at}
 use Rattle.scan_story.specs.Views.{piece_in, is_framed}
 use Rattle.scan_story.specs.Loads.{underway, fills_frame, is_free, free_frames}
 use Rattle.scan_story.specs.Numbers.{missing, cached}
 use Rattle.scan_story.proofs.Counts.{below_all}
 use Rattle.std.proofs.lemmas.List.{get_or_past}
-use Rattle.interest_book.specs.declared.frame.Frame.TheVariants.{Free}
-use Rattle.interest_book.specs.Frames.{frame_at, frame_with, is_free_frame, free_in, held_piece, loading_of}
-use Rattle.interest_book.proofs.Kept.{keeps, active_registered, starved_active, and_first}
+use Rattle.chunk_interest.specs.declared.frame.Frame.TheVariants.{Free}
+use Rattle.chunk_interest.specs.Frames.{frame_at, frame_with, is_free_frame, free_in, held_piece}
+use Rattle.interest_book.specs.Loading.{loading_of}
+use Rattle.chunk_interest.proofs.Kept.{keeps, active_registered, starved_active, and_first}
 use Rattle.interest_book.proofs.Named.{is_named, named_count, some_among, none_among}
-use Rattle.interest_book.proofs.Needs.{worker_within, is_need}
-use Rattle.interest_book.proofs.Counting.{count_cut, needed_inside}
+use Rattle.chunk_interest.proofs.Needs.{worker_within, is_need}
+use Rattle.chunk_interest.proofs.Counting.{count_cut, needed_inside}
 
 -- Queries
 

@@ -1,7 +1,7 @@
 -- Pieces of a chunk, of what the book keeps.
 use Rattle.std.specs.Prelude.{◌+◌, ◌*◌, ◌++◌, ◌∷◌, [], not, ℕ, zero, suc, List, Option, filter, is_some, if◌then◌else◌}
 use Rattle.scan_story.specs.Counting.{has}
-use Rattle.interest_book.specs.Frames.{place_at}
+use Rattle.chunk_interest.specs.Frames.{place_at}
 
 -- the pieces of chunk c, of n pieces, at those groups below m that are read
 abbrev pub read_below : List ℕ → ℕ → ℕ → ℕ → List ℕ

@@ -1,8 +1,8 @@
 -- How large the parts of a book are.
 use Rattle.std.specs.Prelude.{◌≡◌, ◌≤◌, ℕ, List, All, Option, length}
 use Rattle.scan_story.specs.declared.view.Hold.{Hold}
-use Rattle.interest_book.specs.declared.need.Need.{Need}
-use Rattle.interest_book.specs.declared.client.Client.{Client}
+use Rattle.chunk_interest.specs.declared.need.Need.{Need}
+use Rattle.chunk_interest.specs.declared.client.Client.{Client}
 
 pub record AreParts (ns : List Need) (ks : List Client) (hs : List (Option Hold)) (n w : ℕ) : Type 0 where
   pub needs : length ns ≤ 256

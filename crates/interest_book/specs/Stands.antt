@@ -7,17 +7,17 @@ use Rattle.interest_book.specs.declared.loading.Underway.{Underway}
 use Rattle.scan_story.specs.declared.setting.Setting.{Setting}
 use Rattle.scan_story.specs.Counting.{has}
 use Rattle.scan_story.specs.Setting.{IsSetting, need_of, shares}
-use Rattle.scan_story.specs.Views.{History, needs_chunk}
+use Rattle.scan_story.specs.Views.{History}
 use Rattle.scan_story.specs.Loads.{underway}
 use Rattle.scan_story.specs.MayFollow.{Allowed}
 use Rattle.interest_book.specs.declared.book.Book.{Book}
 use Rattle.interest_book.specs.Held.{AreHolds}
-use Rattle.interest_book.specs.Fresh.{as_need}
-use Rattle.interest_book.specs.Follows.{AllMayFollow}
-use Rattle.interest_book.specs.Clients.{AreClients, AreReady}
-use Rattle.interest_book.specs.Frames.{loading_of}
-use Rattle.interest_book.specs.Marked.{row_at}
-use Rattle.interest_book.specs.Buffers.{IsBuffer}
+use Rattle.chunk_interest.specs.Fresh.{as_need}
+use Rattle.chunk_interest.specs.Follows.{AllMayFollow}
+use Rattle.chunk_interest.specs.Clients.{AreClients, AreReady}
+use Rattle.interest_book.specs.Loading.{loading_of}
+use Rattle.chunk_interest.specs.Marked.{row_at}
+use Rattle.chunk_interest.specs.Buffers.{IsBuffer}
 
 -- who loads which chunk, and for which query
 abbrev pub underway_of : Load → Underway
@@ -51,9 +51,3 @@ pub record IsLeastQuery (s : Setting) (q m : ℕ) : Type 0 where
   pub from : q ≤ m
   pub there : is_some (need_of s m) ≡ true
   pub least : (r : ℕ) → q ≤ r → r < m → is_some (need_of s r) ≡ false
-
--- m is the least chunk from c on that query q needs
-pub record IsLeastNeeded (s : Setting) (h : History) (q c m : ℕ) : Type 0 where
-  pub from : c ≤ m
-  pub there : needs_chunk s h q m ≡ true
-  pub least : (x : ℕ) → c ≤ x → x < m → needs_chunk s h q x ≡ false

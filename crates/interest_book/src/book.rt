@@ -2,12 +2,8 @@
 ghost use Rattle.std.specs.Prelude.{◌≡◌, ◌<◌, ◌≤◌, ◌^◌, ℕ, IfOk, None, length, slice_index_or};
 ghost use Rattle.interest_book.specs.Sizes.{AreParts};
 
-use crate::buffer::Buffer;
-use crate::clients::Clients;
 use crate::loading::Loading;
-use crate::need::Need;
-use crate::query_set::QuerySet;
-use crate::sharers::sharers_each;
+use chunk_interest::{Buffer, Clients, Need, QuerySet, sharers_each};
 use scan_story::Hold;
 use std::alloc::{AllocError, Global};
 use table_core::Memory;
@@ -40,7 +36,7 @@ impl Book {
     ghost use Rattle.std.specs.Prelude.{[]};
     ghost use Rattle.scan_story.specs.declared.setting.Setting.{Setting};
     ghost use Rattle.scan_story.specs.Setting.{IsSetting};
-    ghost use Rattle.interest_book.specs.Fresh.{made_for, IsMadeFor};
+    ghost use Rattle.interest_book.specs.Made.{made_for, IsMadeFor};
     ghost use Rattle.interest_book.specs.Stands.{Stands};
 
     /// A book for these needs, before the first entry. It takes all memory that the book ever needs.

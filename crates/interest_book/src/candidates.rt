@@ -1,7 +1,7 @@
 //! Who may trigger a load, and which chunks may be loaded, delivered and evicted.
 use crate::book::Book;
-use crate::counted_set::CountedSet;
 use crate::holds::unheld;
+use chunk_interest::CountedSet;
 
 impl Book {
     ghost use Rattle.std.specs.Prelude.{◌≡◌, ◌<◌, ◌≤◌, ◌&&◌, ◌==◌, ℕ, true, false, is_some, nat_lt, not};
@@ -10,7 +10,7 @@ impl Book {
     ghost use Rattle.scan_story.specs.Views.{History, is_held};
     ghost use Rattle.scan_story.specs.Loads.{underway, is_load_of};
     ghost use Rattle.scan_story.specs.MayFollow.{is_target, is_ready, is_trigger, is_victim};
-    ghost use Rattle.interest_book.specs.Counts.{is_target_in, is_ready_in};
+    ghost use Rattle.interest_book.specs.Candidates.{is_target_in, is_ready_in};
     ghost use Rattle.interest_book.specs.Stands.{Stands};
 
     /// Whether the query needs the chunk, and it isn't wholly in frames for the query.

@@ -18,7 +18,7 @@ fn is_of(hold: Option<Hold>, c: u32) -> bool
 }
 
 /// Whether one of the first n workers holds the chunk.
-#[tactic(auto, using(crate::proofs::Below::any_below_more))]
+#[tactic(auto, using(chunk_interest::proofs::Below::any_below_more))]
 pub fn holds_chunk(holds: &[Option<Hold>], n: u32, c: u32) -> bool
     requires { n ≤ length holds.now }
     ensures { result ≡ any_below (λ w. is_hold_of c (slice_index_or holds.now w None)) n }

@@ -5,30 +5,18 @@
 #![tactic(auto)]
 
 mod book;
-mod buffer;
 mod candidates;
-mod client;
-mod clients;
-mod counted_set;
-mod frame;
-mod frames;
 mod holds;
 mod loading;
-mod marks;
-mod need;
 mod noting;
 mod pieces;
 mod placing;
-mod query_set;
 mod reading;
-mod sharers;
 mod sharing;
-mod shifting;
 
 pub use book::Book;
-pub use counted_set::CountedSet;
+pub use chunk_interest::{CountedSet, Need};
 pub use loading::Underway;
-pub use need::Need;
 pub use pieces::Pieces;
 pub use scan_story::Phase;
 pub use sharing::{Overlaps, Sharing};

@@ -1,5 +1,5 @@
 ghost use Rattle.std.specs.Prelude.{◌≡◌};
-ghost use Rattle.interest_book.specs.Frames.{after_fill};
+ghost use Rattle.interest_book.specs.Loading.{after_fill};
 
 /// The load that is underway: who loads which chunk, and for which query.
 #[derive(Clone, Copy, Debug, PartialEq, Eq)]

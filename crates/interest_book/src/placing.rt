@@ -5,15 +5,13 @@ ghost use Rattle.scan_story.specs.Setting.{pieces_read};
 ghost use Rattle.scan_story.specs.Views.{History};
 ghost use Rattle.scan_story.specs.Loads.{is_free, missing_pieces};
 ghost use Rattle.interest_book.specs.Firsts.{FindsFirst};
-ghost use Rattle.interest_book.specs.Frames.{frame_at, place_at, is_free_frame, IsPlace};
+ghost use Rattle.chunk_interest.specs.Frames.{frame_at, place_at, is_free_frame, IsPlace};
 ghost use Rattle.interest_book.specs.Placed.{read_below, unplaced};
 ghost use Rattle.interest_book.specs.Stands.{Stands};
 
 use crate::book::Book;
-use crate::buffer::Buffer;
-use crate::frame::Frame;
-use crate::frames::Frames;
 use crate::pieces::Pieces;
+use chunk_interest::{Buffer, Frame, Frames};
 use table_core::ColumnSet;
 
 // The free frame of least number.

@@ -1,8 +1,8 @@
 //! What a book answers: the numbers of the entries that it noted.
 use crate::book::Book;
-use crate::client::Client;
 use crate::holds::{holds_chunk, holds_query, since};
 use crate::loading::Underway;
+use chunk_interest::Client;
 use scan_story::Phase;
 use table_core::ColumnSet;
 
@@ -15,8 +15,8 @@ impl Book {
     ghost use Rattle.scan_story.specs.Loads.{underway, free_frames};
     ghost use Rattle.scan_story.specs.Numbers.{needed, available, is_starved, holds_for, waiting, running, interested, starved_interested, close, missing, cached, missing_for, overlap, starved_overlap};
     ghost use Rattle.scan_story.specs.MayFollow.{feeds_starved};
-    ghost use Rattle.interest_book.specs.Clients.{client_at};
-    ghost use Rattle.interest_book.specs.Stands.{Stands, underway_of, IsLeastQuery, IsLeastNeeded};
+    ghost use Rattle.chunk_interest.specs.Clients.{client_at};
+    ghost use Rattle.interest_book.specs.Stands.{Stands, underway_of, IsLeastQuery};
 
     pub(crate) fn client(&self, q: u32) -> &Client
         requires { q ≤ 256 }
@@ -55,16 +55,6 @@ impl Book {
         ensures { (s : Setting) (h : History) → Stands self.now s h → result ≡ needs_chunk s h q c }
     {
         self.client(q).remaining.has(c)
-    }
-
-    /// The least chunk from `c` on that the query needs.
-    pub fn least_needed_from(&self, q: u32, c: u32) -> Option<u32>
-        requires { q ≤ 256 }
-        ensures none { (s : Setting) (h : History) → Stands self.now s h → IfNone result ((x : ℕ) → c ≤ x → needs_chunk s h q x ≡ false) }
-        ensures least { (s : Setting) (h : History) → Stands self.now s h → IfSome result (λ m. IsLeastNeeded s h q c m) }
-        ensures small { IfSome result (λ m. m < 1024) }
-    {
-        self.client(q).remaining.least_from(c)
     }
 
     /// How many chunks are available to the query.

@@ -1,6 +1,6 @@
 //! Who counts for the overlaps of a query, looked up once for many chunks.
 use crate::book::Book;
-use crate::query_set::QuerySet;
+use chunk_interest::QuerySet;
 
 /// The active and the starved queries that read a group that one query reads.
 #[derive(Drop)]
@@ -28,7 +28,11 @@ impl Book {
         requires { q ≤ 256 }
         ensures { (s : Setting) (h : History) → Stands self.now s h → IsSharing s h q result }
     {
-        self.clients.among(&self.sharers[q as usize])
+        let sharers = &self.sharers[q as usize];
+        Sharing {
+            active: self.clients.active_among(sharers),
+            starved: self.clients.starved_among(sharers),
+        }
     }
 
     /// The `overlap` and the `starved_overlap` with the chunk, of the query whose sharing this is; each at most 320.

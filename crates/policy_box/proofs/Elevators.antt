@@ -6,8 +6,8 @@ use Rattle.scan_story.specs.declared.setting.Setting.{Setting}
 use Rattle.scan_story.specs.Views.{History}
 use Rattle.scan_story.specs.MayFollow.{is_target, is_ready, is_trigger}
 use Rattle.scan_story.specs.Policies.{dist_from, reach}
-use Rattle.interest_book.proofs.Below.{true_false}
-use Rattle.interest_book.proofs.Kept.{target_inside}
+use Rattle.chunk_interest.proofs.Below.{true_false}
+use Rattle.chunk_interest.proofs.Kept.{target_inside}
 use Rattle.relevance.specs.Picks.{PicksQuery, PicksLoad, PicksDelivery, PicksVictim, cursor_after_load}
 use Rattle.policy_picks.specs.Around.{far_from}
 use Rattle.policy_picks.specs.Least.{PicksLeast}

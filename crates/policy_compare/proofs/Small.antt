@@ -12,7 +12,7 @@ use Rattle.piece_format.specs.declared.layout.Layout.TheVariants as layouts
 use Rattle.filter_zones.specs.declared.zone.ChunkZones.{ChunkZones}
 use Rattle.filter_zones.specs.Possible.{needed}
 use Rattle.query_parts.specs.Deal.{is_dealt}
-use Rattle.interest_book.specs.Fresh.{as_need}
+use Rattle.chunk_interest.specs.Fresh.{as_need}
 use Rattle.scan_story.specs.declared.entry.Entry.TheVariants.{Deliver, End, Evict, Failed, Fill, Filled, Plan, Register, Release, Stop}
 use Rattle.scan_story.specs.declared.setting.Need.{Need}
 use Rattle.scan_story.specs.declared.setting.PolicyName.{PolicyName}

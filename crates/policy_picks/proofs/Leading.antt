@@ -10,9 +10,9 @@ use Rattle.scan_story.specs.Loads.{underway}
 use Rattle.scan_story.specs.Numbers.{close, is_starved}
 use Rattle.scan_story.specs.MayFollow.{is_target, is_trigger, is_victim}
 use Rattle.scan_story.specs.Policies.{IsLeast, is_least_close}
-use Rattle.interest_book.proofs.Below.{true_false, none_at, none_from}
-use Rattle.interest_book.proofs.Kept.{and_first, victim_inside}
-use Rattle.interest_book.proofs.Needs.{need_small}
+use Rattle.chunk_interest.proofs.Below.{true_false, none_at, none_from}
+use Rattle.chunk_interest.proofs.Kept.{and_first, victim_inside}
+use Rattle.chunk_interest.proofs.Needs.{need_small}
 use Rattle.relevance.proofs.Choosing.{IsOrder, IsBestBelow, best_is}
 use Rattle.policy_picks.specs.declared.rated.Rated.{Rated}
 use Rattle.policy_picks.specs.Rated.{rated, by_of, is_below, is_above, lowest_below, highest_below, number_in}

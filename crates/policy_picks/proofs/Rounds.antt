@@ -6,7 +6,7 @@ use Rattle.std.proofs.lemmas.Nat.{mod_below}
 use Rattle.std.proofs.Math.Nat.{mod-eq_of_lt, add-mod_right, add-mod-mod, mod-add-mod}
 use Rattle.scan_story.specs.declared.setting.Setting.{Setting}
 use Rattle.scan_story.specs.Policies.{dist_from}
-use Rattle.interest_book.proofs.Below.{true_false}
+use Rattle.chunk_interest.proofs.Below.{true_false}
 use Rattle.policy_picks.specs.Around.{chunk_at, far_from}
 use Rattle.policy_picks.specs.Least.{PicksLeast}
 

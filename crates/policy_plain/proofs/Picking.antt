@@ -7,7 +7,7 @@ use Rattle.scan_story.specs.Views.{History}
 use Rattle.scan_story.specs.Numbers.{waiting, interested}
 use Rattle.scan_story.specs.MayFollow.{is_target, is_ready, is_trigger}
 use Rattle.scan_story.specs.Policies.{dist_from, start_of, place_in}
-use Rattle.interest_book.proofs.Kept.{target_inside}
+use Rattle.chunk_interest.proofs.Kept.{target_inside}
 use Rattle.interest_book.proofs.Inside.{ready_inside}
 use Rattle.relevance.specs.Picks.{PicksQuery, PicksLoad, PicksDelivery, PicksVictim}
 use Rattle.policy_picks.specs.Least.{PicksLeast, PicksGreatest}

@@ -8,7 +8,7 @@ use Rattle.std.proofs.lemmas.List.Elements.{All-from_recursion}
 use Rattle.std.proofs.lemmas.Map.Steps.{length-le_from_distinct_below}
 use Rattle.scan_story.specs.Counting.{has}
 use Rattle.scan_story.specs.Policies.{moved_last}
-use Rattle.interest_book.proofs.Below.{true_false, either}
+use Rattle.chunk_interest.proofs.Below.{true_false, either}
 use Rattle.policy_plain.specs.Uses.{are_uses}
 
 first : (a b : Bool) → (a && b) ≡ true → a ≡ true

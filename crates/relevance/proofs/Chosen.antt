@@ -16,11 +16,11 @@ use Rattle.scan_story.specs.Ratios.{query_rank, load_ratio, use_ratio, keep_rati
 use Rattle.scan_story.specs.MayFollow.{is_target, is_ready, is_trigger, is_victim, feeds_starved}
 use Rattle.interest_book.specs.declared.book.Book.{Book}
 use Rattle.interest_book.specs.Stands.{Stands}
-use Rattle.interest_book.proofs.Below.{equal_number, true_false}
-use Rattle.interest_book.proofs.Needs.{is_need, need_small}
-use Rattle.interest_book.proofs.Kept.{keeps, active_registered, target_inside, victim_inside}
-use Rattle.interest_book.proofs.Counting.{whole_is}
-use Rattle.interest_book.proofs.Beginning.{some_groups}
+use Rattle.chunk_interest.proofs.Below.{equal_number, true_false}
+use Rattle.chunk_interest.proofs.Needs.{is_need, need_small}
+use Rattle.chunk_interest.proofs.Kept.{keeps, active_registered, target_inside, victim_inside}
+use Rattle.chunk_interest.proofs.Counting.{whole_is}
+use Rattle.chunk_interest.proofs.Beginning.{some_groups}
 use Rattle.interest_book.proofs.Inside.{ready_inside}
 use Rattle.interest_book.proofs.Shown.{active_is}
 use Rattle.relevance.specs.declared.best.BestChunk.{BestChunk}

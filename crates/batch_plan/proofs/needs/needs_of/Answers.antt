@@ -7,7 +7,7 @@ use Rattle.std.proofs.Math.Nat.{add-mul, mul-le-mul_right}
 use Rattle.table_core.specs.Sets.{AreMembers}
 use Rattle.filter_zones.specs.declared.cond.Cond.{Cond}
 use Rattle.filter_zones.specs.Possible.{needed}
-use Rattle.interest_book.specs.declared.need.Need.{Need}
+use Rattle.chunk_interest.specs.declared.need.Need.{Need}
 use Rattle.batch_plan.specs.declared.task.Task.{Task}
 use Rattle.batch_plan.specs.Scans.{need_of, needs, scans, scans_from, scans_from_part}
 use Rattle.batch_plan.proofs.Planned.{few_queries, is_setting, parts_long, some_queries}

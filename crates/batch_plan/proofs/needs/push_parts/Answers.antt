@@ -1,6 +1,6 @@
 use Rattle.std.proofs.Common.{◌≡◌, ◌∙◌, ◌+◌, ◌-◌, ◌%◌, ◌++◌, ◌∷◌, ℕ, suc, List, [], length, arith, refl, sym, ap, append_assoc, length-append}
 use Rattle.filter_zones.specs.declared.zone.ChunkZones.{ChunkZones}
-use Rattle.interest_book.specs.declared.need.Need.{Need}
+use Rattle.chunk_interest.specs.declared.need.Need.{Need}
 use Rattle.batch_plan.specs.Scans.{need_of, needs, scan_of, scans_from_part}
 use Rattle.batch_plan.proofs.needs.push_parts.Goals as goal
 

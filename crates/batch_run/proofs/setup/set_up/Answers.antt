@@ -3,7 +3,7 @@ use Rattle.std.specs.Prelude.{All}
 use Rattle.scan_story.specs.Setting.{IsSetting}
 use Rattle.scan_story.specs.declared.setting.PolicyName.TheVariants.{Relevance}
 use Rattle.filter_zones.specs.declared.zone.ChunkZones.{ChunkZones}
-use Rattle.interest_book.specs.declared.need.Need.{Need}
+use Rattle.chunk_interest.specs.declared.need.Need.{Need}
 use Rattle.batch_plan.specs.Setting.{batch_setting}
 use Rattle.batch_run.proofs.Batches.{numbers_within}
 use Rattle.batch_run.proofs.setup.set_up.Goals as goal

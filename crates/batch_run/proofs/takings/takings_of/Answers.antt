@@ -1,6 +1,6 @@
 use Rattle.std.proofs.Common.{◌≡◌, ◌∙◌, ◌+◌, ◌-◌, ◌/◌, ◌%◌, ◌++◌, ◌∷◌, [], length, take, arith, ap, refl, sym, length-append}
 use Rattle.std.proofs.lemmas.List.{take_more}
-use Rattle.interest_book.specs.declared.need.Need.{Need}
+use Rattle.chunk_interest.specs.declared.need.Need.{Need}
 use Rattle.batch_run.specs.Noting.{IsOpened}
 use Rattle.batch_run.specs.declared.taken.Taken.{Taken}
 use Rattle.batch_run.proofs.Noted.{zip_more}

@@ -1,7 +1,7 @@
 use Rattle.std.proofs.Common.{◌≡◌, ◌<◌, ◌≤◌, ◌+◌, ◌/◌, ◌++◌, ◌∷◌, [], List, length, take, get_or, arith, refl, sym, ap, ◌∙◌, subst}
 use Rattle.std.specs.List.{AllZip}
 use Rattle.std.proofs.lemmas.List.{take_all, take_more}
-use Rattle.interest_book.specs.declared.need.Need.{Need}
+use Rattle.chunk_interest.specs.declared.need.Need.{Need}
 use Rattle.batch_plan.specs.declared.task.Task.{Task}
 use Rattle.batch_plan.specs.Scans.{Scan, scan_of, scans}
 use Rattle.batch_scans.specs.declared.job.Job.{Job}

@@ -5,7 +5,7 @@ use Rattle.scan_story.specs.declared.setting.Setting.{Setting}
 use Rattle.scan_story.specs.declared.origin.Start.{Start}
 use Rattle.std.proofs.lemmas.List.{length-map}
 use Rattle.baton.specs.Passes.{AgreesWith, PassView, new_passes}
-use Rattle.interest_book.specs.Fresh.{as_need}
+use Rattle.chunk_interest.specs.Fresh.{as_need}
 use Rattle.batch_plan.specs.Scans.{scans}
 use Rattle.batch_scans.specs.declared.job.Job.{Job}
 use Rattle.batch_scans.specs.Crews.{passes_of, up_to, workers_of}

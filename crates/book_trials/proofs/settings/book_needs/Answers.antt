@@ -2,8 +2,8 @@ use Rattle.std.proofs.Common.{◌≡◌, ◌∙◌, ◌++◌, ◌∷◌, [], ◌
 use Rattle.std.specs.List.{list_any, AllByRecursion}
 use Rattle.scan_story.specs.declared.setting.Need as asked
 use Rattle.scan_story.specs.Setting.{IsNeed, AreDistinct}
-use Rattle.interest_book.specs.declared.need.Need.{Need}
-use Rattle.interest_book.specs.Fresh.{as_need}
+use Rattle.chunk_interest.specs.declared.need.Need.{Need}
+use Rattle.chunk_interest.specs.Fresh.{as_need}
 use Rattle.book_trials.proofs.Listed.{map_push, all_push, distinct_push, none_names, append_apart, unnot}
 use Rattle.book_trials.proofs.settings.book_needs.Goals as goal
 

@@ -1,7 +1,7 @@
 use Rattle.std.proofs.Common.{◌≡◌, ◌++◌, map}
 use Rattle.std.specs.List.{AllByRecursion}
 use Rattle.scan_story.specs.Setting.{IsNeed, AreDistinct}
-use Rattle.interest_book.specs.Fresh.{as_need}
+use Rattle.chunk_interest.specs.Fresh.{as_need}
 use Rattle.book_trials.proofs.settings.book_needs.Given as goal
 
 abbrev pub invariant-loop-n : goal.invariant-loop-n

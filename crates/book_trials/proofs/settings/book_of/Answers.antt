@@ -1,8 +1,8 @@
 use Rattle.std.proofs.Common.{Option, IfSome, Vec, Global, subst, refl, sym, arith}
-use Rattle.interest_book.specs.declared.need.Need.{Need}
+use Rattle.chunk_interest.specs.declared.need.Need.{Need}
 use Rattle.scan_story.specs.Setting.{IsSetting}
-use Rattle.interest_book.specs.Fresh.{made_for}
-use Rattle.interest_book.proofs.Beginning.{same_setting}
+use Rattle.interest_book.specs.Made.{made_for}
+use Rattle.interest_book.proofs.Making.{same_setting}
 use Rattle.book_trials.specs.Fits.{IsFit, AreFit}
 use Rattle.book_trials.proofs.settings.book_of.Goals as goal
 

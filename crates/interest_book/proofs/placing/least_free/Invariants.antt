@@ -1,5 +1,5 @@
 use Rattle.std.proofs.Common.{◌≡◌, ◌<◌, ℕ, false}
-use Rattle.interest_book.specs.Frames.{frame_at, is_free_frame}
+use Rattle.chunk_interest.specs.Frames.{frame_at, is_free_frame}
 use Rattle.interest_book.proofs.placing.least_free.Given as goal
 
 abbrev pub invariant-loop-f : goal.invariant-loop-f

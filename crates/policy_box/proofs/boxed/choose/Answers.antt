@@ -1,5 +1,5 @@
 use Rattle.std.proofs.Common.{false, length, refl, sym, ◌∙◌, ap}
-use Rattle.interest_book.proofs.Below.{true_false}
+use Rattle.chunk_interest.proofs.Below.{true_false}
 use Rattle.policy_box.proofs.Firsts.{all_push, parts_push, one_less, first_is, none_long, none_left}
 use Rattle.policy_box.proofs.boxed.choose.Goals as goal
 

@@ -1,6 +1,6 @@
 use Rattle.std.proofs.Common.{sym, ◌∙◌}
 use Rattle.scan_story.specs.MayFollow.{is_target}
-use Rattle.interest_book.proofs.Kept.{target_inside}
+use Rattle.chunk_interest.proofs.Kept.{target_inside}
 use Rattle.policy_picks.proofs.Rounds.{none_on, none_around, nearest}
 use Rattle.policy_picks.proofs.around.first_to_load.Goals as goal
 

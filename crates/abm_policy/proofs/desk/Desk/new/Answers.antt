@@ -1,5 +1,5 @@
 use Rattle.std.proofs.Common.{ap, ◌∙◌, map}
-use Rattle.interest_book.specs.Fresh.{as_need}
+use Rattle.chunk_interest.specs.Fresh.{as_need}
 use Rattle.abm_policy.specs.Depots.{depot_view}
 use Rattle.abm_policy.proofs.Founding.{book_setting, made_for_setting, founded}
 use Rattle.abm_policy.proofs.desk.Desk.new.Goals as goal

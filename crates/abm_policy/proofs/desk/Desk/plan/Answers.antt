@@ -9,7 +9,7 @@ use Rattle.scan_story.specs.MayFollow.{IsIdle, is_target}
 use Rattle.story_laws.specs.Lists.{NoneTwice}
 use Rattle.story_laws.proofs.Bools.{not_both}
 use Rattle.story_laws.proofs.Counts.{any_nowhere}
-use Rattle.interest_book.proofs.Needs.{missing_apart}
+use Rattle.chunk_interest.proofs.Needs.{missing_apart}
 use Rattle.abm_policy.specs.Depots.{DepotView, depot_view, HasDepot}
 use Rattle.abm_policy.proofs.Keeping.{stays_sound}
 use Rattle.abm_policy.proofs.Stories.{gets_fit}

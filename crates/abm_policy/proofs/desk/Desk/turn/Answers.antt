@@ -3,7 +3,7 @@ use Rattle.scan_story.specs.declared.entry.Entry.{Entry}
 use Rattle.scan_story.specs.Views.{past}
 use Rattle.scan_story.specs.Loads.{underway}
 use Rattle.scan_story.specs.MayFollow.{is_trigger}
-use Rattle.interest_book.proofs.Needs.{worker_within}
+use Rattle.chunk_interest.proofs.Needs.{worker_within}
 use Rattle.abm_policy.specs.Loads.{AddsLoad}
 use Rattle.abm_policy.proofs.Rows.{row_take, row_not_yet, row_load, trigger_of, delivered_framed, runs_through}
 use Rattle.abm_policy.proofs.desk.Desk.turn.Goals as goal

@@ -1,6 +1,6 @@
 use Rattle.std.proofs.Common.{◌≡◌, Option, IfSome, Vec, Global, None, refl, sym, ap, subst, arith}
-use Rattle.interest_book.specs.declared.need.Need.{Need}
-use Rattle.interest_book.proofs.Beginning.{same_setting}
+use Rattle.chunk_interest.specs.declared.need.Need.{Need}
+use Rattle.interest_book.proofs.Making.{same_setting}
 use Rattle.scan_story.specs.declared.origin.Start.{Start}
 use Rattle.scan_story.specs.Setting.{IsSetting, IsStart, HasRoom}
 use Rattle.book_trials.specs.Fits.{IsFit, AreFit}

@@ -1,6 +1,6 @@
 use Rattle.std.proofs.Common.{ap, ◌∙◌}
-use Rattle.interest_book.specs.declared.client.Client.{Client}
-use Rattle.interest_book.specs.Counted.{size_of}
+use Rattle.chunk_interest.specs.declared.client.Client.{Client}
+use Rattle.chunk_interest.specs.Counted.{size_of}
 use Rattle.interest_book.proofs.Shown.{available_is}
 use Rattle.interest_book.proofs.book.Book.available.Goals as goal
 

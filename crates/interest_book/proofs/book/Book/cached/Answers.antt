@@ -1,5 +1,5 @@
 use Rattle.std.proofs.Common.{◌∙◌}
-use Rattle.interest_book.proofs.Counting.{cached_is}
+use Rattle.chunk_interest.proofs.Counting.{cached_is}
 use Rattle.interest_book.proofs.book.Book.cached.Goals as goal
 
 pub returns-clause-number : goal.returns-clause-number

@@ -1,6 +1,6 @@
 use Rattle.std.proofs.Common.{ap, ◌∙◌, List, Option}
 use Rattle.scan_story.specs.declared.view.Hold.{Hold}
-use Rattle.interest_book.specs.declared.client.Client.{Client}
+use Rattle.chunk_interest.specs.declared.client.Client.{Client}
 use Rattle.interest_book.specs.Held.{hold_for}
 use Rattle.interest_book.proofs.Shown.{client_is, hold_is}
 use Rattle.interest_book.proofs.book.Book.holds_for.Goals as goal

@@ -1,6 +1,6 @@
 use Rattle.std.proofs.Common.{◌∙◌}
 use Rattle.interest_book.proofs.Shown.{missing_count}
-use Rattle.interest_book.proofs.Counting.{cached_is}
+use Rattle.chunk_interest.proofs.Counting.{cached_is}
 use Rattle.interest_book.proofs.book.Book.missing.Goals as goal
 
 pub returns : goal.returns

@@ -1,9 +1,9 @@
 use Rattle.std.proofs.Common.{◌≡◌, subst, sym, ◌∙◌, ℕ}
 use Rattle.scan_story.specs.Counting.{has}
 use Rattle.scan_story.specs.Setting.{reads_group}
-use Rattle.interest_book.specs.declared.client.Client.{Client}
+use Rattle.chunk_interest.specs.declared.client.Client.{Client}
 use Rattle.interest_book.proofs.Shown.{client_is}
-use Rattle.interest_book.proofs.Counting.{missing_is}
+use Rattle.chunk_interest.proofs.Counting.{missing_is}
 use Rattle.interest_book.proofs.book.Book.missing_for.Goals as goal
 
 pub returns-clause-number : goal.returns-clause-number

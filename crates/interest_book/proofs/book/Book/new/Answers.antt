@@ -1,10 +1,12 @@
 use Rattle.std.proofs.Common.{◌<◌, length, arith, subst, sym, ◌∙◌, refl, ℕ, List, All}
 use Rattle.scan_story.specs.Setting.{need_of}
-use Rattle.interest_book.specs.declared.need.Need.{Need}
-use Rattle.interest_book.specs.Clients.{client_at}
-use Rattle.interest_book.specs.Fresh.{made_for, IsFresh, AreFresh}
-use Rattle.interest_book.proofs.Beginning.{query_small, few_made, setting_of, fresh_client, fresh_ready, fresh_frames, fresh_as}
-use Rattle.interest_book.proofs.Counting.{shares_is}
+use Rattle.chunk_interest.specs.declared.need.Need.{Need}
+use Rattle.chunk_interest.specs.Clients.{client_at}
+use Rattle.interest_book.specs.Made.{made_for}
+use Rattle.chunk_interest.specs.Fresh.{IsFresh, AreFresh}
+use Rattle.interest_book.proofs.Making.{query_small, few_made, setting_of, fresh_as}
+use Rattle.chunk_interest.proofs.Beginning.{fresh_client, fresh_ready, fresh_frames}
+use Rattle.chunk_interest.proofs.Counting.{shares_is}
 use Rattle.interest_book.proofs.book.Book.new.Goals as goal
 
 pub new-requires : goal.new-requires

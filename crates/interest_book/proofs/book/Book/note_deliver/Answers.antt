@@ -1,6 +1,6 @@
 use Rattle.std.proofs.Common.{arith, refl, Some}
 use Rattle.scan_story.specs.declared.entry.Entry.TheVariants.{Deliver}
-use Rattle.interest_book.proofs.Buffering.{frames_on}
+use Rattle.chunk_interest.proofs.Buffering.{frames_on}
 use Rattle.interest_book.proofs.Holding.{holds_set, delivered, delivered_other}
 use Rattle.interest_book.proofs.book.Book.note_deliver.Goals as goal
 

@@ -1,7 +1,7 @@
 use Rattle.std.proofs.Common.{arith, refl}
 use Rattle.scan_story.specs.declared.entry.Entry.TheVariants.{End}
-use Rattle.interest_book.proofs.Kept.{active_going}
-use Rattle.interest_book.proofs.Buffering.{frames_on}
+use Rattle.chunk_interest.proofs.Kept.{active_going}
+use Rattle.chunk_interest.proofs.Buffering.{frames_on}
 use Rattle.interest_book.proofs.book.Book.note_end.Goals as goal
 
 pub returns : goal.returns

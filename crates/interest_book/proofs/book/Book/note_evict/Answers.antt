@@ -1,8 +1,8 @@
 use Rattle.std.proofs.Common.{◌∷◌, arith}
 use Rattle.scan_story.specs.declared.entry.Entry.TheVariants.{Evict}
-use Rattle.interest_book.specs.Clients.{AreClients, AreReady}
-use Rattle.interest_book.proofs.Kept.{victim_inside}
-use Rattle.interest_book.proofs.Following.{clients_on, spares_evict}
+use Rattle.chunk_interest.specs.Clients.{AreClients, AreReady}
+use Rattle.chunk_interest.proofs.Kept.{victim_inside}
+use Rattle.chunk_interest.proofs.Following.{clients_on, spares_evict}
 use Rattle.interest_book.proofs.Renewing.{all_renewed, all_renewed_ready, evict_leaves}
 use Rattle.interest_book.proofs.book.Book.note_evict.Goals as goal
 

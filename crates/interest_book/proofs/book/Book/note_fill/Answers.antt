@@ -1,9 +1,9 @@
 use Rattle.std.proofs.Common.{arith, sym, ◌∙◌}
 use Rattle.scan_story.specs.declared.entry.Entry.TheVariants.{Fill}
 use Rattle.scan_story.specs.Loads.{underway}
-use Rattle.interest_book.proofs.Kept.{fill_same}
-use Rattle.interest_book.proofs.Following.{clients_on, all_ready_on, spares_fill}
-use Rattle.interest_book.proofs.OpenPieces.{begin_leaves}
+use Rattle.chunk_interest.proofs.Kept.{fill_same}
+use Rattle.chunk_interest.proofs.Following.{clients_on, all_ready_on, spares_fill}
+use Rattle.interest_book.proofs.KeptLoad.{begin_leaves}
 use Rattle.interest_book.proofs.book.Book.note_fill.Goals as goal
 
 pub returns : goal.returns

@@ -1,12 +1,12 @@
 use Rattle.std.proofs.Common.{◌≡◌, ◌/◌, ◌∷◌, arith, sym, ap, ◌∙◌, ℕ, is_none}
 use Rattle.scan_story.specs.declared.entry.Entry.TheVariants.{Filled}
 use Rattle.scan_story.specs.Loads.{underway}
-use Rattle.interest_book.specs.Clients.{AreClients, AreReady}
-use Rattle.interest_book.specs.Frames.{after_fill}
-use Rattle.interest_book.proofs.Kept.{keeps}
-use Rattle.interest_book.proofs.Following.{clients_on, spares_filled}
+use Rattle.chunk_interest.specs.Clients.{AreClients, AreReady}
+use Rattle.interest_book.specs.Loading.{after_fill}
+use Rattle.chunk_interest.proofs.Kept.{keeps}
+use Rattle.chunk_interest.proofs.Following.{clients_on, spares_filled}
 use Rattle.interest_book.proofs.Renewing.{all_renewed, all_renewed_ready, filled_leaves}
-use Rattle.interest_book.proofs.OpenPieces.{fill_follows, none_mapped, over_is}
+use Rattle.interest_book.proofs.KeptLoad.{fill_follows, none_mapped, over_is}
 use Rattle.interest_book.proofs.book.Book.note_filled.Goals as goal
 
 pub returns : goal.returns

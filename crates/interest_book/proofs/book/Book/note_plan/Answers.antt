@@ -4,12 +4,12 @@ use Rattle.scan_story.specs.Loads.{missing_pieces}
 use Rattle.scan_story.specs.Numbers.{missing_for}
 use Rattle.scan_story.specs.Counting.{has}
 use Rattle.scan_story.specs.Setting.{reads_group}
-use Rattle.interest_book.specs.declared.client.Client.{Client}
+use Rattle.chunk_interest.specs.declared.client.Client.{Client}
 use Rattle.interest_book.specs.declared.loading.Loading.{Loading}
-use Rattle.interest_book.proofs.Following.{clients_on, all_ready_on, spares_plan}
-use Rattle.interest_book.proofs.Buffering.{frames_plan}
-use Rattle.interest_book.proofs.Counting.{missing_is}
-use Rattle.interest_book.proofs.OpenPieces.{all_open}
+use Rattle.chunk_interest.proofs.Following.{clients_on, all_ready_on, spares_plan}
+use Rattle.chunk_interest.proofs.Buffering.{frames_plan}
+use Rattle.chunk_interest.proofs.Counting.{missing_is}
+use Rattle.chunk_interest.proofs.OpenPieces.{all_open}
 use Rattle.interest_book.proofs.book.Book.note_plan.Goals as goal
 
 abbrev kept_load : ℕ → ℕ → ℕ → ℕ → Loading

@@ -1,6 +1,6 @@
 use Rattle.std.proofs.Common.{arith, refl, None}
 use Rattle.scan_story.specs.declared.entry.Entry.TheVariants.{Release}
-use Rattle.interest_book.proofs.Buffering.{frames_on}
+use Rattle.chunk_interest.proofs.Buffering.{frames_on}
 use Rattle.interest_book.proofs.Holding.{holds_set, released, released_other}
 use Rattle.interest_book.proofs.book.Book.note_release.Goals as goal
 

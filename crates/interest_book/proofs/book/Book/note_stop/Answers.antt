@@ -1,6 +1,6 @@
 use Rattle.std.proofs.Common.{arith, refl}
 use Rattle.scan_story.specs.declared.entry.Entry.TheVariants.{Stop}
-use Rattle.interest_book.proofs.Buffering.{frames_on}
+use Rattle.chunk_interest.proofs.Buffering.{frames_on}
 use Rattle.interest_book.proofs.book.Book.note_stop.Goals as goal
 
 pub returns : goal.returns

@@ -1,7 +1,7 @@
 use Rattle.std.proofs.Common.{◌≡◌, subst, sym, ◌∙◌, ℕ}
 use Rattle.scan_story.specs.Counting.{has}
 use Rattle.scan_story.specs.Setting.{reads_group}
-use Rattle.interest_book.specs.declared.client.Client.{Client}
+use Rattle.chunk_interest.specs.declared.client.Client.{Client}
 use Rattle.interest_book.proofs.Shown.{client_is}
 use Rattle.interest_book.proofs.ReadPieces.{read_is}
 use Rattle.interest_book.proofs.book.Book.pieces_read.Goals as goal

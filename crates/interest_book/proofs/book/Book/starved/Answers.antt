@@ -1,5 +1,5 @@
 use Rattle.std.proofs.Common.{◌∙◌, ap}
-use Rattle.interest_book.specs.Marked.{is_starved}
+use Rattle.chunk_interest.specs.Marked.{is_starved}
 use Rattle.interest_book.proofs.Shown.{starved_is}
 use Rattle.interest_book.proofs.book.Book.starved.Goals as goal
 

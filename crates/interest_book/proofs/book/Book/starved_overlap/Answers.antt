@@ -1,8 +1,8 @@
 use Rattle.std.proofs.Common.{◌∙◌, ◌≡◌, ◌<◌, List, ℕ, [], ap, length, arith, sym}
 use Rattle.std.proofs.lemmas.List.{get_or_default}
 use Rattle.scan_story.specs.Counting.{count_below}
-use Rattle.interest_book.specs.Counts.{starved_overlaps_by}
-use Rattle.interest_book.specs.Marked.{row_at}
+use Rattle.chunk_interest.specs.Counts.{starved_overlaps_by}
+use Rattle.chunk_interest.specs.Marked.{row_at}
 use Rattle.interest_book.proofs.Shown.{starved_overlap_is, none_starved_overlap}
 use Rattle.interest_book.proofs.book.Book.starved_overlap.Goals as goal
 

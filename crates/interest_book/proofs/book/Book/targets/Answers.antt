@@ -1,6 +1,6 @@
 use Rattle.std.proofs.Common.{◌&&◌, not, ap, ◌∙◌}
 use Rattle.scan_story.specs.Counting.{has}
-use Rattle.interest_book.specs.declared.client.Client.{Client}
+use Rattle.chunk_interest.specs.declared.client.Client.{Client}
 use Rattle.interest_book.proofs.Shown.{target_set}
 use Rattle.interest_book.proofs.book.Book.targets.Goals as goal
 

@@ -1,7 +1,7 @@
 use Rattle.std.proofs.Common.{ℕ, List, sym, ap, ◌∙◌}
 use Rattle.scan_story.specs.Views.{is_held}
 use Rattle.scan_story.specs.Counting.{has}
-use Rattle.interest_book.proofs.Covering.{unheld_is, not_second, no_victim}
+use Rattle.interest_book.proofs.Unheld.{unheld_is, not_second, no_victim}
 use Rattle.interest_book.proofs.book.Book.unheld.Goals as goal
 
 pub returns-clause-unheld : goal.returns-clause-unheld

@@ -1,7 +1,7 @@
 use Rattle.std.proofs.Common.{[], refl, sym, ◌∙◌}
 use Rattle.scan_story.specs.Ratios.{load_ratio}
 use Rattle.scan_story.specs.MayFollow.{is_target}
-use Rattle.interest_book.proofs.Kept.{target_inside}
+use Rattle.chunk_interest.proofs.Kept.{target_inside}
 use Rattle.relevance.specs.Best.{chunk_with, ratio_of, is_greater}
 use Rattle.relevance.proofs.Choosing.{taken, best_end}
 use Rattle.relevance.proofs.Chosen.{picks_load, first_load, active_small}

@@ -1,7 +1,7 @@
 use Rattle.std.proofs.Common.{[], refl, sym, ap, ◌∙◌}
 use Rattle.scan_story.specs.Ratios.{keep_ratio}
 use Rattle.scan_story.specs.MayFollow.{is_victim}
-use Rattle.interest_book.proofs.Kept.{victim_inside}
+use Rattle.chunk_interest.proofs.Kept.{victim_inside}
 use Rattle.relevance.specs.Best.{chunk_with, ratio_of, is_less, lesser_of}
 use Rattle.relevance.proofs.Choosing.{taken, passed, best_end}
 use Rattle.relevance.proofs.Chosen.{picks_victim, first_victim}

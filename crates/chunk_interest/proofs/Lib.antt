@@ -1,0 +1,11 @@
+pub mod Below
+pub mod Bits
+pub mod Needs
+pub mod Kept
+pub mod Following
+pub mod Buffering
+pub mod Covering
+pub mod Counting
+pub mod OpenPieces
+pub mod Beginning
+pub mod Marking

@@ -1,0 +1,8 @@
+use Rattle.chunk_interest.proofs.Marking.{close_number}
+use Rattle.chunk_interest.proofs.clients.Clients.close.Goals as goal
+
+pub returns-clause-number : goal.returns-clause-number
+returns-clause-number c = (close_number c.self.inside.list.items c.args.self.now c.self.inside.marks c.args.c c.common.result c.index.result.now c.self.invariant c.self.view_is c.requires c.index.ensures c.common.ensures).0
+
+pub returns-clause-few : goal.returns-clause-few
+returns-clause-few c = (close_number c.self.inside.list.items c.args.self.now c.self.inside.marks c.args.c c.common.result c.index.result.now c.self.invariant c.self.view_is c.requires c.index.ensures c.common.ensures).1

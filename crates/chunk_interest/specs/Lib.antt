@@ -1,0 +1,10 @@
+pub mod Clients
+pub mod Follows
+pub mod Frames
+pub mod Buffers
+pub mod Renewed
+pub mod Counts
+pub mod Fresh
+pub mod Counted
+pub mod Marked
+pub mod Freed

@@ -1,8 +1,0 @@
-use Rattle.std.proofs.Common.{arith}
-use Rattle.interest_book.proofs.Bits.{has_both}
-use Rattle.interest_book.proofs.query_set.QuerySet.both.Goals as goal
-
-pub returns : goal.returns
-returns c x =
-    rw (← c.self.view_is, ← c.other.view_is)
-    (has_both c.self.inside.words c.other.inside.words c.loop-i.words x (λ j lt. c.loop-i.invariant.done j (omega (arith, lt))))

@@ -1,7 +1,0 @@
-use Rattle.std.specs.Prelude.{replicate}
-use Rattle.table_core.specs.Sets.{bit_of}
-use Rattle.table_core.proofs.Members.{numbers-none, no_bits}
-use Rattle.interest_book.proofs.query_set.QuerySet.empty.Goals as goal
-
-pub returns : goal.returns
-returns c = numbers-none (bit_of (replicate 5 0)) 320 (no_bits 5)
