@@ -1,7 +1,1 @@
-pub mod Boxed
 pub mod Chosen
-pub mod Comparing
-pub mod Ending
-pub mod Jobs
-pub mod Promises
-pub mod Runs

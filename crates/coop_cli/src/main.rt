@@ -1,7 +1,6 @@
 //! `coop_cli TABLE BATCH`: answers a batch of statements over a table. docs/COMMAND_LINE.md is its manual.
-//! `run` is the whole program over any shelf, depot and sink, for one policy, and carries the theorem; `run_boxed` is the
-//! same for a list of policies in boxes, of which the words name one, or compare all; `main` hands it the four that there
-//! are, the files of the system and standard output.
+//! `main` hands `run_boxed` of coop_run the words, the four policies that there are, the files of the system and standard
+//! output; the theorem is `run_boxed`'s.
 #![tactic(auto)]
 
 ghost use Rattle.std.specs.Prelude.{◌≡◌, ◌≤◌, ◌^◌, IfOk, is_some};
@@ -10,19 +9,9 @@ ghost use Rattle.command_words.specs.Options.{scratch_of as name_of_file};
 ghost use Rattle.coop_cli.specs.Chosen.{is_in_file};
 ghost use Rattle.coop_outside.specs.Either.{any_gets};
 
-mod boxed;
-mod boxed_end;
-mod ended;
-mod print;
-mod run;
-mod settle;
-mod taken_policy;
-#[cfg(test)]
-mod tests;
-
-use boxed::run_boxed;
 use command_words::scratch_of;
 use coop_outside::{AnyDepot, DiskShelf, MemDepot, ScratchDepot, StdoutSink, write_all};
+pub use coop_run::{BoxedEnd, Ended, PolicyRun, run, run_boxed, run_settings};
 use cscan::NoGate;
 use policy_box::Elevator;
 use policy_plain::{Attach, Normal};

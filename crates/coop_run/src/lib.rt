@@ -1,0 +1,26 @@
+//! Answers a batch of statements over a table, for a program that brings its own shelf, depot, policy, gate and sink.
+//!
+//!     let mut shelf = DiskShelf::new(rt);
+//!     let depot = MemDepot::new(alloc);
+//!     let mut out = StdoutSink::new(rt);
+//!     let keys = RandomState::new(&rt)?;
+//!     let ended = run(&rt, alloc, keys, &words, &mut shelf, depot, Relevance, &NoGate, &mut out);
+//!     Ok(ExitCode::from(ended.status))
+//!
+//! `run` takes the words of the command line and carries the theorem; `run_settings` takes what they ask for; `run_boxed`
+//! takes a list of policies in boxes, of which the words name one, or compares all. docs/COMMAND_LINE.md is the manual.
+#![tactic(auto)]
+
+mod boxed;
+mod boxed_end;
+mod ended;
+mod one_policy;
+mod print;
+mod settle;
+mod taken_policy;
+
+pub use boxed::run_boxed;
+pub use boxed_end::BoxedEnd;
+pub use ended::Ended;
+pub use one_policy::{run, run_settings};
+pub use policy_compare::PolicyRun;

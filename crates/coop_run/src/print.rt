@@ -1,0 +1,25 @@
+// What is written of a decision.
+ghost use Rattle.batch_answers.specs.Deciding.{shown};
+ghost use Rattle.batch_answers.specs.Devices.{over_sink};
+ghost use Rattle.coop_run.specs.Ending.{Prints};
+
+use batch_answers::Output;
+use coop_outside::{Sink, write_all};
+use run_texts::Stop;
+
+/// Writes the text of a decision, or the line of its stop, and answers the status. It takes no memory.
+pub fn print<O: Sink>(ending: Result<Output, Stop>, out: &mut O) -> u8
+    ensures prints { Prints (shown ending) result (over_sink (O.taken out.old) (O.taken out.new) (O.faults out.old) (O.faults out.new)) }
+{
+    match ending {
+        Ok(output) => match write_all(out, output.text.as_slice()) {
+            Ok(()) => output.status,
+            Err(_) => 6,
+        },
+        Err(stop) => {
+            let line = stop.line();
+            let _ = write_all(out, line.as_slice());
+            stop.status()
+        }
+    }
+}

@@ -1,0 +1,117 @@
+// What a run comes to and writes.
+ghost use Rattle.std.specs.Prelude.{◌≡◌, ◌≢◌, ◌≤◌, ◌⊎◌, ◌^◌, Option, Result, Err, None, Some, is_some, true};
+ghost use Rattle.command_words.specs.Limits.{IsWithinLimits};
+ghost use Rattle.command_words.specs.Views.{request_view};
+ghost use Rattle.run_texts.specs.declared.stop.Stop.{Stop};
+ghost use Rattle.batch_inputs.specs.Asked.{asked_of};
+ghost use Rattle.command_words.specs.declared.call.Call.TheVariants.{Run};
+ghost use Rattle.batch_answers.specs.Answering.{story_in, taken_in};
+ghost use Rattle.batch_answers.specs.Deciding.{IsDecided, IsDecision};
+ghost use Rattle.batch_answers.specs.Devices.{depot_at, over_shelf, over_sink};
+ghost use Rattle.coop_run.specs.Ending.{Prints};
+ghost use Rattle.batch_answers.specs.Running.{Text};
+ghost use Rattle.batch_answers.specs.Work.{work};
+
+use crate::print::print;
+use batch_answers::{Decision, Ran, decide};
+use batch_inputs::request_in;
+use command_words::{Call, Request};
+use coop_outside::{Depot, Shelf, Sink};
+use cscan::Gate;
+use relevance::Policy;
+use run_texts::Stop;
+use std::alloc::Global;
+use std::hash::RandomState;
+use std::sync::Wait;
+use std::thread::Threads;
+
+/// What a run has come to when all is written.
+#[derive(Drop)]
+pub struct Settled<D> {
+    /// The status.
+    pub status: u8,
+    /// What the workers left; none where no worker ran.
+    pub ran: Option<Ran>,
+    /// The depot.
+    pub depot: D,
+}
+
+/// Does all that a run does for a request whose numbers lie within the limits.
+pub fn settle<
+    F: Shelf,
+    P: Policy,
+    D: Depot + Send,
+    O: Sink,
+    T: Gate + Sync,
+    R: Threads + Wait + Sync,
+>(
+    rt: &R,
+    alloc: Global,
+    keys: RandomState,
+    request: &Request<'_>,
+    shelf: &mut F,
+    depot: D,
+    policy: P,
+    gate: &T,
+    out: &mut O,
+) -> Settled<D>
+    requires limits { IsWithinLimits (request_view request.now) }
+    requires gets { D.gets depot ≤ 2 ^ 63 }
+    ensures decides { (d : Result Text Stop) × IsDecided (request_view request.now) (over_shelf (F.held shelf.old) (F.faults shelf.old) (F.faults shelf.new))
+        (work (P.name policy) (P.cursor policy) (depot_at (D.held depot) (D.gets depot) (D.faults depot)) (depot_at (D.held result.depot) (D.gets result.depot) (D.faults result.depot))
+        (story_in result.ran) (taken_in result.ran)) d
+        × Prints d result.status (over_sink (O.taken out.old) (O.taken out.new) (O.faults out.old) (O.faults out.new)) }
+    ensures ran { (result.status ≤ 1) ⊎ (result.status ≡ 6) → is_some result.ran ≡ true }
+    ensures idle { 2 ≤ result.status → result.status ≢ 6 → result.status ≢ 7 → result.ran ≡ None }
+{
+    let Decision { ending, ran, depot } = decide(
+        rt, alloc, keys, request, shelf, depot, policy, gate,
+    );
+    let status = print(ending, out);
+    Settled { status, ran, depot }
+}
+
+/// Writes the line of a stop that comes of the words, before anything was read.
+pub fn refuse<D, O: Sink>(stop: Stop, depot: D, out: &mut O) -> Settled<D>
+    ensures prints { Prints (Err stop) result.status (over_sink (O.taken out.old) (O.taken out.new) (O.faults out.old) (O.faults out.new)) }
+    ensures depot { result.depot ≡ depot }
+    ensures idle { result.ran ≡ None }
+{
+    let status = print(Err(stop), out);
+    Settled {
+        status,
+        ran: None,
+        depot,
+    }
+}
+
+/// Does all that a run does for the words after the program's name.
+pub fn settle_words<
+    F: Shelf,
+    P: Policy,
+    D: Depot + Send,
+    O: Sink,
+    T: Gate + Sync,
+    R: Threads + Wait + Sync,
+>(
+    rt: &R,
+    alloc: Global,
+    keys: RandomState,
+    words: &[String],
+    shelf: &mut F,
+    depot: D,
+    policy: P,
+    gate: &T,
+    out: &mut O,
+) -> Settled<D>
+    requires gets { D.gets depot ≤ 2 ^ 63 }
+    ensures decides { (d : Result Text Stop) × IsDecision (asked_of Run words.now) (over_shelf (F.held shelf.old) (F.faults shelf.old) (F.faults shelf.new))
+        (work (P.name policy) (P.cursor policy) (depot_at (D.held depot) (D.gets depot) (D.faults depot)) (depot_at (D.held result.depot) (D.gets result.depot) (D.faults result.depot))
+        (story_in result.ran) (taken_in result.ran)) d
+        × Prints d result.status (over_sink (O.taken out.old) (O.taken out.new) (O.faults out.old) (O.faults out.new)) }
+{
+    match request_in(alloc, Call::Run, words) {
+        Ok(request) => settle(rt, alloc, keys, &request, shelf, depot, policy, gate, out),
+        Err(stop) => refuse(stop, depot, out),
+    }
+}

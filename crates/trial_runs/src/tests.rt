@@ -1,0 +1,132 @@
+// The program over devices in memory, by the worked examples.
+ghost use Rattle.std.specs.Prelude.{◌≤◌, ◌^◌};
+
+use coop_outside::{Bytes, Depot, MemDepot, MemShelf, MemSink};
+use coop_run::{Ended, run};
+use cscan::{Gate, NoGate};
+use relevance::Relevance;
+use std::alloc::Global;
+use std::hash::RandomState;
+use std::random::RandomSource;
+use std::sync::Wait;
+use std::test::Fail;
+use std::thread::Threads;
+
+mod answers;
+mod boxed;
+mod devices;
+mod generated;
+mod hostile;
+mod layouts;
+mod meeting;
+mod refusals;
+mod stories;
+
+// Five rows of three columns.
+const TABLE_A: &str = "id,dept,pay\n1,a,10\n2,b,20\n3,a,\n4,c,40\n5,b,-5\n";
+
+// Two rows a chunk, one worker, and no frame more than it needs.
+const WORDS: &str = "--threads 1 --frames 4 --rows 2 a.csv b.sql";
+
+const COUNT: &str = "SELECT COUNT(*) FROM t;";
+
+const COUNT_TWICE: &str = "SELECT COUNT(*) FROM t; SELECT COUNT(*) FROM t;";
+
+const SUMS: &str = "SELECT dept, SUM(pay), COUNT(pay) FROM t GROUP BY dept;";
+
+const SUMS_PRINTED: &str = "query 1\n'a', 10, 1\n'b', 15, 2\n'c', 40, 1\n";
+
+fn bytes_of(alloc: Global, text: &[u8]) -> Result<Bytes, Fail> {
+    Ok(Bytes::new(Vec::from_slice(alloc, text)?))
+}
+
+// A shelf with a table and a batch.
+fn shelf_of(alloc: Global, table: &[u8], batch: &[u8]) -> Result<MemShelf, Fail> {
+    let mut files = Vec::new(alloc);
+    files.push((String::from_str(alloc, "a.csv")?, bytes_of(alloc, table)?))?;
+    files.push((String::from_str(alloc, "b.sql")?, bytes_of(alloc, batch)?))?;
+    Ok(MemShelf {
+        files,
+        fail_reads: Vec::new(alloc),
+        calls: 0,
+        faults: 0,
+    })
+}
+
+// A sink that takes so many bytes a call.
+fn sink_of(alloc: Global, per_call: usize) -> MemSink {
+    MemSink {
+        taken: Bytes::new(Vec::new(alloc)),
+        per_call,
+        fail_writes: Vec::new(alloc),
+        calls: 0,
+        faults: 0,
+    }
+}
+
+// The words of a line.
+fn words_of(alloc: Global, line: &str) -> Result<Vec<String>, Fail> {
+    let mut words = Vec::new(alloc);
+    for word in line.split(' ') {
+        if word != "" {
+            words.push(String::from_str(alloc, word)?)?;
+        }
+    }
+    Ok(words)
+}
+
+// Words, a table, a batch, the status and the output.
+type Case<'a> = (&'a str, &'a str, &'a str, u8, &'a str);
+
+// The first case, counted from 1, that ends otherwise over a depot in memory; 0 where each ends as it should.
+fn wrong_case<R: RandomSource + Threads + Wait + Sync>(
+    rt: &R,
+    alloc: Global,
+    cases: &[Case<'_>],
+) -> Result<usize, Fail> {
+    for place in 0..cases.len() {
+        let (line, table, batch, status, output) = cases[place];
+        let (ended, taken) = run_on(rt, alloc, line, table, batch, MemDepot::new(alloc))?;
+        if ended.status != status || taken.as_slice() != output.as_bytes() {
+            return Ok(place + 1);
+        }
+    }
+    Ok(0)
+}
+
+// A run of these words over a table, a batch and a depot: what it leaves, and what it wrote.
+fn run_on<D: Depot + Send, R: RandomSource + Threads + Wait + Sync>(
+    rt: &R,
+    alloc: Global,
+    line: &str,
+    table: &str,
+    batch: &str,
+    depot: D,
+) -> Result<(Ended<D>, Bytes), Fail>
+    requires gets { D.gets depot ≤ 2 ^ 63 }
+{
+    let (table, batch) = (table.as_bytes(), batch.as_bytes());
+    run_beside(rt, alloc, line, table, batch, depot, &NoGate)
+}
+
+// The same beside a gate, over texts of any bytes.
+fn run_beside<D: Depot + Send, T: Gate + Sync, R: RandomSource + Threads + Wait + Sync>(
+    rt: &R,
+    alloc: Global,
+    line: &str,
+    table: &[u8],
+    batch: &[u8],
+    depot: D,
+    gate: &T,
+) -> Result<(Ended<D>, Bytes), Fail>
+    requires gets { D.gets depot ≤ 2 ^ 63 }
+{
+    let words = words_of(alloc, line)?;
+    let keys = RandomState::new(rt)?;
+    let mut shelf = shelf_of(alloc, table, batch)?;
+    let mut out = sink_of(alloc, 100);
+    let ended = run(
+        rt, alloc, keys, &words, &mut shelf, depot, Relevance, gate, &mut out,
+    );
+    Ok((ended, out.taken))
+}
