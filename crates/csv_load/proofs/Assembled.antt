@@ -10,7 +10,8 @@ use Rattle.std.proofs.lemmas.List.{get_or-map, length-map, ext_get_or, length-ta
 use Rattle.std.proofs.lemmas.List.Elements.{All-nil, All-cons, All-head, All-tail, All-from_get_or, All-get_or}
 use Rattle.column_types.specs.Kinds.{is_of, kind_of, value_as}
 use Rattle.column_types.proofs.Holding.{same-kind, holds}
-use Rattle.csv_rows.specs.Judged.{Fields, max_columns, max_rows, refusal_of}
+use Rattle.csv_rows.specs.Judged.{Fields, refusal_of}
+use Rattle.table_core.specs.declared.limits.TheConstants.{MOST_COLUMNS, MOST_ROWS}
 use Rattle.csv_load.proofs.Finishing.{column-dict, column-same, get_or-column_at, get_or-columns_from, get_or-zip_with, length-column_at, length-columns_from, length-zip_with, zip-get, zip-length}
 use Rattle.csv_load.specs.Finished.{column_with, columns_with}
 use Rattle.csv_load.specs.Gathered.{AreRead, IsCell}
@@ -185,14 +186,14 @@ dict-is names rows columns old typed d k read all inside =
     (zip-get IsTyped columns typed k [] d all here))
 
 -- a header that isn't refused has few names
-few-names : (names : Fields) (rows : List Fields) → refusal_of (names ∷ rows) ≡ None → length names ≤ max_columns
-few-names names rows accepted = elim (cases_Bool (nat_lt max_columns (length names))) [
+few-names : (names : Fields) (rows : List Fields) → refusal_of (names ∷ rows) ≡ None → length names ≤ MOST_COLUMNS
+few-names names rows accepted = elim (cases_Bool (nat_lt MOST_COLUMNS (length names))) [
   | inl so ↦ let e = rw so at accepted in absurd (cc)
   | inr not ↦ grind (arith, nat_tests)
 ]
 
 loaded-with : (names : Fields) (rows columns : List Fields) (old cells : List Cell) (typed : List Typed) (d : Typed)
-    → refusal_of (names ∷ rows) ≡ None → 0 < length names → length rows ≤ max_rows
+    → refusal_of (names ∷ rows) ≡ None → 0 < length names → length rows ≤ MOST_ROWS
     → AreRead rows (length names) columns old → AllZip IsTyped columns typed → length cells ≡ length old → AreFinished typed old cells
     → IsLoaded (names ∷ rows) (record { columns = columns_with names typed; rows = rows_of (length (columns_with names typed)) cells }) (map (λ column. column.dict) typed)
 loaded-with names rows columns old cells typed d accepted some few read all same_size finished =
@@ -225,7 +226,7 @@ loaded-with names rows columns old cells typed d accepted some few read all same
     }
 
 loaded-some : (names : Fields) (rows columns : List Fields) (old cells : List Cell) (typed : List Typed)
-    → refusal_of (names ∷ rows) ≡ None → 0 < length names → length rows ≤ max_rows
+    → refusal_of (names ∷ rows) ≡ None → 0 < length names → length rows ≤ MOST_ROWS
     → AreRead rows (length names) columns old → AllZip IsTyped columns typed → length cells ≡ length old → AreFinished typed old cells
     → IsLoaded (names ∷ rows) (record { columns = columns_with names typed; rows = rows_of (length (columns_with names typed)) cells }) (map (λ column. column.dict) typed)
 loaded-some names rows columns old cells [] accepted some few read all size finished = absurd (omega (arith, some, read.width_is, zip-length IsTyped columns [] all))

@@ -6,7 +6,8 @@ use Rattle.std.proofs.lemmas.Nat.{mul-add-lt}
 use Rattle.std.proofs.lemmas.List.{get_or_append_left, get_or-replicate, length-replicate, map-append, append-nil, drop_all, take_all}
 use Rattle.std.proofs.lemmas.List.Elements.{All-nil, All-push, All-weaker, Contains-append_left, Contains-push}
 use Rattle.std.proofs.Math.Seq.{get_or-append_seam}
-use Rattle.csv_rows.specs.Judged.{Fields, max_rows, refusal_of}
+use Rattle.csv_rows.specs.Judged.{Fields, refusal_of}
+use Rattle.table_core.specs.declared.limits.TheConstants.{MOST_ROWS}
 use Rattle.csv_load.specs.Gathered.{AreRead, IsPut, RowPut, Stands}
 use Rattle.csv_load.specs.Meaning.{column_at}
 use Rattle.csv_load.specs.Reading.{IsRead}
@@ -98,7 +99,7 @@ so_far-more records names columns new cells more row left rest is e wide put = r
 }
 
 pub so_far-all : (records : List Fields) (names : Fields) (columns : List Fields) (cells : List Cell) (left : List Fields) (count : ℕ)
-    → SoFar records names columns cells left → left ≡ [] → refusal_of records ≡ None → 0 < length names → length records ≡ count + 1 + length left → count ≤ max_rows
+    → SoFar records names columns cells left → left ≡ [] → refusal_of records ≡ None → 0 < length names → length records ≡ count + 1 + length left → count ≤ MOST_ROWS
     → IsRead records names columns cells
 so_far-all records names columns cells left count is e accepted some counted few = record {
   accepted = accepted;

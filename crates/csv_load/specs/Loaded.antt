@@ -1,7 +1,8 @@
 -- What loading a text gives: cells and dictionaries that stand for the table of its records.
 use Rattle.std.specs.Prelude.{◌≡◌, ◌<◌, ◌≤◌, ℕ, List, [], length, map, drop, slice_index_or, None, All}
 use Rattle.csv_load.specs.Meaning.{IsColumnDict, column_at, table_of}
-use Rattle.csv_rows.specs.Judged.{Fields, max_columns, max_rows, refusal_of}
+use Rattle.csv_rows.specs.Judged.{Fields, refusal_of}
+use Rattle.table_core.specs.declared.limits.TheConstants.{MOST_COLUMNS, MOST_ROWS}
 use Rattle.table_core.specs.Table.{TableRows}
 use Rattle.table_core.specs.Value.{FitsColumn, row_values}
 use Rattle.table_core.specs.declared.cell.Cell.{Cell}
@@ -28,5 +29,5 @@ pub record IsLoaded (records : List Fields) (table : TableRows) (dicts : List Fi
   pub dictionaries : (k : ℕ) → k < length table.columns → IsColumnDict (kind_at table.columns k) (column_at k (drop 1 records)) (slice_index_or dicts k [])
   pub fits : All (FitsRow table.columns dicts) table.rows
   pub some_columns : 0 < length table.columns
-  pub few_columns : length table.columns ≤ max_columns
-  pub few_rows : length table.rows ≤ max_rows
+  pub few_columns : length table.columns ≤ MOST_COLUMNS
+  pub few_rows : length table.rows ≤ MOST_ROWS

@@ -1,7 +1,8 @@
 -- What reading a text gives, before the kinds of its columns are known.
 use Rattle.std.specs.Prelude.{◌≡◌, ◌≤◌, ◌<◌, List, ◌∷◌, length, None}
 use Rattle.csv_load.specs.Gathered.{AreRead}
-use Rattle.csv_rows.specs.Judged.{Fields, max_rows, refusal_of}
+use Rattle.csv_rows.specs.Judged.{Fields, refusal_of}
+use Rattle.table_core.specs.declared.limits.TheConstants.{MOST_ROWS}
 use Rattle.table_core.specs.declared.cell.Cell.{Cell}
 
 -- the header's names, and the fields of all rows
@@ -11,4 +12,4 @@ pub record IsRead (records : List Fields) (names : Fields) (columns : List Field
   pub records_are : records ≡ names ∷ rows
   pub read : AreRead rows (length names) columns cells
   pub some_names : 0 < length names
-  pub few_rows : length rows ≤ max_rows
+  pub few_rows : length rows ≤ MOST_ROWS

@@ -90,11 +90,10 @@ impl Gathered {
             return Ok(Cell::Null);
         }
         let place = self.texts.len();
-        match place_seen(&self.seen, field, place) {
-            Some(known) => return Ok(Cell::Code(known)),
-            None => {}
+        if let Some(known) = place_seen(&self.seen, field, place) {
+            return Ok(Cell::Code(known));
         }
-        if place >= 4294967295 {
+        if place >= u32::MAX as usize {
             return Err(AllocError);
         }
         self.texts.push(field)?;

@@ -11,7 +11,7 @@ ghost use Rattle.table_core.specs.Value.{places_of};
 use crate::reading::{Read, read_rows};
 use crate::seeded::Seeded;
 use crate::typed::{Typed, finish_cells, type_columns};
-use csv_rows::LoadRefusal;
+use csv_rows::{LoadRefusal, MOST_TEXT_BYTES};
 use std::alloc::{AllocError, Global};
 use std::hash::RandomState;
 use table_core::{Bytes, Column, Dict, Schema, Table};
@@ -19,7 +19,7 @@ use table_core::{Bytes, Column, Dict, Schema, Table};
 /// A table with the dictionaries of its columns.
 #[derive(Drop)]
 pub struct Loaded {
-    /// The table of 1 to 16 columns and at most 2097152 rows.
+    /// The table of 1 to `MOST_COLUMNS` columns and at most `MOST_ROWS` rows.
     pub table: Table,
     /// A dictionary for each column, in their order: an empty one but for a column of texts.
     pub dicts: Vec<Dict>,
@@ -54,7 +54,7 @@ fn dicts_of(alloc: Global, typed: Vec<Typed>) -> Result<Vec<Dict>, AllocError>
     Ok(dicts)
 }
 
-/// The table of a CSV text of at most 268435456 bytes, or why it is none: the first cause that holds, at the
+/// The table of a CSV text of at most 268435456 bytes (`MOST_TEXT_BYTES`), or why it is none: the first cause that holds, at the
 /// first place where it holds, or want of memory, which may come in place of any other answer.
 ///
 /// The text is read once. The call keeps the texts of each column until its kind is known, and of a column with
@@ -63,33 +63,21 @@ fn dicts_of(alloc: Global, typed: Vec<Typed>) -> Result<Vec<Dict>, AllocError>
 /// nobody who doesn't know them can choose texts that have one hash and so slow the call down.
 /// docs/TABLES.md says which texts are tables and what their cells are.
 pub fn load(alloc: Global, keys: RandomState, bytes: &[u8]) -> Result<Loaded, LoadRefusal>
-    requires small { length bytes.now ≤ 268435456 }
+    requires small { length bytes.now ≤ MOST_TEXT_BYTES }
     ensures loaded { IfOk result (λ t. IsLoaded (table_records bytes.now) t.table t.dicts.items) }
     ensures places { IfOk result (λ t. All (λ c. places_of c.kind ≤ 9) t.table.columns) }
     ensures refused { IfErr result (λ e. e ≢ refusal.Memory → refusal_of (table_records bytes.now) ≡ Some e) }
 {
-    let read = match read_rows(alloc, Seeded::with_keys(keys), bytes) {
-        Ok(read) => read,
-        Err(refusal) => return Err(refusal),
-    };
+    let read = read_rows(alloc, Seeded::with_keys(keys), bytes)?;
     let Read {
         names,
         columns,
         mut cells,
     } = read;
-    let typed = match type_columns(alloc, columns) {
-        Ok(typed) => typed,
-        Err(_) => return Err(LoadRefusal::Memory),
-    };
+    let typed = type_columns(alloc, columns)?;
     finish_cells(&mut cells, typed.as_slice());
-    let schema = match schema_of(alloc, names, typed.as_slice()) {
-        Ok(schema) => schema,
-        Err(_) => return Err(LoadRefusal::Memory),
-    };
-    let dicts = match dicts_of(alloc, typed) {
-        Ok(dicts) => dicts,
-        Err(_) => return Err(LoadRefusal::Memory),
-    };
+    let schema = schema_of(alloc, names, typed.as_slice())?;
+    let dicts = dicts_of(alloc, typed)?;
     Ok(Loaded {
         table: Table::new(schema, cells),
         dicts,

@@ -10,11 +10,9 @@ ghost use Rattle.csv_rows.specs.declared.refusal.LoadRefusal.TheVariants as refu
 use crate::gathered::Gathered;
 use crate::seeded::Seeded;
 use csv::ByteRecord;
-use csv_rows::{LoadRefusal, Rows, field, judge_header};
+use csv_rows::{LoadRefusal, MOST_TEXT_BYTES, Rows, field, judge_header};
 use std::alloc::{AllocError, Global};
-use table_core::{Bytes, Cell};
-
-const MAX_ROWS: u32 = 2097152;
+use table_core::{Bytes, Cell, MOST_ROWS};
 
 // The names of a header, the texts of each column below it, and a cell for each field row by row.
 #[derive(Drop)]
@@ -77,7 +75,7 @@ fn put_row(
 
 // Reads each record once, and judges it.
 pub(crate) fn read_rows(alloc: Global, hash: Seeded, text: &[u8]) -> Result<Read, LoadRefusal>
-    requires small { length text.now ≤ 268435456 }
+    requires small { length text.now ≤ MOST_TEXT_BYTES }
     ensures read { IfOk result (λ r. IsRead (table_records text.now) r.names.items r.columns.items r.cells.items) }
     ensures refused { IfErr result (λ e. e ≢ refusal.Memory → refusal_of (table_records text.now) ≡ Some e) }
 {
@@ -94,13 +92,10 @@ pub(crate) fn read_rows(alloc: Global, hash: Seeded, text: &[u8]) -> Result<Read
     if width == 0 {
         return Err(LoadRefusal::Memory);
     }
-    let mut read = match no_rows(alloc, hash, &row) {
-        Ok(read) => read,
-        Err(_) => return Err(LoadRefusal::Memory),
-    };
+    let mut read = no_rows(alloc, hash, &row)?;
     let mut count: u32 = 0;
     while rows.next(&mut row)? {
-        if count == MAX_ROWS {
+        if count == MOST_ROWS {
             return Err(LoadRefusal::TooManyRows);
         }
         if row.len() != width {
@@ -109,10 +104,7 @@ pub(crate) fn read_rows(alloc: Global, hash: Seeded, text: &[u8]) -> Result<Read
                 fields: row.len() as u32,
             });
         }
-        match put_row(&mut read.columns, &mut read.cells, &row) {
-            Ok(()) => {}
-            Err(_) => return Err(LoadRefusal::Memory),
-        }
+        put_row(&mut read.columns, &mut read.cells, &row)?;
         count += 1;
     }
     Ok(read)

@@ -2,10 +2,11 @@
 ghost use Rattle.std.specs.Prelude.{◌≤◌, length};
 
 use crate::{LoadRefusal, load};
-use std::alloc::Global;
+use csv_rows::MOST_TEXT_BYTES;
+use std::alloc::{AllocError, Global};
 use std::hash::RandomState;
 use std::test::Fail;
-use table_core::{Cell, Kind};
+use table_core::{Cell, Kind, MOST_ROWS};
 
 #[test]
 fn an_empty_field_and_an_empty_line(rt: HostRuntime) -> Result<(), Fail> {
@@ -99,7 +100,7 @@ fn numbers_at_the_ends_of_64_bits_keep_their_values(rt: HostRuntime) -> Result<(
 
 // The rows of a text's table, or why it is none.
 fn rows_loaded(alloc: Global, keys: RandomState, text: &[u8]) -> Result<usize, LoadRefusal>
-    requires { length text.now ≤ 268435456 }
+    requires { length text.now ≤ MOST_TEXT_BYTES }
 {
     let loaded = load(alloc, keys, text)?;
     Ok(loaded.table.len())
@@ -110,7 +111,12 @@ fn hostile_tables(rt: HostRuntime) -> Result<(), Fail> {
     let keys = RandomState::new(&rt)?;
     for (text, want) in [
         (b"".as_slice(), Err(LoadRefusal::NoHeader)),
+        (b"\xef\xbb\xbf".as_slice(), Err(LoadRefusal::NoHeader)),
         (b"id\n".as_slice(), Ok(0)),
+        (b"\xef\xbb\xbfid\r\n1\r\n2".as_slice(), Ok(2)),
+        (b"x\n1\n\"\"\n\n3\n".as_slice(), Ok(3)),
+        (b"x\n\"a\nb\"\n\"c,\"\"d\"\n".as_slice(), Ok(2)),
+        (b",a\n1,2\n".as_slice(), Ok(1)),
         (b"0,1,2,3,4,5,6,7,8,9,a,b,c,d,e,f\n".as_slice(), Ok(0)),
         (
             b",,,,,,,,,,,,,,,,\n".as_slice(),
@@ -152,7 +158,7 @@ fn the_length_of_a_name(rt: HostRuntime) -> Result<(), Fail> {
         for _ in 0..size {
             text.push(b'x')?;
         }
-        assert!(rt; text.len() <= 268435456);
+        assert!(rt; text.len() <= MOST_TEXT_BYTES);
         assert_eq!(rt;
             rows_loaded(rt.alloc(), keys, text.as_slice()),
             want,
@@ -162,6 +168,16 @@ fn the_length_of_a_name(rt: HostRuntime) -> Result<(), Fail> {
     Ok(())
 }
 
+// A text of one column with the most rows that a table may have, and more behind them.
+fn full_text(alloc: Global, back: &[u8]) -> Result<Vec<u8>, AllocError> {
+    let mut text = Vec::from_slice(alloc, b"a\n")?;
+    for _ in 0..MOST_ROWS / 16 {
+        text.extend_from_slice(b"1\n1\n1\n1\n1\n1\n1\n1\n1\n1\n1\n1\n1\n1\n1\n1\n")?;
+    }
+    text.extend_from_slice(back)?;
+    Ok(text)
+}
+
 #[test]
 fn the_number_of_rows(rt: HostRuntime) -> Result<(), Fail> {
     let keys = RandomState::new(&rt)?;
@@ -169,17 +185,25 @@ fn the_number_of_rows(rt: HostRuntime) -> Result<(), Fail> {
         (b"".as_slice(), Ok(2097152)),
         (b"1,2\n".as_slice(), Err(LoadRefusal::TooManyRows)),
     ] {
-        let mut text = Vec::from_slice(rt.alloc(), b"a\n")?;
-        for _ in 0..2097152 {
-            text.extend_from_slice(b"1\n")?;
-        }
-        text.extend_from_slice(back)?;
-        assert!(rt; text.len() <= 268435456);
+        let text = full_text(rt.alloc(), back)?;
+        assert!(rt; text.len() <= MOST_TEXT_BYTES);
         assert_eq!(rt;
             rows_loaded(rt.alloc(), keys, text.as_slice()),
             want,
             "{back:?}"
         );
     }
+    Ok(())
+}
+
+#[test]
+fn a_row_too_many(rt: HostRuntime) -> Result<(), Fail> {
+    let keys = RandomState::new(&rt)?;
+    let text = full_text(rt.alloc(), b"1\n")?;
+    assert!(rt; text.len() <= MOST_TEXT_BYTES);
+    assert_eq!(rt;
+        rows_loaded(rt.alloc(), keys, text.as_slice()),
+        Err(LoadRefusal::TooManyRows)
+    );
     Ok(())
 }

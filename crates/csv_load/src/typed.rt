@@ -33,21 +33,19 @@ fn type_column(alloc: Global, texts: Texts) -> Result<Typed, AllocError>
     match kind {
         Kind::Text => {
             let ranked = rank_texts(alloc, &texts)?;
-            return Ok(Typed {
+            Ok(Typed {
                 kind,
                 texts: Texts::new(alloc),
                 codes: ranked.codes,
                 dict: ranked.dict,
-            });
+            })
         }
-        Kind::Int | Kind::Dec { .. } => {
-            return Ok(Typed {
-                kind,
-                texts,
-                codes: Vec::new(alloc),
-                dict: Dict::new(alloc),
-            });
-        }
+        Kind::Int | Kind::Dec { .. } => Ok(Typed {
+            kind,
+            texts,
+            codes: Vec::new(alloc),
+            dict: Dict::new(alloc),
+        }),
     }
 }
 
@@ -68,9 +66,8 @@ fn code_cell(codes: &[Option<u32>], place: usize) -> Cell
     ensures { result ≡ code_at codes.now place }
 {
     match codes.get(place) {
-        Some(Some(code)) => return Cell::Code(*code),
-        Some(None) => return Cell::Null,
-        None => return Cell::Null,
+        Some(Some(code)) => Cell::Code(*code),
+        Some(None) | None => Cell::Null,
     }
 }
 
@@ -94,13 +91,11 @@ fn finished(column: &Typed, cell: Cell) -> Cell
 {
     let place = match cell {
         Cell::Code(place) => place as usize,
-        Cell::Null => return Cell::Null,
-        Cell::Int(_) => return Cell::Null,
+        Cell::Null | Cell::Int(_) => return Cell::Null,
     };
     match column.kind {
-        Kind::Text => return code_cell(column.codes.as_slice(), place),
-        Kind::Int => return numeral(column, place),
-        Kind::Dec { .. } => return numeral(column, place),
+        Kind::Text => code_cell(column.codes.as_slice(), place),
+        Kind::Int | Kind::Dec { .. } => numeral(column, place),
     }
 }
 

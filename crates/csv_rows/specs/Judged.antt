@@ -1,21 +1,14 @@
 -- Why a list of records is no table: the first cause that holds, at the first place where it holds.
 use Rattle.std.specs.Prelude.{◌+◌, ◌==◌, ℕ, nat_lt, List, [], ◌∷◌, length, Option, Some, None, take, option_map, if◌then◌else◌}
 use Rattle.std.specs.Str.{bytes_eq}
+use Rattle.table_core.specs.declared.limits.TheConstants.{MOST_COLUMNS, MOST_ROWS}
+use Rattle.csv_rows.specs.declared.limits.TheConstants.{MOST_NAME_BYTES}
 use Rattle.csv_rows.specs.declared.refusal.LoadRefusal.{LoadRefusal}
 use Rattle.csv_rows.specs.declared.refusal.LoadRefusal.TheVariants.{NoHeader, TooManyColumns, LongName, TwiceNamed, Ragged, TooManyRows}
 
 -- a record's fields, each a list of bytes
 abbrev pub Fields : Type 0
 Fields = List (List ℕ)
-
-abbrev pub max_columns : ℕ
-max_columns = 16
-
-abbrev pub max_name : ℕ
-max_name = 128
-
-abbrev pub max_rows : ℕ
-max_rows = 2097152
 
 -- the one cause, or else the other
 abbrev pub or_else : {T : Type 0} → Option T → Option T → Option T
@@ -25,7 +18,7 @@ or_else (Some x) more = Some x
 -- the place of the first field that is longer than a name may be; the fields are counted from `place`
 abbrev pub first_long : ℕ → Fields → Option ℕ
 first_long place [] = None
-first_long place (f ∷ fs) = if nat_lt max_name (length f) then Some place else first_long (place + 1) fs
+first_long place (f ∷ fs) = if nat_lt MOST_NAME_BYTES (length f) then Some place else first_long (place + 1) fs
 
 -- the place of the first field that is this name; the fields are counted from `place`
 abbrev pub first_equal : List ℕ → ℕ → Fields → Option ℕ
@@ -41,7 +34,7 @@ first_twice header second (f ∷ fs) =
 -- why these fields are no header
 abbrev pub header_refusal : Fields → Option LoadRefusal
 header_refusal header =
-    if nat_lt max_columns (length header) then Some (TooManyColumns (length header))
+    if nat_lt MOST_COLUMNS (length header) then Some (TooManyColumns (length header))
     else or_else (option_map (λ column. LongName column) (first_long 0 header))
     (option_map (λ p. TwiceNamed p.0 p.1) (first_twice header 0 header))
 
@@ -50,7 +43,7 @@ header_refusal header =
 abbrev pub first_bad_row : ℕ → ℕ → List Fields → Option LoadRefusal
 first_bad_row width row [] = None
 first_bad_row width row (r ∷ rs) =
-    if row == max_rows then Some TooManyRows
+    if row == MOST_ROWS then Some TooManyRows
     else if length r == width then first_bad_row width (row + 1) rs
     else Some (Ragged (row + 1) (length r))
 

@@ -4,19 +4,17 @@ ghost use Rattle.csv.specs.Records.{fields_of};
 ghost use Rattle.csv_rows.specs.Judged.{first_equal, first_long, first_twice, header_refusal};
 
 use crate::fields::field;
+use crate::limits::MOST_NAME_BYTES;
 use crate::refusal::LoadRefusal;
 use csv::ByteRecord;
-
-const MAX_COLUMNS: usize = 16;
-
-const MAX_NAME: usize = 128;
+use table_core::MOST_COLUMNS;
 
 fn long_name(row: &ByteRecord) -> Option<u32>
     requires small { length (fields_of row.now) < 2 ^ 32 }
     ensures first { result ≡ first_long 0 (fields_of row.now) }
 {
     for place in 0..row.len() {
-        if field(row, place).len() > MAX_NAME {
+        if field(row, place).len() > MOST_NAME_BYTES {
             return Some(place as u32);
         }
     }
@@ -55,7 +53,7 @@ pub fn judge_header(row: &ByteRecord) -> Option<LoadRefusal>
     ensures refusal { result ≡ header_refusal (fields_of row.now) }
 {
     let width = row.len();
-    if width > MAX_COLUMNS {
+    if width > MOST_COLUMNS as usize {
         return Some(LoadRefusal::TooManyColumns {
             columns: width as u32,
         });

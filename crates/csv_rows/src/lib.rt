@@ -4,18 +4,18 @@
 //! docs/TABLES.md has the rules for users.
 #![tactic(auto)]
 
-mod count;
 mod fields;
 mod header;
+mod limits;
 mod memory;
 mod refusal;
 mod rows;
 #[cfg(test)]
 mod tests;
 
-pub use count::count_rows;
 pub use fields::field;
 pub use header::judge_header;
+pub use limits::{MOST_NAME_BYTES, MOST_TEXT_BYTES};
 pub use memory::Memory;
 pub use refusal::LoadRefusal;
 pub use rows::Rows;

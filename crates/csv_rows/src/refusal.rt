@@ -3,6 +3,7 @@ ghost use Rattle.std.specs.Prelude.{◌≡◌};
 ghost use Rattle.csv_rows.specs.declared.refusal.LoadRefusal.TheVariants as refusal;
 
 use crate::memory::Memory;
+use std::alloc::AllocError;
 use thiserror::Error;
 
 /// Why a text is not loaded as a table. The causes but the last are judged in this order, and each names
@@ -32,7 +33,7 @@ pub enum LoadRefusal {
         /// The later place, from 0.
         second: u32,
     },
-    /// One of the first 2097152 data records has another number of fields than the header; the first one.
+    /// One of the first 2097152 (`MOST_ROWS`) data records has another number of fields than the header; the first one.
     #[error("row {row} has {fields} fields")]
     Ragged {
         /// Its number among the data records, from 1.
@@ -52,6 +53,14 @@ impl From<Memory> for LoadRefusal {
     ghost from_gives = { λ _ e. e ≡ refusal.Memory };
 
     fn from(_: Memory) -> Self {
+        LoadRefusal::Memory
+    }
+}
+
+impl From<AllocError> for LoadRefusal {
+    ghost from_gives = { λ _ e. e ≡ refusal.Memory };
+
+    fn from(_: AllocError) -> Self {
         LoadRefusal::Memory
     }
 }

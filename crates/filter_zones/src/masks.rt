@@ -42,6 +42,18 @@ impl Masks {
         self.can_true = with_bit(self.can_true, k, truths.can_true);
     }
 
+    // The truths of a chunk.
+    pub(crate) fn at(self, k: u32) -> TruthSet
+        requires { k < 64 }
+        ensures { result ≡ spec.truths_at self k }
+    {
+        TruthSet {
+            can_false: self.can_false >> k & 1 == 1,
+            can_unknown: self.can_unknown >> k & 1 == 1,
+            can_true: self.can_true >> k & 1 == 1,
+        }
+    }
+
     // The least of a truth of each set, over all pairs: AND.
     pub(crate) fn and(self, other: Masks) -> Masks
         ensures { (k : ℕ) → spec.truths_at result k ≡ pairs least (spec.truths_at self k) (spec.truths_at other k) }

@@ -1,69 +1,15 @@
 // The truths that a condition may have in a chunk.
-ghost use Rattle.std.specs.Prelude.{◌≡◌, ◌<◌, ◌≤◌, All, length, not};
-ghost use Rattle.std.specs.Ordering.{is_eq};
-ghost use Rattle.filter_zones.specs.Truth.{order_of};
+ghost use Rattle.std.specs.Prelude.{◌≡◌, ◌<◌, ◌≤◌, All, length};
 ghost use Rattle.filter_zones.specs.Zone.{zone_at as zone_of_column};
 ghost use Rattle.filter_zones.specs.Masks.{AreTruths};
 ghost use Rattle.filter_zones.specs.Possible as spec;
 
-use crate::cond::{Bound, Cond, is_above, is_below};
+use crate::cond::{Bound, Cond};
 use crate::ends::EndMasks;
 use crate::masks::Masks;
 use crate::truth_set::TruthSet;
 use crate::zone::{ChunkZones, Zone, zone_at};
-use table_core::{Cell, Op};
-
-fn differs(cell: Cell, value: Bound) -> bool
-    ensures { result ≡ not (is_eq (order_of cell value)) }
-{
-    is_below(cell, value) || is_above(cell, value)
-}
-
-// Whether a comparison may be true over the cells from `low` to `high`.
-fn may_hold(op: Op, value: Bound, low: Cell, high: Cell) -> bool
-    ensures { result ≡ spec.may_hold op (order_of low value) (order_of high value) }
-{
-    match op {
-        Op::Eq => !is_above(low, value) && !is_below(high, value),
-        Op::Ne => differs(low, value) || differs(high, value),
-        Op::Lt => is_below(low, value),
-        Op::Le => !is_above(low, value),
-        Op::Gt => is_above(high, value),
-        Op::Ge => !is_below(high, value),
-    }
-}
-
-// Whether it may be false.
-fn may_fail(op: Op, value: Bound, low: Cell, high: Cell) -> bool
-    ensures { result ≡ spec.may_fail op (order_of low value) (order_of high value) }
-{
-    match op {
-        Op::Eq => differs(low, value) || differs(high, value),
-        Op::Ne => !is_above(low, value) && !is_below(high, value),
-        Op::Lt => !is_below(high, value),
-        Op::Le => is_above(high, value),
-        Op::Gt => !is_above(low, value),
-        Op::Ge => is_below(low, value),
-    }
-}
-
-fn ranged(op: Op, value: Bound, zone: &Zone) -> TruthSet
-    ensures { result ≡ spec.ranged op value zone.now.has_null zone.now.range }
-{
-    let can_unknown = zone.has_null;
-    match zone.range {
-        None => TruthSet {
-            can_false: false,
-            can_unknown,
-            can_true: false,
-        },
-        Some((low, high)) => TruthSet {
-            can_false: may_fail(op, value, low, high),
-            can_unknown,
-            can_true: may_hold(op, value, low, high),
-        },
-    }
-}
+use table_core::Op;
 
 fn null_tests(negated: bool, zone: &Zone) -> TruthSet
     ensures { result ≡ spec.null_tests negated zone.now }
@@ -76,20 +22,6 @@ fn null_tests(negated: bool, zone: &Zone) -> TruthSet
     if negated { nulls.opposites() } else { nulls }
 }
 
-// The possible truths, from the parts of the condition to the whole.
-fn truths(cond: &Cond, zones: &ChunkZones) -> TruthSet
-    requires { spec.FitsZones cond.now zones.now.zones }
-    ensures { result ≡ spec.possible cond.now zones.now.zones }
-{
-    match cond {
-        Cond::Compare { column, op, value } => ranged(*op, *value, zone_at(&zones.zones, *column)),
-        Cond::IsNull { column, negated } => null_tests(*negated, zone_at(&zones.zones, *column)),
-        Cond::And(a, b) => truths(a, zones).and(truths(b, zones)),
-        Cond::Or(a, b) => truths(a, zones).or(truths(b, zones)),
-        Cond::Not(a) => truths(a, zones).opposites(),
-    }
-}
-
 /// The truths that a condition may have in a chunk with these zones.
 ///
 /// Each column of the condition is below 16, and each value is of the kind of the cells in that column's zone. The
@@ -99,7 +31,7 @@ pub fn may_be(cond: &Cond, zones: &ChunkZones) -> TruthSet
     ensures truths { result ≡ spec.possible cond.now zones.now.zones }
     ensures each_row { spec.HoldsEachRow cond.now zones.now.zones result }
 {
-    truths(cond, zones)
+    truths_in_each(cond, &[*zones]).at(0)
 }
 
 // The truths that a comparison may have in each of at most 64 chunks.

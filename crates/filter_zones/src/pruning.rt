@@ -7,7 +7,7 @@ ghost use Rattle.filter_zones.specs.Possible as spec;
 use crate::cond::Cond;
 use crate::possible::truths_in_each;
 use crate::zone::ChunkZones;
-use table_core::ChunkSet;
+use table_core::{ChunkSet, MOST_CHUNKS};
 
 // So many chunks are looked at together: one bit of a word for each.
 const TOGETHER: usize = 64;
@@ -27,7 +27,7 @@ fn needed_bits(cond: Option<&Cond>, chunks: &[ChunkZones]) -> u64
 // Puts `from + k` into the set for each bit `k` that is set, of so many; the set has no number from `from` on.
 fn insert_bits(found: &mut ChunkSet, from: u32, count: u32, bits: u64)
     requires few { count ≤ 64 }
-    requires below { from + count ≤ 1024 }
+    requires below { from + count ≤ MOST_CHUNKS }
     requires none { (c : ℕ) → from ≤ c → has found.old c ≡ false }
     ensures kept { (c : ℕ) → c < from → has found.new c ≡ has found.old c }
     ensures put { (k : ℕ) → k < count → has found.new (from + k) ≡ is_set bits k }
@@ -42,10 +42,10 @@ fn insert_bits(found: &mut ChunkSet, from: u32, count: u32, bits: u64)
 
 /// The chunks that a query with this condition needs: those in which True is possible, or all without a condition.
 ///
-/// There is one entry of `zones` for each chunk, at most 1024, and the condition fits each of them as `may_be`
+/// There is one entry of `zones` for each chunk, at most `MOST_CHUNKS`, and the condition fits each of them as `may_be`
 /// says. No row of another chunk makes the condition true.
 pub fn needed(cond: Option<&Cond>, zones: &[ChunkZones]) -> ChunkSet
-    requires few { length zones.now ≤ 1024 }
+    requires few { length zones.now ≤ MOST_CHUNKS }
     requires fits { IfSome (option_copied cond) (λ c. All (λ chunk. spec.FitsZones c chunk.zones) zones.now) }
     ensures chunks { result ≡ spec.needed (option_copied cond.entry) zones.now }
     ensures outside { IfSome (option_copied cond.entry) (λ c. spec.NoneTrueOutside c zones.now result) }

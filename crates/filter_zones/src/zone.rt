@@ -9,7 +9,7 @@ ghost use Rattle.filter_zones.specs.Truth.{FitsRow};
 ghost use Rattle.filter_zones.specs.Possible.{FitsZones};
 ghost use Rattle.filter_zones.specs.Zone as spec;
 
-use table_core::{Cell, cell_order};
+use table_core::{Cell, MOST_COLUMNS, cell_order};
 
 /// What stands in a column of a chunk.
 #[derive(Clone, Copy, Debug, PartialEq, Eq)]
@@ -73,7 +73,7 @@ fn widened(zone: Zone, cell: Cell) -> Zone
 
 // Puts a row's cells into the zones of their columns.
 fn add_row(zones: &mut [Zone; 16], row: &[Cell])
-    requires { length row.now ≤ 16 }
+    requires { length row.now ≤ MOST_COLUMNS }
     ensures { spec.GainsRow zones.old zones.new row.now }
 {
     for (column, cell) in row.iter().enumerate() {
@@ -94,11 +94,11 @@ fn row_at(cells: &[Cell], width: usize, row: usize) -> &[Cell]
 
 /// The zone of each column of a chunk, from the chunk's cells row by row.
 ///
-/// There are 1 to 16 columns, and the cells are whole rows; without rows nothing stands in any column. The zones
+/// There are 1 to `MOST_COLUMNS` columns, and the cells are whole rows; without rows nothing stands in any column. The zones
 /// have room for each row, and a condition that fits each of the rows fits the zones.
 pub fn zones_of(columns: u32, cells: &[Cell]) -> ChunkZones
     requires some { 1 ≤ columns }
-    requires few { columns ≤ 16 }
+    requires few { columns ≤ MOST_COLUMNS }
     requires whole { AreWholeRows columns cells.now }
     ensures zones { result.zones ≡ spec.zones_of columns (rows_of columns cells.now) }
     ensures of_columns { let rows = rows_of columns cells.now in

@@ -1,6 +1,7 @@
 -- The pieces of a table: how many there are, and what each one is.
 use Rattle.std.specs.Prelude.{◌≡◌, ◌≤◌, ◌<◌, ◌+◌, ◌-◌, ◌*◌, ◌/◌, ◌%◌, ℕ, List, length, min}
 use Rattle.table_core.specs.Chunk.{chunk_count, chunk_end}
+use Rattle.table_core.specs.declared.limits.TheConstants.{MOST_CHUNK_ROWS, MOST_CHUNKS, MOST_COLUMNS, MOST_ROWS}
 use Rattle.table_core.specs.declared.schema.Kind.{Kind}
 use Rattle.piece_format.specs.declared.layout.Layout.{Layout}
 use Rattle.piece_format.specs.declared.layout.Layout.TheVariants as layouts
@@ -34,12 +35,12 @@ pieces s = chunks s * groups s
 -- the limits of a shape
 pub record IsShape (s : TableShape) : Type 0 where
   pub some_columns : 1 ≤ length s.kinds
-  pub few_columns : length s.kinds ≤ 16
+  pub few_columns : length s.kinds ≤ MOST_COLUMNS
   pub dictionaries : length s.dict_lens ≡ length s.kinds
   pub some_rows : 1 ≤ s.per
-  pub short_chunks : s.per ≤ 16384
-  pub few_rows : s.rows ≤ 2097152
-  pub few_chunks : chunks s ≤ 1024
+  pub short_chunks : s.per ≤ MOST_CHUNK_ROWS
+  pub few_rows : s.rows ≤ MOST_ROWS
+  pub few_chunks : chunks s ≤ MOST_CHUNKS
 
 -- the chunk of a piece
 abbrev pub chunk_of : TableShape → ℕ → ℕ
@@ -56,8 +57,8 @@ piece_at s piece = record { layout = s.layout; columns = length s.kinds; rows = 
 -- the limits of a piece
 pub record IsPiece (q : Piece) : Type 0 where
   pub some_columns : 1 ≤ q.columns
-  pub few_columns : q.columns ≤ 16
-  pub few_rows : q.rows ≤ 16384
+  pub few_columns : q.columns ≤ MOST_COLUMNS
+  pub few_rows : q.rows ≤ MOST_CHUNK_ROWS
   pub group_in : q.group < groups_in q.layout q.columns
 
 -- the piece is one of the shape

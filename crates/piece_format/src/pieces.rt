@@ -16,9 +16,9 @@ use table_core::chunk_span;
 #[derive(Clone, Copy, Debug, PartialEq, Eq)]
 pub struct Piece {
     pub layout: Layout,
-    /// How many columns the table has, 1 to 16.
+    /// How many columns the table has, 1 to `MOST_COLUMNS`.
     pub columns: u32,
-    /// How many rows the chunk has, at most 16384.
+    /// How many rows the chunk has, at most `MOST_CHUNK_ROWS`.
     pub rows: u32,
     /// The place of the piece among those of its chunk.
     pub group: u32,

@@ -7,12 +7,12 @@ ghost use Rattle.piece_format.specs.Cells.{dict_len_at, kind_at};
 use crate::layout::Layout;
 use crate::pieces::Piece;
 use std::marker::Model;
-use table_core::Kind;
+use table_core::{Kind, MOST_CHUNK_ROWS, MOST_COLUMNS};
 
 /// How a table is cut into chunks and these into pieces.
 ///
-/// Each call with a shape wants 1 to 16 kinds, as many lengths of dictionaries, 1 to 16384 rows in a chunk, at most
-/// 2097152 rows and at most 1024 chunks.
+/// Each call with a shape wants 1 to `MOST_COLUMNS` kinds, as many lengths of dictionaries, 1 to `MOST_CHUNK_ROWS` rows
+/// in a chunk, at most `MOST_ROWS` rows and at most `MOST_CHUNKS` chunks.
 #[derive(Debug, Drop)]
 pub struct Shape {
     pub layout: Layout,
@@ -70,8 +70,8 @@ fn groups_in(layout: Layout, columns: u32) -> u32
 
 // How many words a piece of so many columns and rows has.
 pub(crate) fn word_count(layout: Layout, columns: u32, rows: u32) -> u32
-    requires columns { columns ≤ 16 }
-    requires rows { rows ≤ 16384 }
+    requires columns { columns ≤ MOST_COLUMNS }
+    requires rows { rows ≤ MOST_CHUNK_ROWS }
     ensures { result ≡ spec.word_count layout columns rows }
 {
     match layout {
@@ -85,7 +85,7 @@ pub fn groups(shape: &Shape) -> u32
     requires { spec.IsShape shape.now }
     ensures groups { result ≡ spec.groups shape.now }
     ensures some { 1 ≤ result }
-    ensures few { result ≤ 16 }
+    ensures few { result ≤ MOST_COLUMNS }
 {
     groups_in(shape.layout, shape.columns())
 }

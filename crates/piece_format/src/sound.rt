@@ -11,6 +11,7 @@ use crate::fours::{
 };
 use crate::word_bytes::word_at;
 use std::simd::prelude::*;
+use table_core::{MOST_CHUNK_ROWS, MOST_COLUMNS};
 
 // Whether in so many rows no mask word has a bit that names no column, and the value words of four columns go no further
 // than they may. Where the table has fewer columns, the words behind them are those of the next row.
@@ -22,8 +23,8 @@ fn group_is_sound(
     group: u32,
     rows: u32,
 ) -> bool
-    requires columns { columns ≤ 16 }
-    requires rows { rows ≤ 16384 }
+    requires columns { columns ≤ MOST_COLUMNS }
+    requires rows { rows ≤ MOST_CHUNK_ROWS }
     requires group { 4 * group < columns }
     requires bytes { 8 * (rows * (columns + 1) + 3) ≤ length bytes.now }
     requires bits { AreBits bits.now }
@@ -48,8 +49,8 @@ fn group_is_sound(
 // Whether in so many rows no mask word has a bit that names no column, and no value word goes further than it may.
 pub(crate) fn rows_are_sound(columns: u32, bytes: &[u8], tops: &[u64; 16], rows: u32) -> bool
     requires some { 0 < columns }
-    requires columns { columns ≤ 16 }
-    requires rows { rows ≤ 16384 }
+    requires columns { columns ≤ MOST_COLUMNS }
+    requires rows { rows ≤ MOST_CHUNK_ROWS }
     requires bytes { 8 * (rows * (columns + 1) + 3) ≤ length bytes.now }
     ensures masks { result ≡ true → (row : ℕ) → row < rows → word_of bytes.now (row * (columns + 1)) < 2 ^ columns }
     ensures values { result ≡ true → (row x : ℕ) → row < rows → x < columns → let start = row * (columns + 1) in
@@ -67,7 +68,7 @@ pub(crate) fn rows_are_sound(columns: u32, bytes: &[u8], tops: &[u64; 16], rows:
 // Whether of the words that stand one after another, eight times so many, none has a value under a set null bit.
 fn none_hidden(bytes: &[u8], from: u32, nulls: u64, eights: u32) -> bool
     requires eights { eights ≤ 8 }
-    requires from { from ≤ 16384 }
+    requires from { from ≤ MOST_CHUNK_ROWS }
     requires bytes { 8 * (from + 8 * eights) ≤ length bytes.now }
     ensures { result ≡ true → (b : ℕ) → b < 8 * eights → bit_at nulls b ≡ 1 → word_of bytes.now (from + b) ≡ 0 }
 {
@@ -85,7 +86,7 @@ fn none_hidden(bytes: &[u8], from: u32, nulls: u64, eights: u32) -> bool
 // Whether of the words that stand one after another, eight times so many, none goes further than the top.
 fn none_above(bytes: &[u8], from: u32, top: u64, eights: u32) -> bool
     requires eights { eights ≤ 8 }
-    requires from { from ≤ 16384 }
+    requires from { from ≤ MOST_CHUNK_ROWS }
     requires bytes { 8 * (from + 8 * eights) ≤ length bytes.now }
     ensures { result ≡ true → (b : ℕ) → b < 8 * eights → word_of bytes.now (from + b) ≤ top }
 {
@@ -102,7 +103,7 @@ fn none_above(bytes: &[u8], from: u32, top: u64, eights: u32) -> bool
 // Whether value words that stand one after another, eight times so many, go no further than they may.
 fn run_is_sound(bytes: &[u8], from: u32, nulls: u64, top: u64, eights: u32) -> bool
     requires eights { eights ≤ 8 }
-    requires from { from ≤ 16384 }
+    requires from { from ≤ MOST_CHUNK_ROWS }
     requires bytes { 8 * (from + 8 * eights) ≤ length bytes.now }
     ensures { result ≡ true → (b : ℕ) → b < 8 * eights → word_of bytes.now (from + b) ≤ limit_of nulls b top }
 {
@@ -111,7 +112,7 @@ fn run_is_sound(bytes: &[u8], from: u32, nulls: u64, top: u64, eights: u32) -> b
 
 // Whether the value words of a column's rows, but for up to seven last ones, go no further than they may.
 pub(crate) fn runs_are_sound(rows: u32, bytes: &[u8], top: u64) -> bool
-    requires rows { rows ≤ 16384 }
+    requires rows { rows ≤ MOST_CHUNK_ROWS }
     requires bytes { length bytes.now ≡ 8 * (rows + (rows + 63) / 64) }
     ensures { result ≡ true → (row : ℕ) → row < rows / 8 * 8 → word_of bytes.now row ≤ limit_of (word_of bytes.now (rows + row / 64)) (row % 64) top }
 {

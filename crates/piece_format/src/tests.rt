@@ -14,7 +14,10 @@ use crate::{
 use std::alloc::{AllocError, Global};
 use std::process::Abort;
 use std::test::Fail;
-use table_core::{Bytes, Cell, Column, Kind, Schema, Table, chunk_count};
+use table_core::{
+    Bytes, Cell, Column, Kind, MOST_CHUNK_ROWS, MOST_CHUNKS, MOST_COLUMNS, MOST_ROWS, Schema,
+    Table, chunk_count,
+};
 
 // ---- what calls ask of their arguments, tested
 
@@ -22,13 +25,13 @@ fn is_shape(shape: &Shape) -> bool
     ensures { OnTrue result (IsShape shape.now) }
 {
     let columns = shape.kinds.len();
-    if columns < 1 || columns > 16 || shape.dict_lens.len() != columns {
+    if columns < 1 || columns > MOST_COLUMNS as usize || shape.dict_lens.len() != columns {
         return false;
     }
-    if shape.per < 1 || shape.per > 16384 || shape.rows > 2097152 {
+    if shape.per < 1 || shape.per > MOST_CHUNK_ROWS || shape.rows > MOST_ROWS {
         return false;
     }
-    chunk_count(shape.rows, shape.per) <= 1024
+    chunk_count(shape.rows, shape.per) <= MOST_CHUNKS
 }
 
 fn fits_kind(kind: Kind, dict_len: u32, cell: Cell) -> bool

@@ -7,7 +7,7 @@ ghost use Rattle.table_pieces.specs.Shaping as spec;
 
 use piece_format::{Layout, Shape};
 use std::alloc::Global;
-use table_core::{Column, Dict, Kind, Memory, Table, chunk_count};
+use table_core::{Column, Dict, Kind, MOST_CHUNKS, Memory, Table, chunk_count};
 
 // The kind of each column.
 fn kinds_of(alloc: Global, columns: &[Column]) -> Result<Vec<Kind>, Memory>
@@ -34,7 +34,7 @@ fn lens_of(alloc: Global, dicts: &[Dict]) -> Result<Vec<u32>, Memory>
 /// How a table is cut into pieces of a layout, with so many rows in each chunk but the last.
 ///
 /// There is a dictionary for each column, without texts where the column has none. The limits are those of shapes: 1 to
-/// 16 columns, 1 to 16384 rows in a chunk, at most 2097152 rows and 1024 chunks. Where each cell of the table is one
+/// `MOST_COLUMNS` columns, 1 to `MOST_CHUNK_ROWS` rows in a chunk, at most `MOST_ROWS` rows and `MOST_CHUNKS` chunks. Where each cell of the table is one
 /// that its column may have, the table is one of this shape.
 pub fn shape_of(
     alloc: Global,
@@ -59,11 +59,11 @@ pub fn shape_of(
     })
 }
 
-/// How many chunks the table has, at most 1024. It takes no memory.
+/// How many chunks the table has, at most `MOST_CHUNKS`. It takes no memory.
 pub fn chunks_of(shape: &Shape) -> u32
     requires { IsShape shape.now }
     ensures chunks { result ≡ chunks shape.now }
-    ensures few { result ≤ 1024 }
+    ensures few { result ≤ MOST_CHUNKS }
 {
     chunk_count(shape.rows, shape.per)
 }

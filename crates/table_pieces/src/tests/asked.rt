@@ -10,20 +10,23 @@ ghost use Rattle.table_core.specs.declared.cell.Cell.TheVariants.{Null};
 ghost use Rattle.table_pieces.specs.Shaping.{FitsDicts, kind_of, shape_of};
 
 use piece_format::Layout;
-use table_core::{Cell, Column, Dict, Kind, Table, chunk_count};
+use table_core::{
+    Cell, Column, Dict, Kind, MOST_CHUNK_ROWS, MOST_CHUNKS, MOST_COLUMNS, MOST_ROWS, Table,
+    chunk_count,
+};
 
 // Whether the table has a shape within the limits.
 pub(crate) fn has_shape(table: &Table, dicts: &[Dict], layout: Layout, per: u32) -> bool
     ensures { OnTrue result (IsShape (shape_of table.now dicts.now layout per)) }
 {
     let columns = table.schema().len();
-    if columns < 1 || columns > 16 || dicts.len() != columns {
+    if columns < 1 || columns > MOST_COLUMNS as usize || dicts.len() != columns {
         return false;
     }
-    if per < 1 || per > 16384 || table.len() > 2097152 {
+    if per < 1 || per > MOST_CHUNK_ROWS || table.len() > MOST_ROWS as usize {
         return false;
     }
-    chunk_count(table.len() as u32, per) <= 1024
+    chunk_count(table.len() as u32, per) <= MOST_CHUNKS
 }
 
 fn fits_column(kind: Kind, dict: &Dict, cell: Cell) -> bool

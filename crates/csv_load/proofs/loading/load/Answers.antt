@@ -6,36 +6,36 @@ use Rattle.csv_load.proofs.loading.load.Goals as goal
 
 pub finish_cells-requires-clause-few : goal.finish_cells-requires-clause-few
 finish_cells-requires-clause-few c =
-    rw c.as_slice.ensures.value (typed-few c.in-Ok.read.columns.items c.in-Ok-type_columns.typed.items c.in-Ok-type_columns.ensures)
+    rw c.as_slice.ensures.value (typed-few c.in_ok-read.read.columns.items c.in_ok-typed.typed.items c.in_ok-typed.ensures)
 
 pub schema_of-requires : goal.schema_of-requires
 schema_of-requires c =
     rw c.as_slice-2.ensures.value
-    (typed-count (table_records c.args.bytes.now) c.in-Ok.read.names.items c.in-Ok.read.columns.items c.in-Ok.read.cells.items c.in-Ok-type_columns.typed.items
-    c.in-Ok.ensures.read c.in-Ok-type_columns.ensures)
+    (typed-count (table_records c.args.bytes.now) c.in_ok-read.read.names.items c.in_ok-read.read.columns.items c.in_ok-read.read.cells.items c.in_ok-typed.typed.items
+    c.in_ok-read.ensures.read c.in_ok-typed.ensures)
 
 pub new-requires : goal.new-requires
 new-requires c =
-    let cells = c.in-Ok.read.cells in
+    let cells = c.in_ok-read.read.cells in
     let new = c.finish_cells.new.cells in
     let size : length new ≡ length cells.items = omega (arith, c.finish_cells.ensures.size, ap length c.deref_mut.ensures.value) in
     rw (rest-none new cells.items cells.len size (omega (arith, cells.ok.0)))
-    (table-whole (table_records c.args.bytes.now) c.in-Ok.read.names.items c.in-Ok.read.columns.items cells.items new c.in-Ok-type_columns.typed.items c.in-Ok-schema_of.schema
-    c.in-Ok.ensures.read c.in-Ok-type_columns.ensures size (rw c.as_slice-2.ensures.value at c.in-Ok-schema_of.ensures))
+    (table-whole (table_records c.args.bytes.now) c.in_ok-read.read.names.items c.in_ok-read.read.columns.items cells.items new c.in_ok-typed.typed.items c.in_ok-schema.schema
+    c.in_ok-read.ensures.read c.in_ok-typed.ensures size (rw c.as_slice-2.ensures.value at c.in_ok-schema.ensures))
 
 pub returns-clause-loaded : goal.returns-clause-loaded
 returns-clause-loaded c =
-    let cells = c.in-Ok.read.cells in
+    let cells = c.in_ok-read.read.cells in
     let new = c.finish_cells.new.cells in
     let size : length new ≡ length cells.items = omega (arith, c.finish_cells.ensures.size, ap length c.deref_mut.ensures.value) in
-    loaded (table_records c.args.bytes.now) c.in-Ok.read.names.items c.in-Ok.read.columns.items cells.items new c.in-Ok-type_columns.typed.items c.in-Ok-schema_of.schema
-    c.new.result c.in-Ok-dicts_of.dicts.items
-    c.in-Ok.ensures.read c.in-Ok-type_columns.ensures size
+    loaded (table_records c.args.bytes.now) c.in_ok-read.read.names.items c.in_ok-read.read.columns.items cells.items new c.in_ok-typed.typed.items c.in_ok-schema.schema
+    c.new.result c.in_ok-dicts.dicts.items
+    c.in_ok-read.ensures.read c.in_ok-typed.ensures size
     (rw (c.as_slice.ensures.value, c.deref_mut.ensures.value) at c.finish_cells.ensures.finished)
-    (rw c.as_slice-2.ensures.value at c.in-Ok-schema_of.ensures) c.new.ensures.columns
-    (rw (rest-none new cells.items cells.len size (omega (arith, cells.ok.0))) at c.new.ensures.rows) c.in-Ok-dicts_of.ensures
+    (rw c.as_slice-2.ensures.value at c.in_ok-schema.ensures) c.new.ensures.columns
+    (rw (rest-none new cells.items cells.len size (omega (arith, cells.ok.0))) at c.new.ensures.rows) c.in_ok-dicts.ensures
 
 pub returns-clause-places : goal.returns-clause-places
 returns-clause-places c =
-    columns-few c.in-Ok.read.names.items c.in-Ok.read.columns.items c.in-Ok-type_columns.typed.items c.in-Ok-schema_of.schema c.new.result.columns
-    c.in-Ok-type_columns.ensures (rw c.as_slice-2.ensures.value at c.in-Ok-schema_of.ensures) c.new.ensures.columns
+    columns-few c.in_ok-read.read.names.items c.in_ok-read.read.columns.items c.in_ok-typed.typed.items c.in_ok-schema.schema c.new.result.columns
+    c.in_ok-typed.ensures (rw c.as_slice-2.ensures.value at c.in_ok-schema.ensures) c.new.ensures.columns

@@ -24,14 +24,14 @@ loop-read-init c =
     let t = c.args.text.now in
     let all = sym c.new-rows.ensures.all ∙ e in
     record {
-      wide = omega (arith, ap length c.in-Ok.ensures.names, c.len-width.ensures);
+      wide = omega (arith, ap length c.in_ok-read.ensures.names, c.len-width.ensures);
       within = omega arith;
       judged = first-judged (table_records t) c.next.new.self (fields_of c.next.new.row) c.len-width.result all c.len-width.ensures (sym c.in_default.ensures.refusal);
       counted = omega (arith, ap length all);
       short = All-rest (λ (r : List (List ℕ)). length r ≤ length t + 1) (fields_of c.next.new.row) c.next.new.self (table_records t) all (table-short t);
-      so_far = so_far-none (table_records t) c.in-Ok.read.names.items c.in-Ok.read.columns.items c.in-Ok.read.cells.items c.next.new.self (length (fields_of c.next.new.row))
-          (all ∙ ap (λ (fields : List (List ℕ)). fields ∷ c.next.new.self) (sym c.in-Ok.ensures.names)) (ap length (sym c.in-Ok.ensures.names))
-          c.in-Ok.ensures.columns c.in-Ok.ensures.cells;
+      so_far = so_far-none (table_records t) c.in_ok-read.read.names.items c.in_ok-read.read.columns.items c.in_ok-read.read.cells.items c.next.new.self (length (fields_of c.next.new.row))
+          (all ∙ ap (λ (fields : List (List ℕ)). fields ∷ c.next.new.self) (sym c.in_ok-read.ensures.names)) (ap length (sym c.in_ok-read.ensures.names))
+          c.in_ok-read.ensures.columns c.in_ok-read.ensures.cells;
     }
 
 pub loop-read-preserved : goal.loop-read-preserved
@@ -39,7 +39,7 @@ loop-read-preserved c =
     let e = (rw c.if-branch.true at c.in_ok-next-2.ensures.found) refl in
     let t = c.args.text.now in
     let is = c.loop-read.invariant in
-    let put = rw c.deref_mut.ensures.value at c.in-Ok-put_row.ensures in
+    let put = rw c.deref_mut.ensures.value at c.in_ok-put_row.ensures in
     record {
       wide = is.wide;
       within = omega arith;

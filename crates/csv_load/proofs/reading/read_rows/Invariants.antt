@@ -1,14 +1,15 @@
 use Rattle.std.proofs.Common.{◌≡◌, ◌+◌, ◌≤◌, length}
 use Rattle.std.specs.Prelude.{All}
 use Rattle.csv_rows.specs.Rows.{table_records}
-use Rattle.csv_rows.specs.Judged.{refusal_of, first_bad_row, max_rows}
+use Rattle.csv_rows.specs.Judged.{refusal_of, first_bad_row}
+use Rattle.table_core.specs.declared.limits.TheConstants.{MOST_ROWS}
 use Rattle.csv_load.proofs.Rowwise.{SoFar}
 use Rattle.csv_load.proofs.reading.read_rows.Given as goal
 
 abbrev pub invariant-loop-read : goal.invariant-loop-read
 invariant-loop-read l = record {
   wide : length l.read.names.items ≡ l.width;
-  within : l.count ≤ max_rows;
+  within : l.count ≤ MOST_ROWS;
   judged : refusal_of (table_records l.fn.text) ≡ first_bad_row l.width l.count l.rows;
   counted : length (table_records l.fn.text) ≡ l.count + 1 + length l.rows;
   short : All (λ r. length r ≤ length l.fn.text + 1) l.rows;

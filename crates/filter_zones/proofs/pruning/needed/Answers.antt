@@ -3,6 +3,7 @@ use Rattle.std.specs.Prelude.{◌&&◌, nat_lt, option_copied, []}
 use Rattle.std.proofs.lemmas.Bool.{cases_lt, lt-ltb, le-ltb}
 use Rattle.std.proofs.lemmas.List.{get_or-take, get_or-drop, length-take-le, length-drop}
 use Rattle.table_core.specs.Sets.{has}
+use Rattle.table_core.specs.declared.limits.TheConstants.{MOST_CHUNKS}
 use Rattle.filter_zones.specs.Possible.{is_needed, chunk_at}
 use Rattle.filter_zones.proofs.Law.{none_outside}
 use Rattle.filter_zones.proofs.Sets.{members_are}
@@ -36,7 +37,7 @@ each c k =
     c.loop-from.invariant.1 k ∙ ap (λ n. nat_lt k n && is_needed (option_copied c.args.cond) (chunk_at c.args.zones.now k)) whole
 
 pub returns-clause-chunks : goal.returns-clause-chunks
-returns-clause-chunks c = members_are c.loop-from.found 1024 (length c.args.zones.now) (λ k. is_needed (option_copied c.args.cond) (chunk_at c.args.zones.now k)) c.len-count.ensures.members (each c)
+returns-clause-chunks c = members_are c.loop-from.found MOST_CHUNKS (length c.args.zones.now) (λ k. is_needed (option_copied c.args.cond) (chunk_at c.args.zones.now k)) c.len-count.ensures.members (each c)
 
 pub returns-clause-outside : goal.returns-clause-outside
 returns-clause-outside c = none_outside (option_copied c.args.cond) c.args.zones.now c.loop-from.found c.requires.fits (each c)
