@@ -2,6 +2,7 @@
 use Rattle.std.proofs.Common.{◌≡◌, ℕ, Bool, true, false, List, [], ◌∷◌, ◌++◌, map, filter, refl, sym, ap, ◌∙◌, inl, inr, append-nil}
 use Rattle.std.specs.Prelude.{Option, Some, None, ◌||◌, is_some, if◌then◌else◌}
 use Rattle.std.proofs.lemmas.Bool.{cases_Bool, false≢true}
+use Rattle.std.proofs.Math.Bool.{or-false, or-true}
 use Rattle.table_core.specs.declared.cell.Cell.{Cell}
 use Rattle.agg_groups.specs.declared.running.Running.{Running}
 use Rattle.agg_groups.specs.declared.item.Item.{Item}
@@ -51,16 +52,8 @@ group-other p (r ∷ rows) row e = elim (cases_Bool (p r)) [
   | inr t ↦ rw t (group-other p rows row e)
 ]
 
-or_false : (b : Bool) → (b || false) ≡ b
-or_false true = refl
-or_false false = refl
-
-or_true : (b : Bool) → (b || true) ≡ true
-or_true true = refl
-or_true false = refl
-
 has-push : (xs : List (List Cell)) (f : Row → List Cell) (rows : List Row) (row : Row) (q : List Cell) → has_key (xs ++ map f (rows ++ row ∷ [])) q ≡ (has_key (xs ++ map f rows) q || same_key q (f row))
-has-push [] f [] row q = or_false (same_key q (f row))
+has-push [] f [] row q = or-false (same_key q (f row))
 has-push [] f (r ∷ rows) row q = elim (cases_Bool (same_key q (f r))) [
   | inl t ↦ rw t refl
   | inr t ↦ rw t (has-push [] f rows row q)
@@ -90,12 +83,12 @@ base-state items keys rows q = elim (cases_Bool (has_key (first_keys keys ++ map
 state-push : (items : List Item) (keys : List ℕ) (rows : List Row) (row : Row) (q : List Cell) → state_of items keys (rows ++ row ∷ []) q ≡ (if same_key q (key_of keys row) then Some (nexts items row (base items (state_of items keys rows q))) else state_of items keys rows q)
 state-push items keys rows row q = elim (cases_Bool (same_key q (key_of keys row))) [
   | inl t ↦
-      let has : has_key (first_keys keys ++ map (key_of keys) (rows ++ row ∷ [])) q ≡ true = has-push (first_keys keys) (key_of keys) rows row q ∙ ap (λ b. has_key (first_keys keys ++ map (key_of keys) rows) q || b) t ∙ or_true (has_key (first_keys keys ++ map (key_of keys) rows) q) in
+      let has : has_key (first_keys keys ++ map (key_of keys) (rows ++ row ∷ [])) q ≡ true = has-push (first_keys keys) (key_of keys) rows row q ∙ ap (λ b. has_key (first_keys keys ++ map (key_of keys) rows) q || b) t ∙ or-true (has_key (first_keys keys ++ map (key_of keys) rows) q) in
       let vs : runnings items (group keys q (rows ++ row ∷ [])) ≡ nexts items row (base items (state_of items keys rows q)) =
       ap (runnings items) (group-push (λ r. same_key q (key_of keys r)) rows row t) ∙ sym (nexts-values items (group keys q rows) row) ∙ sym (ap (nexts items row) (base-state items keys rows q)) in
       ap (λ b. if b then Some (runnings items (group keys q (rows ++ row ∷ []))) else None) has ∙ ap Some vs ∙ sym (ap (λ b. if b then Some (nexts items row (base items (state_of items keys rows q))) else state_of items keys rows q) t)
   | inr t ↦
-      let has : has_key (first_keys keys ++ map (key_of keys) (rows ++ row ∷ [])) q ≡ has_key (first_keys keys ++ map (key_of keys) rows) q = has-push (first_keys keys) (key_of keys) rows row q ∙ ap (λ b. has_key (first_keys keys ++ map (key_of keys) rows) q || b) t ∙ or_false (has_key (first_keys keys ++ map (key_of keys) rows) q) in
+      let has : has_key (first_keys keys ++ map (key_of keys) (rows ++ row ∷ [])) q ≡ has_key (first_keys keys ++ map (key_of keys) rows) q = has-push (first_keys keys) (key_of keys) rows row q ∙ ap (λ b. has_key (first_keys keys ++ map (key_of keys) rows) q || b) t ∙ or-false (has_key (first_keys keys ++ map (key_of keys) rows) q) in
       let g : group keys q (rows ++ row ∷ []) ≡ group keys q rows = group-other (λ r. same_key q (key_of keys r)) rows row t in
       ap (λ b. if b then Some (runnings items (group keys q (rows ++ row ∷ []))) else None) has ∙ ap (λ r. if has_key (first_keys keys ++ map (key_of keys) rows) q then Some (runnings items r) else None) g ∙ sym (ap (λ b. if b then Some (nexts items row (base items (state_of items keys rows q))) else state_of items keys rows q) t)
 ]

@@ -1,7 +1,7 @@
 -- Groups joined with the groups of another list of rows, one after another.
 use Rattle.std.proofs.Common.{◌≡◌, ℕ, ◌+◌, Bool, true, false, List, [], ◌∷◌, length, refl, sym, ap, subst, ◌∙◌, inl, inr}
 use Rattle.std.specs.Prelude.{Option, Some, None, option_map, ◌||◌, if◌then◌else◌, All}
-use Rattle.std.proofs.lemmas.Bool.{cases_Bool, false≢true}
+use Rattle.std.proofs.lemmas.Bool.{cases_Bool, false≢true, or_right}
 use Rattle.std.proofs.lemmas.List.Elements.{All-from_recursion, recursion_from_All}
 use Rattle.table_core.specs.declared.cell.Cell.{Cell}
 use Rattle.agg_groups.specs.declared.running.Running.{Running}
@@ -40,10 +40,6 @@ IsLeft n m rest kept = (q : List Cell) → has_key rest q ≡ true → HasRoomAt
 
 pub left_head : (n m : ℕ) (k : List Cell) (ks : List (List Cell)) (kept : List Group) → IsLeft n m (k ∷ ks) kept → HasRoomAt n m (at kept k)
 left_head n m k ks kept l = l k (ap (λ b. b || has_key ks k) (itself k))
-
-or_right : (a b : Bool) → b ≡ true → (a || b) ≡ true
-or_right true b e = refl
-or_right false b e = e
 
 pub left_step : (n m : ℕ) (k : List Cell) (ks : List (List Cell)) (ws : List Running) (kept new : List Group) → Rising (k ∷ ks) → IsLeft n m (k ∷ ks) kept → Puts k ws kept new → IsLeft n m ks new
 left_step n m k ks ws kept new r l puts q h = elim (cases_Bool (same_key q k)) [

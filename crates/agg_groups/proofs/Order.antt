@@ -2,6 +2,7 @@
 use Rattle.std.proofs.Common.{◌≡◌, ℕ, Bool, true, false, List, [], ◌∷◌, refl, sym, ap, subst, ◌∙◌, inl, inr}
 use Rattle.std.specs.Prelude.{◌||◌}
 use Rattle.std.proofs.lemmas.Bool.{cases_Bool, false≢true}
+use Rattle.std.proofs.Math.Bool.{or_self_left}
 use Rattle.std.specs.declared.cmp.Ordering.{Ordering}
 use Rattle.std.specs.declared.cmp.Ordering.TheVariants.{Less, Equal, Greater}
 use Rattle.std.specs.Ordering.{is_eq, ordering_then, ordering_reverse, int_cmp, nat_cmp, then_cmp, on}
@@ -131,11 +132,7 @@ pub distinct_rising : (ks : List (List Cell)) → Rising (distinct codes ks)
 distinct_rising [] = tt
 distinct_rising (k ∷ ks) = insert_rising k (distinct codes ks) (distinct_rising ks)
 
-or_same : (a b : Bool) → (a || b) ≡ (a || (a || b))
-or_same true b = refl
-or_same false b = refl
-
-or_swap : (a b c : Bool) → (a || (b || c)) ≡ (b || (a || c))
+pub or_swap : (a b c : Bool) → (a || (b || c)) ≡ (b || (a || c))
 or_swap true true c = refl
 or_swap true false c = refl
 or_swap false true c = refl
@@ -146,7 +143,7 @@ has-insert k [] q = refl
 has-insert k (x ∷ qs) q = by (key_cmp k x) refl (has-insert k qs q) where
   by : (o : Ordering) → key_cmp k x ≡ o → has_key (insert_key codes k qs) q ≡ (same_key q k || has_key qs q) → has_key (insert_key codes k (x ∷ qs)) q ≡ (same_key q k || (same_key q x || has_key qs q))
   by Less h ih = rw h refl
-  by Equal h ih = rw h (or_same (same_key q x) (has_key qs q) ∙ ap (λ k. same_key q k || (same_key q x || has_key qs q)) (sym (key_exact k x h)))
+  by Equal h ih = rw h (sym (or_self_left (same_key q x) (has_key qs q)) ∙ ap (λ k. same_key q k || (same_key q x || has_key qs q)) (sym (key_exact k x h)))
   by Greater h ih = rw h (ap (λ b. same_key q x || b) ih ∙ or_swap (same_key q x) (same_key q k) (has_key qs q))
 
 pub has-distinct : (ks : List (List Cell)) (q : List Cell) → has_key (distinct codes ks) q ≡ has_key ks q

@@ -2,6 +2,7 @@
 use Rattle.std.proofs.Common.{◌≡◌, ℕ, ◌<◌, Bool, true, false, List, [], ◌∷◌, ◌++◌, length, map, filter, set, get_or, zero, suc, refl, sym, ap, subst, ◌∙◌, arith}
 use Rattle.std.specs.Prelude.{Option, Some, None, ◌||◌, if◌then◌else◌, IsPermutation}
 use Rattle.std.specs.List.{swap}
+use Rattle.std.proofs.Math.Bool.{or-false, or_comm}
 use Rattle.std.proofs.lemmas.List.Sorted.{IsPermutation-keeps}
 use Rattle.table_core.specs.declared.cell.Cell.{Cell}
 use Rattle.agg_groups.specs.declared.item.Item.{Item}
@@ -49,13 +50,9 @@ groups_joined items keys a b new p h rows more s t =
     ∙ ap (λ o. merged items (state_of items keys rows q) o) (ap (λ gs. at gs q) t ∙ at-groups_of items keys more q)
     ∙ sym (state-append items keys rows more q))
 
-or_false : (b : Bool) → b ≡ (b || false)
-or_false true = refl
-or_false false = refl
-
 -- no rows
 pub groups_first : (items : List Item) (keys : List ℕ) (t : Placed) → IsPlaced t → IsFirst items keys t → seen t ≡ groups_of items keys []
-groups_first items [] t p f = groups_are items [] (seen t) [] (seen_rising t p) (λ q. f q ∙ ap (λ b. if b then Some (runnings items []) else None) (or_false (same_key q [])))
+groups_first items [] t p f = groups_are items [] (seen t) [] (seen_rising t p) (λ q. f q ∙ ap (λ b. if b then Some (runnings items []) else None) (sym (or-false (same_key q []))))
 groups_first items (x ∷ keys) t p f = f
 
 -- ---- the same rows in another order
@@ -64,18 +61,12 @@ module _ (items : List Item) (keys : List ℕ) where
   state : List Row → List Cell → Option (List Running)
   state rows q = state_of items keys rows q
 
-  or-comm : (a b : Bool) → (a || b) ≡ (b || a)
-  or-comm true true = refl
-  or-comm true false = refl
-  or-comm false true = refl
-  or-comm false false = refl
-
   state-comm : (rows more : List Row) (q : List Cell) → state_of items keys (rows ++ more) q ≡ state_of items keys (more ++ rows) q
   state-comm rows more q =
       let f = meaning.key_of codes keys in
       let p : Row → Bool = λ r. same_key q (meaning.key_of codes keys r) in
       let has : has_key (meaning.first_keys codes keys ++ map f (rows ++ more)) q ≡ has_key (meaning.first_keys codes keys ++ map f (more ++ rows)) q =
-      has-append (meaning.first_keys codes keys) f rows more q ∙ or-comm (has_key (meaning.first_keys codes keys ++ map f rows) q) (has_key (meaning.first_keys codes keys ++ map f more) q) ∙ sym (has-append (meaning.first_keys codes keys) f more rows q) in
+      has-append (meaning.first_keys codes keys) f rows more q ∙ or_comm (has_key (meaning.first_keys codes keys ++ map f rows) q) (has_key (meaning.first_keys codes keys ++ map f more) q) ∙ sym (has-append (meaning.first_keys codes keys) f more rows q) in
       let vs : runnings items (filter p (rows ++ more)) ≡ runnings items (filter p (more ++ rows)) =
       ap (runnings items) (filter-append p rows more) ∙ runnings-comm items (filter p rows) (filter p more) ∙ sym (ap (runnings items) (filter-append p more rows)) in
       ap (λ b. if b then Some (runnings items (filter p (rows ++ more))) else None) has ∙ ap (λ ws. if has_key (meaning.first_keys codes keys ++ map f (more ++ rows)) q then Some ws else None) vs

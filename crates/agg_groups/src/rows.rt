@@ -1,14 +1,12 @@
-// The result rows of a groups query, and why there may be none.
-ghost use Rattle.std.specs.Prelude.{◌≡◌, ◌==◌, ◌<◌, List, [], length, slice_index_or};
+// The result rows of a query, and why there may be none.
+ghost use Rattle.std.specs.Prelude.{◌≡◌, List};
 ghost use Rattle.table_core.specs.declared.cell.Cell.{Cell};
 ghost use Rattle.answer_text.specs.Lists.{lists};
 
 use std::marker::Model;
 use table_core::{Cell, Memory};
 
-/// The result rows of a groups query in key order, seen as their list.
-///
-/// They are made from a vector and give it back without taking memory.
+/// The result rows of a query, seen as their list: those of a groups query in key order, those of a rows query in its order.
 #[derive(Debug, Drop)]
 pub struct Rows {
     rows: Vec<Vec<Cell>>,
@@ -20,14 +18,6 @@ impl Model for Rows {
     ghost view = { λ r. lists r.rows.items };
 }
 
-// A row of rows, counted from 0.
-fn row_in(rows: &[Vec<Cell>], row: usize) -> &[Cell]
-    requires { row < length rows.now }
-    ensures { result.now ≡ slice_index_or (lists rows.now) row [] }
-{
-    rows[row].as_slice()
-}
-
 impl Rows {
     /// The rows of a vector.
     pub fn new(rows: Vec<Vec<Cell>>) -> Self
@@ -36,41 +26,11 @@ impl Rows {
         Rows { rows }
     }
 
-    /// The vector of these rows.
-    pub fn into_vec(self) -> Vec<Vec<Cell>>
-        ensures { lists result.items ≡ self }
-    {
-        let Rows { rows } = self;
-        rows
-    }
-
     /// The rows themselves.
     pub fn as_slice(&self) -> &[Vec<Cell>]
         ensures { lists result.now ≡ self.now }
     {
         self.rows.as_slice()
-    }
-
-    /// How many rows there are.
-    pub fn len(&self) -> usize
-        ensures { result ≡ length self.now }
-    {
-        self.rows.len()
-    }
-
-    /// Whether there is no row.
-    pub fn is_empty(&self) -> bool
-        ensures { result ≡ (length self.now == 0) }
-    {
-        self.rows.is_empty()
-    }
-
-    /// A row, counted from 0.
-    pub fn row(&self, row: usize) -> &[Cell]
-        requires { row < length self.now }
-        ensures { result.now ≡ slice_index_or self.now row [] }
-    {
-        row_in(&self.rows, row)
     }
 }
 

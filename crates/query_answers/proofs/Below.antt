@@ -1,10 +1,9 @@
 -- Rows whose numbers are below one: the row of that number is new among them.
 use Rattle.std.proofs.Common.{◌≡◌, ◌≤◌, ◌+◌, ℕ, false, List, [], ◌∷◌, ◌++◌, length, refl, ap, inl, inr, arith, ◌∙◌}
 use Rattle.std.specs.Prelude.{◌==◌}
-use Rattle.std.proofs.lemmas.Bool.{cases_Bool, ne_eqb}
+use Rattle.std.proofs.lemmas.Bool.{cases_Bool, ne_eqb, or_from}
 use Rattle.table_core.specs.declared.cell.Cell.{Cell}
 use Rattle.top_rows.specs.Rows.{Numbered, has_number}
-use Rattle.top_rows.proofs.Firsts.{or_neither}
 use Rattle.sql_bind.specs.declared.plan.Plan.{Plan}
 use Rattle.sql_bind.specs.Meaning.{matches, numbered}
 use Rattle.query_answers.specs.declared.partial.Partial.{Partial}
@@ -13,7 +12,7 @@ use Rattle.query_answers.specs.Partial.{AreBelow, IsNew, matching}
 
 lacks_next : (n : ℕ) (rows : List (Numbered Cell)) → AreBelow n rows → has_number rows n ≡ false
 lacks_next n [] b = refl
-lacks_next n (r ∷ rows) b = or_neither (n == r.0) (has_number rows n) (ne_eqb n r.0 (λ e. omega (arith, e, b.0))) (lacks_next n rows b.1)
+lacks_next n (r ∷ rows) b = or_from (n == r.0) (has_number rows n) (ne_eqb n r.0 (λ e. omega (arith, e, b.0))) (lacks_next n rows b.1)
 
 pub below_new : (a : Partial) (n : ℕ) (rows : List (Numbered Cell)) → AreBelow n rows → IsNew a rows n
 below_new (Groups g) n rows b = tt

@@ -2,7 +2,7 @@
 use Rattle.std.proofs.Common.{◌≡◌, ℕ, Bool, true, false, List, [], ◌∷◌, ◌++◌, take, refl, sym, ap, subst, ◌∙◌, zero, suc}
 use Rattle.std.specs.Prelude.{◌==◌, Some, if◌then◌else◌, Vec, slice_get, All}
 use Rattle.std.specs.Global.{Global}
-use Rattle.std.proofs.lemmas.Bool.{false≢true}
+use Rattle.std.proofs.lemmas.Bool.{false≢true, or_parts}
 use Rattle.std.specs.declared.cmp.Ordering.{Ordering}
 use Rattle.std.specs.declared.cmp.Ordering.TheVariants.{Less, Equal, Greater}
 use Rattle.std.specs.Ordering.{is_lt, ordering_then, nat_cmp}
@@ -23,7 +23,6 @@ use Rattle.top_rows.specs.Rows.{has_number, insert_row, order_cmp, orders_cmp, r
 use Rattle.top_rows.specs.Standing.{Entry, IsKeyed, AreKeyed, numbered, place_cmp, places_of, standing_cmp}
 use Rattle.top_rows.specs.Top.{StandsBeforeNone}
 use Rattle.top_rows.proofs.Before.{Row, before, before_none, row_tie, then_both}
-use Rattle.top_rows.proofs.Firsts.{or_first, or_second}
 
 -- ---- standings
 
@@ -65,14 +64,14 @@ module _ (orders : List Order) where
   insert-row : (es : List Entry) (e : Entry) → IsKeyed orders e → AreKeyed orders es → has_number (numbered es) e.0.number ≡ false
       → numbered (insert_entry standing_cmp es e.0 e.1) ≡ insert_row codes orders (row_of e) (numbered es)
   insert-row [] e k ks n = refl
-  insert-row (f ∷ es) e k ks n = by (row_cmp codes orders (row_of e) (row_of f)) refl (insert-row es e k ks.1 (or_second (e.0.number == f.0.number) (has_number (numbered es) e.0.number) n)) where
+  insert-row (f ∷ es) e k ks n = by (row_cmp codes orders (row_of e) (row_of f)) refl (insert-row es e k ks.1 (or_parts (e.0.number == f.0.number) (has_number (numbered es) e.0.number) n).1) where
     s : standing_cmp e.0 f.0 ≡ row_cmp codes orders (row_of e) (row_of f)
     s = standing-row e f k ks.0
 
     by : (o : Ordering) → row_cmp codes orders (row_of e) (row_of f) ≡ o → numbered (insert_entry standing_cmp es e.0 e.1) ≡ insert_row codes orders (row_of e) (numbered es)
         → numbered (insert_entry standing_cmp (f ∷ es) e.0 e.1) ≡ insert_row codes orders (row_of e) (numbered (f ∷ es))
     by Less h ih = rw (s, h) refl
-    by Equal h ih = absurd (false≢true (sym (or_first (e.0.number == f.0.number) (has_number (numbered es) e.0.number) n) ∙ row_tie orders (row_of e) (row_of f) h))
+    by Equal h ih = absurd (false≢true (sym (or_parts (e.0.number == f.0.number) (has_number (numbered es) e.0.number) n).0 ∙ row_tie orders (row_of e) (row_of f) h))
     by Greater h ih = rw (s, h) (ap (λ zs. row_of f ∷ zs) ih)
 
   insert_keyed : (es : List Entry) (e : Entry) → IsKeyed orders e → AreKeyed orders es → AreKeyed orders (insert_entry standing_cmp es e.0 e.1)

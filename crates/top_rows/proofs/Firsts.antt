@@ -1,11 +1,13 @@
 -- Rows in order, and the first ones of them.
 use Rattle.std.proofs.Common.{◌≡◌, ℕ, Bool, true, false, List, [], ◌∷◌, ◌++◌, take, zero, suc, refl, sym, ap, ◌∙◌, ◌⊎◌, inl, inr}
 use Rattle.std.specs.Prelude.{◌==◌, ◌||◌, IsPermutation}
-use Rattle.std.proofs.lemmas.Bool.{cases_Bool, false≢true}
+use Rattle.std.proofs.lemmas.Bool.{cases_Bool, false≢true, or_from, or_parts}
+use Rattle.std.proofs.Math.Bool.{or-true}
 use Rattle.std.proofs.lemmas.Cmp.{nat_eq_equiv}
 use Rattle.std.proofs.lemmas.List.Sorted.{IsPermutation-append_comm, IsPermutation-refl, IsPermutation-sym, IsPermutation-trans, IsPermutation-cons, IsPermutation-middle}
 use Rattle.std.specs.Ordering.{is_lt}
 use Rattle.agg_groups.specs.Cells.{codes}
+use Rattle.agg_groups.proofs.Order.{or_swap}
 use Rattle.top_rows.specs.declared.order.Order.{Order}
 use Rattle.top_rows.specs.Rows.{has_number, AreDistinct, AreApart}
 use Rattle.top_rows.specs.Rows as rows
@@ -14,40 +16,23 @@ use Rattle.top_rows.proofs.Exchange.{rearranged}
 
 -- ---- numbers
 
-or_swap : (a b c : Bool) → (a || (b || c)) ≡ (b || (a || c))
-or_swap true true c = refl
-or_swap true false c = refl
-or_swap false true c = refl
-or_swap false false c = refl
-
-pub or_first : (a b : Bool) → (a || b) ≡ false → a ≡ false
-or_first true b e = e
-or_first false b e = refl
-
-pub or_second : (a b : Bool) → (a || b) ≡ false → b ≡ false
-or_second true b e = absurd (false≢true (sym e))
-or_second false b e = e
-
-pub or_neither : (a b : Bool) → a ≡ false → b ≡ false → (a || b) ≡ false
-or_neither a b e f = rw (e, f) refl
-
 has-append : (xs ys : List Row) (n : ℕ) → has_number (xs ++ ys) n ≡ (has_number xs n || has_number ys n)
 has-append [] ys n = refl
 has-append (x ∷ xs) ys n = elim (cases_Bool (n == x.0)) [ inl t ↦ rw t refl | inr t ↦ rw t (has-append xs ys n) ]
 
 -- a number that a list lacks isn't that of a row in it
 pub has-middle : (xs : List Row) (r : Row) (ys : List Row) (n : ℕ) → has_number (xs ++ r ∷ ys) n ≡ false → (n == r.0) ≡ false
-has-middle [] r ys n e = or_first (n == r.0) (has_number ys n) e
-has-middle (x ∷ xs) r ys n e = has-middle xs r ys n (or_second (n == x.0) (has_number (xs ++ r ∷ ys) n) e)
+has-middle [] r ys n e = (or_parts (n == r.0) (has_number ys n) e).0
+has-middle (x ∷ xs) r ys n e = has-middle xs r ys n (or_parts (n == x.0) (has_number (xs ++ r ∷ ys) n) e).1
 
 pub distinct_front : (xs ys : List Row) → AreDistinct (xs ++ ys) → AreDistinct xs
 distinct_front [] ys d = tt
-distinct_front (x ∷ xs) ys d = (or_first (has_number xs x.0) (has_number ys x.0) (sym (has-append xs ys x.0) ∙ d.0), distinct_front xs ys d.1)
+distinct_front (x ∷ xs) ys d = ((or_parts (has_number xs x.0) (has_number ys x.0) (sym (has-append xs ys x.0) ∙ d.0)).0, distinct_front xs ys d.1)
 
 has-take : (m : ℕ) (xs : List Row) (n : ℕ) → has_number xs n ≡ false → has_number (take m xs) n ≡ false
 has-take zero xs n e = refl
 has-take (suc m) [] n e = refl
-has-take (suc m) (x ∷ xs) n e = or_neither (n == x.0) (has_number (take m xs) n) (or_first (n == x.0) (has_number xs n) e) (has-take m xs n (or_second (n == x.0) (has_number xs n) e))
+has-take (suc m) (x ∷ xs) n e = or_from (n == x.0) (has_number (take m xs) n) (or_parts (n == x.0) (has_number xs n) e).0 (has-take m xs n (or_parts (n == x.0) (has_number xs n) e).1)
 
 distinct-take : (m : ℕ) (xs : List Row) → AreDistinct xs → AreDistinct (take m xs)
 distinct-take zero xs d = tt
@@ -59,19 +44,15 @@ pub distinct-append : (xs ys : List Row) → AreDistinct xs → AreDistinct ys �
 distinct-append [] ys d e a = e
 distinct-append (x ∷ xs) ys d e a =
     let here : has_number ys x.0 ≡ false = a x.0 (ap (λ b. b || has_number xs x.0) (itself x.0)) in
-    (has-append xs ys x.0 ∙ or_neither (has_number xs x.0) (has_number ys x.0) d.0 here, distinct-append xs ys d.1 e (λ n t. a n (ap (λ b. (n == x.0) || b) t ∙ or_true (n == x.0)))) where
+    (has-append xs ys x.0 ∙ or_from (has_number xs x.0) (has_number ys x.0) d.0 here, distinct-append xs ys d.1 e (λ n t. a n (ap (λ b. (n == x.0) || b) t ∙ or-true (n == x.0)))) where
       itself : (n : ℕ) → (n == n) ≡ true
       itself n = nat_eq_equiv.refl n
-
-      or_true : (b : Bool) → (b || true) ≡ true
-      or_true true = refl
-      or_true false = refl
 
 pub distinct-push : (xs : List Row) (r : Row) → AreDistinct xs → has_number xs r.0 ≡ false → AreDistinct (xs ++ r ∷ [])
 distinct-push [] r d e = (refl, tt)
 distinct-push (x ∷ xs) r d e =
-    let other : (x.0 == r.0) ≡ false = nat_eq_equiv.symm x.0 r.0 ∙ or_first (r.0 == x.0) (has_number xs r.0) e in
-    (has-append xs (r ∷ []) x.0 ∙ or_neither (has_number xs x.0) ((x.0 == r.0) || false) d.0 (or_neither (x.0 == r.0) false other refl), distinct-push xs r d.1 (or_second (r.0 == x.0) (has_number xs r.0) e))
+    let other : (x.0 == r.0) ≡ false = nat_eq_equiv.symm x.0 r.0 ∙ (or_parts (r.0 == x.0) (has_number xs r.0) e).0 in
+    (has-append xs (r ∷ []) x.0 ∙ or_from (has_number xs x.0) ((x.0 == r.0) || false) d.0 (or_from (x.0 == r.0) false other refl), distinct-push xs r d.1 (or_parts (r.0 == x.0) (has_number xs r.0) e).1)
 
 module _ (orders : List Order) where
   abbrev insert : Row → List Row → List Row
@@ -96,8 +77,8 @@ module _ (orders : List Order) where
   distinct-insert r (q ∷ xs) e d = elim (cases_Bool (before orders r q)) [
     | inl t ↦ rw t (e, (d.0, d.1))
     | inr t ↦
-        let other = nat_eq_equiv.symm q.0 r.0 ∙ or_first (r.0 == q.0) (has_number xs r.0) e in
-        rw t (has-insert r xs q.0 ∙ or_neither (q.0 == r.0) (has_number xs q.0) other d.0, distinct-insert r xs (or_second (r.0 == q.0) (has_number xs r.0) e) d.1)
+        let other = nat_eq_equiv.symm q.0 r.0 ∙ (or_parts (r.0 == q.0) (has_number xs r.0) e).0 in
+        rw t (has-insert r xs q.0 ∙ or_from (q.0 == r.0) (has_number xs q.0) other d.0, distinct-insert r xs (or_parts (r.0 == q.0) (has_number xs r.0) e).1 d.1)
   ]
 
   distinct-sorted : (xs : List Row) → AreDistinct xs → AreDistinct (sorted xs)
@@ -146,7 +127,7 @@ module _ (orders : List Order) where
   pub sorted-push : (xs : List Row) (r : Row) → has_number xs r.0 ≡ false → sorted (xs ++ r ∷ []) ≡ insert r (sorted xs)
   sorted-push [] r e = refl
   sorted-push (x ∷ xs) r e =
-      ap (insert x) (sorted-push xs r (or_second (r.0 == x.0) (has_number xs r.0) e)) ∙ swap x r (sorted xs) (nat_eq_equiv.symm x.0 r.0 ∙ or_first (r.0 == x.0) (has_number xs r.0) e)
+      ap (insert x) (sorted-push xs r (or_parts (r.0 == x.0) (has_number xs r.0) e).1) ∙ swap x r (sorted xs) (nat_eq_equiv.symm x.0 r.0 ∙ (or_parts (r.0 == x.0) (has_number xs r.0) e).0)
 
   -- lists with the same numbers, of which the one is distinct and in order as the other is
   record AreAlike (xs ys : List Row) : Type 0 where
@@ -161,8 +142,8 @@ module _ (orders : List Order) where
       (λ x l m e. record { numbers = λ n. ap (λ b. (n == x.0) || b) (e.numbers n); distinct = λ d. (sym (e.numbers x.0) ∙ d.0, e.distinct d.1); order = λ d. ap (insert x) (e.order d.1) })
       (λ x y l. record {
         numbers = λ n. or_swap (n == x.0) (n == y.0) (has_number l n);
-        distinct = λ d. (or_neither (y.0 == x.0) (has_number l y.0) (nat_eq_equiv.symm y.0 x.0 ∙ or_first (x.0 == y.0) (has_number l x.0) d.0) d.1.0, (or_second (x.0 == y.0) (has_number l x.0) d.0, d.1.1));
-        order = λ d. swap x y (sorted l) (or_first (x.0 == y.0) (has_number l x.0) d.0);
+        distinct = λ d. (or_from (y.0 == x.0) (has_number l y.0) (nat_eq_equiv.symm y.0 x.0 ∙ (or_parts (x.0 == y.0) (has_number l x.0) d.0).0) d.1.0, ((or_parts (x.0 == y.0) (has_number l x.0) d.0).1, d.1.1));
+        order = λ d. swap x y (sorted l) (or_parts (x.0 == y.0) (has_number l x.0) d.0).0;
       })
 
   -- THE ORDER IN WHICH ROWS COME IS FREE
@@ -222,8 +203,8 @@ module _ (orders : List Order) where
   rising-insert r (q ∷ xs) e s = elim (cases_Bool (before orders r q)) [
     | inl t ↦ rw t (is_lt-Less (rows.row_cmp codes orders r q) t, (s.0, s.1))
     | inr t ↦
-        let back = before_other orders r q (or_first (r.0 == q.0) (has_number xs r.0) e) t in
-        rw t (leads-insert q r xs back s.0, rising-insert r xs (or_second (r.0 == q.0) (has_number xs r.0) e) s.1)
+        let back = before_other orders r q (or_parts (r.0 == q.0) (has_number xs r.0) e).0 t in
+        rw t (leads-insert q r xs back s.0, rising-insert r xs (or_parts (r.0 == q.0) (has_number xs r.0) e).1 s.1)
   ]
 
   -- EACH ROW STANDS BEFORE THE NEXT

@@ -1,12 +1,13 @@
 -- The lists of rows that kept rows stand for: one row more, other rows behind, and the same rows in another order.
 use Rattle.std.proofs.Common.{◌≡◌, ℕ, false, List, [], ◌∷◌, ◌++◌, take, refl, sym, ap, subst, ◌∙◌, append_assoc, append-nil}
 use Rattle.std.specs.Prelude.{◌==◌}
+use Rattle.std.proofs.lemmas.Bool.{or_from}
 use Rattle.std.proofs.lemmas.Cmp.{nat_eq_equiv}
 use Rattle.agg_groups.specs.Cells.{codes}
 use Rattle.top_rows.specs.Rows.{AreDistinct, AreApart, has_number, insert_row, in_order, first_rows}
 use Rattle.top_rows.specs.Top.{Kept, Stands, StandsInSomeOrder}
 use Rattle.top_rows.proofs.Before.{Row}
-use Rattle.top_rows.proofs.Firsts.{or_neither, has-middle, has-firsts, distinct-push, distinct-append, distinct-firsts, firsts_apart, sorted-push, sorted-permutation, take-insert, firsts-joined}
+use Rattle.top_rows.proofs.Firsts.{has-middle, has-firsts, distinct-push, distinct-append, distinct-firsts, firsts_apart, sorted-push, sorted-permutation, take-insert, firsts-joined}
 
 -- a number that the rows lack is lacked by the kept ones
 lacks_kept : (t : Kept) (rows : List Row) (n : ℕ) → Stands t rows → has_number rows n ≡ false → has_number t.rows n ≡ false
@@ -51,7 +52,7 @@ pub record IsPartly (t : Kept) (left all : List Row) : Type 0 where
 
 distinct_behind : (xs : List Row) (r : Row) (ys : List Row) → AreDistinct (xs ++ r ∷ ys) → has_number xs r.0 ≡ false
 distinct_behind [] r ys d = refl
-distinct_behind (x ∷ xs) r ys d = or_neither (r.0 == x.0) (has_number xs r.0) (nat_eq_equiv.symm r.0 x.0 ∙ has-middle xs r ys x.0 d.0) (distinct_behind xs r ys d.1)
+distinct_behind (x ∷ xs) r ys d = or_from (r.0 == x.0) (has_number xs r.0) (nat_eq_equiv.symm r.0 x.0 ∙ has-middle xs r ys x.0 d.0) (distinct_behind xs r ys d.1)
 
 pub partly_more : (t new : Kept) (r : Row) (left all : List Row) → ((rows : List Row) → Stands t rows → has_number rows r.0 ≡ false → Stands new (rows ++ r ∷ []))
     → AreDistinct all → IsPartly t (r ∷ left) all → IsPartly new left all

@@ -2,7 +2,6 @@
 #![tactic(auto)]
 
 mod order;
-mod picked;
 mod plan;
 mod standing;
 #[cfg(test)]
@@ -10,8 +9,8 @@ mod tests;
 mod text;
 mod top;
 
+pub use agg_groups::Rows as Picked;
 pub use order::{Order, one_order};
-pub use picked::Picked;
 pub use plan::RowPlan;
 pub use text::picked_text;
 pub use top::TopRows;

@@ -4,7 +4,7 @@ ghost use Rattle.table_core.specs.Value.{places_of};
 ghost use Rattle.answer_text.specs.Answer.{AreCellsOf, IsColumn, answer, kinds_of, values_of};
 ghost use Rattle.top_rows.specs.Text as spec;
 
-use crate::picked::Picked;
+use crate::Picked;
 use answer_text::text_of_answer;
 use std::alloc::{AllocError, Global};
 use table_core::{Bytes, Dict, Memory, Schema};

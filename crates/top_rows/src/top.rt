@@ -9,8 +9,8 @@ ghost use Rattle.top_rows.specs.Rows.{Numbered, AreApart, AreDistinct, has_numbe
 ghost use Rattle.top_rows.specs.Standing.{AreKeyed, numbered};
 ghost use Rattle.top_rows.specs.Top.{IsBehind, Kept, Stands, StandsInSomeOrder};
 
+use crate::Picked;
 use crate::order::Order;
-use crate::picked::Picked;
 use crate::plan::RowPlan;
 use crate::standing::{Standing, cell_at, is_before, places_of, standing_order};
 use std::alloc::{AllocError, Global};
