@@ -78,14 +78,19 @@ impl<T: Storied + Drop> Baton<T> {
 
     /// Gives the state back, for which there is always room. The pass is holding.
     ///
-    /// The state still has the pass's origin, and its story is what the pass has seen, followed by entries of the pass's
-    /// worker. These are now the pass's own, behind those that it had.
+    /// The state still has the pass's origin, and its story is what the pass has seen, followed by entries of the
+    /// pass's worker. These are now the pass's own, behind those that it had.
     pub fn give<R: Wait>(&self, rt: &R, pass: &mut Pass<T>, state: T)
         requires pass { (pass.old.baton ≡ self.now) × (pass.old.holding ≡ true) }
         requires origin { T.origin state ≡ pass.old.origin }
         requires story { Adds pass.old.number pass.old.seen (T.story state) }
-        ensures pass { pass.new ≡ record pass.old { seen = T.story state; mine = entries_by pass.old.number (T.story state); holding = false } }
-        ensures mine { (added : List Entry) → T.story state ≡ pass.old.seen ++ added → pass.new.mine ≡ pass.old.mine ++ added }
+        ensures pass { pass.new ≡ record pass.old {
+          seen = T.story state;
+          mine = entries_by pass.old.number (T.story state);
+          holding = false;
+        } }
+        ensures mine { (added : List Entry) → T.story state ≡ pass.old.seen ++ added
+            → pass.new.mine ≡ pass.old.mine ++ added }
     {
         push(rt, &self.line, &mut pass.seat, state);
     }

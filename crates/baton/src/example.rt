@@ -227,7 +227,8 @@ fn unseated<S: Origin>(
     mut counts: Vec<(u32, u32)>,
 ) -> (Vec<Pass<Diary<S>>>, Vec<(u32, u32)>)
     requires done { All (IsDone baton.now) writers.items }
-    requires room { (passes.items ≡ []) × (counts.items ≡ []) × (vec_len writers ≤ vec_capacity passes) × (vec_len writers ≤ vec_capacity counts) }
+    requires room { (passes.items ≡ []) × (counts.items ≡ []) × (vec_len writers ≤ vec_capacity passes)
+        × (vec_len writers ≤ vec_capacity counts) }
     ensures left { AllZip (IsLeft baton.now) result.0.items result.1.items }
     ensures count { (vec_len result.0 ≡ vec_len writers) × (vec_len result.1 ≡ vec_len writers) }
 {

@@ -63,7 +63,8 @@ pub(crate) fn absorb<T: Storied + Drop>(
     requires holding { ((view seat.old).role ≡ Worker) × ((view seat.old).holding ≡ true) }
     requires other { (view other).role ≡ Worker }
     ensures queue { IsPassOf line.now seat.new }
-    ensures same { ((view seat.new).role ≡ Worker) × ((view seat.new).holding ≡ true) × ((view seat.new).share ≡ (view seat.old).share) }
+    ensures same { ((view seat.new).role ≡ Worker) × ((view seat.new).holding ≡ true)
+        × ((view seat.new).share ≡ (view seat.old).share) }
     ensures agrees { Agrees (view seat.old).share.origin (view seat.old).share.seen (view other).share }
 {
     line.absorb::<Absorbs>(seat, other);

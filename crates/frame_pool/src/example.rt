@@ -86,7 +86,8 @@ pub struct Filler<C: Content> {
 }
 
 impl<C: Content> Work<Pool<C>> for Filler<C> {
-    ghost ready = { λ pool w. IsReady pool w.berth × IsWhole C.pieces 0 (Some (filling 0 (w.words.0 ∷ w.words.1 ∷ []))) };
+    ghost ready = { λ pool w. IsReady pool w.berth
+        × IsWhole C.pieces 0 (Some (filling 0 (w.words.0 ∷ w.words.1 ∷ []))) };
 
     ghost done = { λ v w. w.berth ≡ v.berth };
 
