@@ -26,17 +26,22 @@ use Rattle.policy_compare.specs.Joined.{joined_story}
 use Rattle.policy_compare.proofs.Ends.{compared_tells, compared_writes}
 use Rattle.policy_compare.proofs.Joining as joining
 use Rattle.policy_compare.specs.declared.policy_run.PolicyRun.{PolicyRun}
-use Rattle.coop_run.specs.Boxed.{ComparesNothing, DecidesOn, IsCompleteOn, IsForAllPartsOn, IsUndone, KeepsHeadlineCutOn, KeepsHeadlineOn, LacksMemoryAtFirst, LeavesItsWorkOn, LeavesRuns, WritesLines}
+use Rattle.coop_run.specs.Boxed.{ComparesNothing, DecidesAndPrintsOn, DecidesOn, IsCompleteOn, IsForAllPartsOn, IsUndone, KeepsHeadlineCutOn, KeepsHeadlineOn, KeepsPromisesOn, LacksMemoryAtFirst, LeavesItsWorkOn, LeavesRuns, WritesLines}
 use Rattle.coop_run.specs.Comparing.{AllHaveWorked, AreComplete, AreForAllParts, AreLines, Headlines, KeepsHeadlines, KeepsHeadlinesCut, Remark, for_any_parts, lost_for_memory, nothing_more}
+use Rattle.coop_run.specs.Devices.{Devices}
 use Rattle.coop_run.specs.Ending.{ComesExactly, HasStatus, IsCutShort, IsExcused, IsWritten, Prints, stop_over}
 use Rattle.coop_run.specs.Jobs.{Job, refused, alone, compared, asked_in, asked_to_read}
 use Rattle.coop_run.specs.Promises.{FailsToRead, IsUsageExactly, MissesFile, StopsExactly}
-use Rattle.coop_run.specs.Runs.{AreOfEach, work_under}
+use Rattle.coop_run.specs.Runs.{AreOfEach, DidRuns, did_runs, did_under, work_under}
 use Rattle.coop_run.proofs.Comparing.{any-headlines, memory-headlines, parts-headlines, policy_name, run_name, runs-names, runs-small, runs-stop, runs-worked}
 use Rattle.coop_run.proofs.Endings as ends
 use Rattle.coop_run.proofs.Endings.{IsRefused, fault-status, is-fault, is-memory, is-usage, late-status, memory-writes, no-change, refused-others, stopped-by, stops-late, text-told, write-fault-by}
 use Rattle.coop_run.proofs.Runs.{none-of-one, untouched-under}
 use Rattle.coop_run.proofs.Words.{memory-ends}
+
+-- the devices by what each shows
+abbrev devices_of : OverShelf → DepotAt → DepotAt → OverSink → Devices
+devices_of shelf old new sink = record { shelf = shelf; depot = record { old = old; new = new }; sink = sink }
 
 -- ---- the ends of a run
 
@@ -215,8 +220,8 @@ writes-none : (status : ℕ) (sink : OverSink) → Prints (Ok (0, [])) status si
 writes-none status sink (inl (e, all)) = (e, all ∙ no-change sink.old)
 writes-none status sink (inr (six, (k, less, part, rose))) = let no : ⊥ = omega (arith, less) in absurd no
 
-pub nothing-left : (job : Job) (shelf : OverShelf) (old new : DepotAt) (runs : List PolicyRun) (d : Result Text Stop) (status : ℕ) (sink : OverSink) → DecidesOn job shelf old new runs d → Prints d status sink
-    → ComparesNothing job shelf old new runs status sink
+nothing-left : (job : Job) (shelf : OverShelf) (old new : DepotAt) (runs : List PolicyRun) (d : Result Text Stop) (status : ℕ) (sink : OverSink) → DecidesOn job shelf old new runs d → Prints d status sink
+    → ComparesNothing job (devices_of shelf old new sink) (did_runs status runs)
 nothing-left refused shelf old new runs d status sink is prints = tt
 nothing-left (alone r p) shelf old new runs d status sink is prints = tt
 nothing-left (compared r (p ∷ ps)) shelf old new runs d status sink is prints = tt
@@ -268,26 +273,26 @@ excused r files shelf (p ∷ ps) old new runs s is held none no_read no_put =
     (compares-told r files shelf (p ∷ ps) old new runs (Err s) held (compares-of r shelf p ps old new runs (Err s) is))
 
 module _ (r : Request) (ps : List PolicyAt) (shelf : OverShelf) (old new : DepotAt) (runs : List PolicyRun) where
-  all-keep : (d : Result Text Stop) (status : ℕ) (sink : OverSink) → DecidesOn (compared r ps) shelf old new runs d → Prints d status sink → KeepsHeadlines r ps shelf old new runs status sink
-  all-keep (Ok o) status sink is prints low files held tells =
-      (rw (small-ends o status sink prints low) (headlines-of r files shelf held old new runs o ps is tells), (are-lines r ps shelf old new runs (Ok o) status sink is prints).all low)
-  all-keep (Err s) status sink is prints low files held tells = absurd (never-stops s status sink prints (inl low))
+  all-keep : (d : Result Text Stop) (status : ℕ) (sink : OverSink) → DecidesOn (compared r ps) shelf old new runs d → Prints d status sink → KeepsHeadlines r ps (devices_of shelf old new sink) (did_runs status runs)
+  all-keep (Ok o) status sink is prints low files honest =
+      (rw (small-ends o status sink prints low) (headlines-of r files shelf honest.shelf_tells old new runs o ps is honest.depot_tells), (are-lines r ps shelf old new runs (Ok o) status sink is prints).all low)
+  all-keep (Err s) status sink is prints low files honest = absurd (never-stops s status sink prints (inl low))
 
-  all-keep-cut : (d : Result Text Stop) (status : ℕ) (sink : OverSink) → DecidesOn (compared r ps) shelf old new runs d → Prints d status sink → KeepsHeadlinesCut r ps shelf old new runs status sink
-  all-keep-cut (Ok o) status sink is prints six files held tells = (o.0, headlines-of r files shelf held old new runs o ps is tells, (are-lines r ps shelf old new runs (Ok o) status sink is prints).cut six)
-  all-keep-cut (Err s) status sink is prints six files held tells = absurd (never-stops s status sink prints (inr six))
+  all-keep-cut : (d : Result Text Stop) (status : ℕ) (sink : OverSink) → DecidesOn (compared r ps) shelf old new runs d → Prints d status sink → KeepsHeadlinesCut r ps (devices_of shelf old new sink) (did_runs status runs)
+  all-keep-cut (Ok o) status sink is prints six files honest = (o.0, headlines-of r files shelf honest.shelf_tells old new runs o ps is honest.depot_tells, (are-lines r ps shelf old new runs (Ok o) status sink is prints).cut six)
+  all-keep-cut (Err s) status sink is prints six files honest = absurd (never-stops s status sink prints (inr six))
 
-  all-for-parts : (d : Result Text Stop) (status : ℕ) (sink : OverSink) → DecidesOn (compared r ps) shelf old new runs d → Prints d status sink → AreForAllParts r ps shelf old new runs status
-  all-for-parts (Ok o) status sink is prints low files held tells calm = rw (small-ends o status sink prints low) (parts-headlines-of r files shelf held old new runs o ps is tells calm)
-  all-for-parts (Err s) status sink is prints low files held tells calm = absurd (never-stops s status sink prints (inl low))
+  all-for-parts : (d : Result Text Stop) (status : ℕ) (sink : OverSink) → DecidesOn (compared r ps) shelf old new runs d → Prints d status sink → AreForAllParts r ps (devices_of shelf old new sink) (did_runs status runs)
+  all-for-parts (Ok o) status sink is prints low files honest calm = rw (small-ends o status sink prints low) (parts-headlines-of r files shelf honest.shelf_tells old new runs o ps is honest.depot_tells calm)
+  all-for-parts (Err s) status sink is prints low files honest calm = absurd (never-stops s status sink prints (inl low))
 
-  all-complete : (d : Result Text Stop) (status : ℕ) (sink : OverSink) → DecidesOn (compared r ps) shelf old new runs d → Prints d status sink → AreComplete r ps shelf old new runs status sink
-  all-complete (Ok o) status sink is (inl (e, all)) files held tells none faultless =
+  all-complete : (d : Result Text Stop) (status : ℕ) (sink : OverSink) → DecidesOn (compared r ps) shelf old new runs d → Prints d status sink → AreComplete r ps (devices_of shelf old new sink) (did_runs status runs)
+  all-complete (Ok o) status sink is (inl (e, all)) files honest none faultless =
       let low = compared-small r shelf ps old new runs (Ok o) is o refl in
-      inr (rw e (memory-headlines-of r files shelf held old new runs o ps is tells faultless.depot_is), (are-lines r ps shelf old new runs (Ok o) status sink is (inl (e, all))).all (omega (arith, e, low)))
-  all-complete (Ok o) status sink is (inr (six, (k, less, part, rose))) files held tells none faultless = absurd (faultless.sink_is rose)
-  all-complete (Err s) status sink is (e, some) files held tells none faultless =
-      inl (e ∙ ap status_of (excused r files shelf ps old new runs s is held none faultless.shelf_is faultless.depot_is))
+      inr (rw e (memory-headlines-of r files shelf honest.shelf_tells old new runs o ps is honest.depot_tells faultless.depot_is), (are-lines r ps shelf old new runs (Ok o) status sink is (inl (e, all))).all (omega (arith, e, low)))
+  all-complete (Ok o) status sink is (inr (six, (k, less, part, rose))) files honest none faultless = absurd (faultless.sink_is rose)
+  all-complete (Err s) status sink is (e, some) files honest none faultless =
+      inl (e ∙ ap status_of (excused r files shelf ps old new runs s is honest.shelf_tells none faultless.shelf_is faultless.depot_is))
 
 -- the runs that are left
 named-in : (r : Request) (ps : List PolicyAt) (shelf : OverShelf) (old new : DepotAt) (runs : List PolicyRun) (d : Result Text Stop) → comparing.IsCompared r shelf ps old new runs d
@@ -303,6 +308,21 @@ pub are-of-each : (r : Request) (ps : List PolicyAt) (shelf : OverShelf) (old ne
 are-of-each r ps shelf old new runs (Ok o) status sink is prints = let (without, named, all) = named-in r ps shelf old new runs (Ok o) is in record { without = without; named = named; ran = λ ran. all o refl }
 are-of-each r ps shelf old new runs (Err s) status sink is prints = let (without, named, all) = named-in r ps shelf old new runs (Err s) is in record { without = without; named = named; ran = λ ran. absurd (never-stops s status sink prints ran) }
 
+writes-lines : (job : Job) (shelf : OverShelf) (old new : DepotAt) (runs : List PolicyRun) (d : Result Text Stop) (status : ℕ) (sink : OverSink) → DecidesOn job shelf old new runs d → Prints d status sink → WritesLines job (devices_of shelf old new sink) (did_runs status runs)
+writes-lines refused shelf old new runs d status sink is prints = tt
+writes-lines (alone r p) shelf old new runs d status sink is prints = tt
+writes-lines (compared r ps) shelf old new runs d status sink is prints = are-lines r ps shelf old new runs d status sink is prints
+
+-- what holds of the depot's counts, whatever the job
+none-tells : (old new : DepotAt) (runs : List PolicyRun) → new ≡ old → runs ≡ [] → joining.Tells old new (past (joined_story runs))
+none-tells old new runs same none = rw (same, none) (record { licensed = omega arith; gets = omega arith })
+
+job-tells : (job : Job) (shelf : OverShelf) (old new : DepotAt) (runs : List PolicyRun) (d : Result Text Stop) → DecidesOn job shelf old new runs d → joining.Tells old new (past (joined_story runs))
+job-tells refused shelf old new runs d is = none-tells old new runs is.depot is.none
+job-tells (alone r p) shelf old new runs d is = let counted = ends.is-counted (Some r) shelf (work_under p old new runs) d is in record { licensed = counted.licensed; gets = counted.reads }
+job-tells (compared r ps) shelf old new runs d (inl lacks) = none-tells old new runs lacks.depot lacks.none
+job-tells (compared r ps) shelf old new runs d (inr is) = compared_tells r shelf ps old new runs d is
+
 -- ---- each clause, by the job
 
 module _ (shelf : OverShelf) (old new : DepotAt) (runs : List PolicyRun) (d : Result Text Stop) (status : ℕ) (sink : OverSink) where
@@ -313,32 +333,38 @@ module _ (shelf : OverShelf) (old new : DepotAt) (runs : List PolicyRun) (d : Re
   usage-of : IsUndone old new runs d → IsUsage nobodys d
   usage-of is = (is.stop_is, untouched-under (policy_at Relevance []) old new runs is.depot is.none)
 
+  abbrev over : Devices
+  over = devices_of shelf old new sink
+
+  abbrev did : DidRuns
+  did = did_runs status runs
+
   abbrev Decides : Job → Type 0
   Decides job = DecidesOn job shelf old new runs d
 
-  pub keeps-headline : (job : Job) → Decides job → Prints d status sink → KeepsHeadlineOn job shelf old new runs status sink
+  keeps-headline : (job : Job) → Decides job → Prints d status sink → KeepsHeadlineOn job over did
   keeps-headline refused is prints = tt
-  keeps-headline (alone r p) is prints = ends.keeps-headline (Some r) shelf (work_under p old new runs) d status sink is prints
+  keeps-headline (alone r p) is prints = ends.keeps-headline (Some r) over (did_under p did) d is prints
   keeps-headline (compared r ps) is prints = all-keep r ps shelf old new runs d status sink is prints
 
-  pub keeps-headline-cut : (job : Job) → Decides job → Prints d status sink → KeepsHeadlineCutOn job shelf old new runs status sink
+  keeps-headline-cut : (job : Job) → Decides job → Prints d status sink → KeepsHeadlineCutOn job over did
   keeps-headline-cut refused is prints = tt
-  keeps-headline-cut (alone r p) is prints = ends.keeps-headline-cut (Some r) shelf (work_under p old new runs) d status sink is prints
+  keeps-headline-cut (alone r p) is prints = ends.keeps-headline-cut (Some r) over (did_under p did) d is prints
   keeps-headline-cut (compared r ps) is prints = all-keep-cut r ps shelf old new runs d status sink is prints
 
-  pub is-complete : (job : Job) → Decides job → Prints d status sink → IsCompleteOn job shelf old new runs status sink
+  is-complete : (job : Job) → Decides job → Prints d status sink → IsCompleteOn job over did
   is-complete refused is prints = tt
-  is-complete (alone r p) is prints = ends.is-complete (Some r) shelf (work_under p old new runs) d status sink is prints
+  is-complete (alone r p) is prints = ends.is-complete (Some r) over (did_under p did) d is prints
   is-complete (compared r ps) is prints = all-complete r ps shelf old new runs d status sink is prints
 
-  pub is-for-all-parts : (job : Job) → Decides job → Prints d status sink → IsForAllPartsOn job shelf old new runs status sink
+  is-for-all-parts : (job : Job) → Decides job → Prints d status sink → IsForAllPartsOn job over did
   is-for-all-parts refused is prints = tt
-  is-for-all-parts (alone r p) is prints = ends.is-for-all-parts (Some r) shelf (work_under p old new runs) d status sink is prints
+  is-for-all-parts (alone r p) is prints = ends.is-for-all-parts (Some r) over (did_under p did) d is prints
   is-for-all-parts (compared r ps) is prints = all-for-parts r ps shelf old new runs d status sink is prints
 
-  pub leaves-its-work : (job : Job) → Decides job → Prints d status sink → LeavesItsWorkOn job shelf old new runs status
+  leaves-its-work : (job : Job) → Decides job → Prints d status sink → LeavesItsWorkOn job over did
   leaves-its-work refused is prints = tt
-  leaves-its-work (alone r p) is prints = ends.leaves-its-work (Some r) shelf (work_under p old new runs) d status sink is prints
+  leaves-its-work (alone r p) is prints = ends.leaves-its-work (Some r) over (did_under p did) d is prints
   leaves-its-work (compared r ps) is prints = all-worked r ps shelf old new runs d is
 
   -- the stop behind a status that no output has
@@ -350,7 +376,7 @@ module _ (shelf : OverShelf) (old new : DepotAt) (runs : List PolicyRun) (d : Re
       let (s, e, by) = stopped-compared r [] is prints late other in
       by ∙ ap status_of (nothing-stops r shelf old new runs s (subst (λ (x : Result Text Stop). DecidesOn (compared r []) shelf old new runs x) e is))
 
-  pub is-usage-exactly : (job : Job) → Decides job → Prints d status sink → IsUsageExactly (asked_in job) status
+  is-usage-exactly : (job : Job) → Decides job → Prints d status sink → IsUsageExactly (asked_in job) status
   is-usage-exactly refused is prints = ends.is-usage-exactly None shelf nobodys d status sink (usage-of is) prints
   is-usage-exactly (alone r p) is prints = ends.is-usage-exactly (Some r) shelf (work_under p old new runs) d status sink is prints
   is-usage-exactly (compared r []) is prints = record {
@@ -382,7 +408,7 @@ module _ (shelf : OverShelf) (old new : DepotAt) (runs : List PolicyRun) (d : Re
         always = comes-always r table batch shelf (p ∷ ps) old new runs d status sink due comes prints;
       }
 
-  pub stops-exactly : (due : ℕ) → IsRefused due → (job : Job) → Decides job → Prints d status sink → StopsExactly due (asked_to_read job) shelf status
+  stops-exactly : (due : ℕ) → IsRefused due → (job : Job) → Decides job → Prints d status sink → StopsExactly due (asked_to_read job) shelf status
   stops-exactly due is_due refused is prints files held q for = ends.stops-exactly due is_due None shelf nobodys d status sink (usage-of is) prints files held q for
   stops-exactly due is_due (alone r p) is prints files held q for = ends.stops-exactly due is_due (Some r) shelf (work_under p old new runs) d status sink is prints files held q for
   stops-exactly due is_due (compared r []) is prints files held q for = cc for
@@ -399,7 +425,7 @@ module _ (shelf : OverShelf) (old new : DepotAt) (runs : List PolicyRun) (d : Re
         | inr (inr (four, rose)) ↦ inl four
       ]
 
-  pub misses-file : (job : Job) → Decides job → Prints d status sink → MissesFile (asked_to_read job) shelf status
+  misses-file : (job : Job) → Decides job → Prints d status sink → MissesFile (asked_to_read job) shelf status
   misses-file refused is prints files held q for h = ends.misses-file None shelf nobodys d status sink (usage-of is) prints files held q for h
   misses-file (alone r p) is prints files held q for h = ends.misses-file (Some r) shelf (work_under p old new runs) d status sink is prints files held q for h
   misses-file (compared r []) is prints files held q for h = cc for
@@ -407,7 +433,7 @@ module _ (shelf : OverShelf) (old new : DepotAt) (runs : List PolicyRun) (d : Re
       let same : q ≡ r = cc for in
       compared-misses r p ps is prints files held (subst (λ (x : Request). HasStatus 4 (stop_over x files)) same h)
 
-  pub fails-to-read : (job : Job) → Decides job → Prints d status sink → FailsToRead (asked_to_read job) shelf status
+  fails-to-read : (job : Job) → Decides job → Prints d status sink → FailsToRead (asked_to_read job) shelf status
   fails-to-read refused is prints four q for = ends.fails-to-read None shelf nobodys d status sink (usage-of is) prints four q for
   fails-to-read (alone r p) is prints four q for = ends.fails-to-read (Some r) shelf (work_under p old new runs) d status sink is prints four q for
   fails-to-read (compared r []) is prints four q for = cc for
@@ -421,7 +447,7 @@ module _ (shelf : OverShelf) (old new : DepotAt) (runs : List PolicyRun) (d : Re
         | inr batch ↦ inr (compares.batch_fault (e ∙ ap (λ (x : Stop). Err x) batch))
       ])
 
-  pub put-fault-of : (job : Job) → Decides job → Prints d status sink → status ≡ 5 → Rose old.faults new.faults
+  put-fault-of : (job : Job) → Decides job → Prints d status sink → status ≡ 5 → Rose old.faults new.faults
   put-fault-of refused is prints five = ends.put-fault-of None shelf nobodys d status sink (usage-of is) prints five
   put-fault-of (alone r p) is prints five = ends.put-fault-of (Some r) shelf (work_under p old new runs) d status sink is prints five
   put-fault-of (compared r []) is prints five = cc (five, nothing-stopped r is prints (omega (arith, five)) (λ h. cc (h, five)))
@@ -430,12 +456,12 @@ module _ (shelf : OverShelf) (old new : DepotAt) (runs : List PolicyRun) (d : Re
       let compares = compares-of r shelf p ps old new runs d is in
       comes-rose r compares.table compares.batch shelf (p ∷ ps) old new runs s (sym by ∙ five) (subst (λ (x : Result Text Stop). comparing.ComesTo r compares.table compares.batch shelf (p ∷ ps) old new runs x) e compares.comes)
 
-  pub write-fault-of : (job : Job) → Decides job → Prints d status sink → status ≡ 6 → Rose sink.before sink.now
+  write-fault-of : (job : Job) → Decides job → Prints d status sink → status ≡ 6 → Rose sink.before sink.now
   write-fault-of refused is prints = ends.write-fault-of None shelf nobodys d status sink (usage-of is) prints
   write-fault-of (alone r p) is prints = ends.write-fault-of (Some r) shelf (work_under p old new runs) d status sink is prints
   write-fault-of (compared r ps) is prints = write-fault-by d status sink (compared-small r shelf ps old new runs d is) prints
 
-  pub no-memory-of : (job : Job) → Decides job → Prints d status sink → status ≡ 7 → sink.new ≡ sink.old
+  no-memory-of : (job : Job) → Decides job → Prints d status sink → status ≡ 7 → sink.new ≡ sink.old
   no-memory-of refused is prints seven = ends.no-memory-of None shelf nobodys d status sink (usage-of is) prints seven
   no-memory-of (alone r p) is prints seven = ends.no-memory-of (Some r) shelf (work_under p old new runs) d status sink is prints seven
   no-memory-of (compared r ps) is prints seven =
@@ -443,17 +469,32 @@ module _ (shelf : OverShelf) (old new : DepotAt) (runs : List PolicyRun) (d : Re
       let memory : d ≡ Err stop.Memory = e ∙ ap (λ (x : Stop). Err x) (is-memory s (sym by ∙ seven)) in
       memory-writes status sink (subst (λ (x : Result Text Stop). Prints x status sink) memory prints)
 
-pub writes-lines : (job : Job) (shelf : OverShelf) (old new : DepotAt) (runs : List PolicyRun) (d : Result Text Stop) (status : ℕ) (sink : OverSink) → DecidesOn job shelf old new runs d → Prints d status sink → WritesLines job runs status sink
-writes-lines refused shelf old new runs d status sink is prints = tt
-writes-lines (alone r p) shelf old new runs d status sink is prints = tt
-writes-lines (compared r ps) shelf old new runs d status sink is prints = are-lines r ps shelf old new runs d status sink is prints
+  -- EVERY PROMISE, of what was decided and written and of the runs that are left
+  keeps-all : (job : Job) → Decides job → Prints d status sink → LeavesRuns job status runs → KeepsPromisesOn job over did
+  keeps-all job is prints left =
+      let counted = job-tells job shelf old new runs d is in
+      record {
+        headline = keeps-headline job is prints;
+        complete = is-complete job is prints;
+        parts = is-for-all-parts job is prints;
+        usage = is-usage-exactly job is prints;
+        no_table = stops-exactly 3 (inl refl) job is prints;
+        read_fault = fails-to-read job is prints;
+        no_file = misses-file job is prints;
+        put_fault = put-fault-of job is prints;
+        write_fault = write-fault-of job is prints;
+        cut = keeps-headline-cut job is prints;
+        no_memory = no-memory-of job is prints;
+        frames = stops-exactly 8 (inr (inl refl)) job is prints;
+        no_batch = stops-exactly 9 (inr (inr refl)) job is prints;
+        worked = leaves-its-work job is prints;
+        runs = left;
+        lines = writes-lines job shelf old new runs d status sink is prints;
+        nothing = nothing-left job shelf old new runs d status sink is prints;
+        licensed = counted.licensed;
+        reads = counted.gets;
+        decides = (d, is, prints);
+      }
 
--- what holds of the depot's counts, whatever the job
-none-tells : (old new : DepotAt) (runs : List PolicyRun) → new ≡ old → runs ≡ [] → joining.Tells old new (past (joined_story runs))
-none-tells old new runs same none = rw (same, none) (record { licensed = omega arith; gets = omega arith })
-
-pub job-tells : (job : Job) (shelf : OverShelf) (old new : DepotAt) (runs : List PolicyRun) (d : Result Text Stop) → DecidesOn job shelf old new runs d → joining.Tells old new (past (joined_story runs))
-job-tells refused shelf old new runs d is = none-tells old new runs is.depot is.none
-job-tells (alone r p) shelf old new runs d is = let counted = ends.is-counted (Some r) shelf (work_under p old new runs) d is in record { licensed = counted.licensed; gets = counted.reads }
-job-tells (compared r ps) shelf old new runs d (inl lacks) = none-tells old new runs lacks.depot lacks.none
-job-tells (compared r ps) shelf old new runs d (inr is) = compared_tells r shelf ps old new runs d is
+pub keeps-promises : (job : Job) (over : Devices) (did : DidRuns) → DecidesAndPrintsOn job over did → LeavesRuns job did.status did.runs → KeepsPromisesOn job over did
+keeps-promises job over did (d, is, prints) left = keeps-all over.shelf over.depot.old over.depot.new did.runs d did.status over.sink job is prints left

@@ -33,7 +33,9 @@ use Rattle.batch_answers.specs.Work.{Work}
 use Rattle.batch_answers.proofs.Given.{rows-same}
 use Rattle.batch_answers.proofs.Stopping.{first-before}
 use Rattle.coop_run.specs.Ending.{HasStatus, Headline, IsExcused, Prints, values_of}
-use Rattle.coop_run.specs.Promises.{AreHonest, FailsToRead, IsComplete, IsForAllParts, IsIdleElsewhere, IsUsageExactly, KeepsHeadline, KeepsHeadlineCut, LeavesItsWork, MissesFile, StopsExactly}
+use Rattle.coop_run.specs.Devices.{AreHonest, Devices}
+use Rattle.coop_run.specs.Did.{Did, work_of}
+use Rattle.coop_run.specs.Promises.{DecidesAndPrints, FailsToRead, IsComplete, IsForAllParts, IsIdleElsewhere, IsUsageExactly, KeepsHeadline, KeepsHeadlineCut, KeepsPromises, LeavesItsWork, MissesFile, StopsExactly}
 use Rattle.coop_run.proofs.Losses.{only-memory}
 use Rattle.coop_run.proofs.Parts.{for-any-parts}
 
@@ -218,23 +220,23 @@ headline-of r files w o tells runs =
       worked = run.are.worked;
     }
 
-headline-told : (asked : Option Request) (r : Request) (files : List ℕ → Option (List ℕ)) (shelf : OverShelf) (w : Work) (o : Text) → IsDecision asked shelf w (Ok o) → AreHonest shelf w files → asked ≡ Some r
-    → Headline r files w o.0 o.1
-headline-told asked r files shelf w o is honest for =
-    elim (comes-told r files shelf w (Ok o) honest.shelf_tells (decided-for asked r shelf w (Ok o) for is)) [
-      | inl runs ↦ headline-of r files w o honest.depot_tells runs
+headline-told : (asked : Option Request) (r : Request) (files : List ℕ → Option (List ℕ)) (over : Devices) (did : Did) (o : Text) → IsDecision asked over.shelf (work_of over did) (Ok o) → AreHonest over files
+    → asked ≡ Some r → Headline r files (work_of over did) o.0 o.1
+headline-told asked r files over did o is honest for =
+    elim (comes-told r files over.shelf (work_of over did) (Ok o) honest.shelf_tells (decided-for asked r over.shelf (work_of over did) (Ok o) for is)) [
+      | inl runs ↦ headline-of r files (work_of over did) o honest.depot_tells runs
       | inr stops ↦ absurd stops.0
     ]
 
-pub keeps-headline : (asked : Option Request) (shelf : OverShelf) (w : Work) (d : Result Text Stop) (status : ℕ) (sink : OverSink) → IsDecision asked shelf w d → Prints d status sink → KeepsHeadline asked shelf w status sink
-keeps-headline asked shelf w (Ok o) status sink is (inl (e, all)) low files honest r for = (o.1, rw e (headline-told asked r files shelf w o is honest for), all)
-keeps-headline asked shelf w (Ok o) status sink is (inr (six, cut)) low files honest r for = let no : ⊥ = omega (arith, six, low) in absurd no
-keeps-headline asked shelf w (Err s) status sink is (e, some) low files honest r for = let late = (stops-late s).0 in let no : ⊥ = omega (arith, e, low, late) in absurd no
+pub keeps-headline : (asked : Option Request) (over : Devices) (did : Did) (d : Result Text Stop) → IsDecision asked over.shelf (work_of over did) d → Prints d did.status over.sink → KeepsHeadline asked over did
+keeps-headline asked over did (Ok o) is (inl (e, all)) low files honest r for = (o.1, rw e (headline-told asked r files over did o is honest for), all)
+keeps-headline asked over did (Ok o) is (inr (six, cut)) low files honest r for = let no : ⊥ = omega (arith, six, low) in absurd no
+keeps-headline asked over did (Err s) is (e, some) low files honest r for = let late = (stops-late s).0 in let no : ⊥ = omega (arith, e, low, late) in absurd no
 
-pub keeps-headline-cut : (asked : Option Request) (shelf : OverShelf) (w : Work) (d : Result Text Stop) (status : ℕ) (sink : OverSink) → IsDecision asked shelf w d → Prints d status sink → KeepsHeadlineCut asked shelf w status sink
-keeps-headline-cut asked shelf w (Ok o) status sink is (inl (e, all)) six files honest r for = let low = decision-small asked shelf w o is in let no : ⊥ = omega (arith, e, low, six) in absurd no
-keeps-headline-cut asked shelf w (Ok o) status sink is (inr (e, cut)) six files honest r for = (o.0, o.1, headline-told asked r files shelf w o is honest for, cut)
-keeps-headline-cut asked shelf w (Err s) status sink is (e, some) six files honest r for = absurd ((stops-late s).1 (sym e ∙ six))
+pub keeps-headline-cut : (asked : Option Request) (over : Devices) (did : Did) (d : Result Text Stop) → IsDecision asked over.shelf (work_of over did) d → Prints d did.status over.sink → KeepsHeadlineCut asked over did
+keeps-headline-cut asked over did (Ok o) is (inl (e, all)) six files honest r for = let low = decision-small asked over.shelf (work_of over did) o is in let no : ⊥ = omega (arith, e, low, six) in absurd no
+keeps-headline-cut asked over did (Ok o) is (inr (e, cut)) six files honest r for = (o.0, o.1, headline-told asked r files over did o is honest for, cut)
+keeps-headline-cut asked over did (Err s) is (e, some) six files honest r for = absurd ((stops-late s).1 (sym e ∙ six))
 
 -- ---- completeness
 
@@ -253,22 +255,22 @@ pub only-for-memory : (r : Request) (files : List ℕ → Option (List ℕ)) (w 
     → AllByRecursion OnlyForMemory h.losses
 only-for-memory r files w ends text h tells none = only-memory w.old.held (past w.story) r.parts w.old.faults w.new.faults tells none h.worked.story.licensed 1 h.losses h.lost
 
-pub is-complete : (asked : Option Request) (shelf : OverShelf) (w : Work) (d : Result Text Stop) (status : ℕ) (sink : OverSink) → IsDecision asked shelf w d → Prints d status sink → IsComplete asked shelf w status sink
-is-complete asked shelf w (Ok o) status sink is (inl (e, all)) files honest r for none faultless =
-    let h = headline-told asked r files shelf w o is honest for in
-    inr (rw e (record { text = o.1; headline = h; lost = All-from_recursion OnlyForMemory h.losses (only-for-memory r files w o.0 o.1 h honest.depot_tells faultless.depot_is); written = all }))
-is-complete asked shelf w (Ok o) status sink is (inr (six, (k, less, part, rose))) files honest r for none faultless = absurd (faultless.sink_is rose)
-is-complete asked shelf w (Err s) status sink is (e, some) files honest r for none faultless =
-    let comes = comes-told r files shelf w (Err s) honest.shelf_tells (decided-for asked r shelf w (Err s) for is) in
-    let memory = stop-excused r (text_in (table_source r.table) files) (text_in (batch_source r.batch) files) shelf w s none faultless.shelf_is faultless.depot_is comes in
+pub is-complete : (asked : Option Request) (over : Devices) (did : Did) (d : Result Text Stop) → IsDecision asked over.shelf (work_of over did) d → Prints d did.status over.sink → IsComplete asked over did
+is-complete asked over did (Ok o) is (inl (e, all)) files honest r for none faultless =
+    let h = headline-told asked r files over did o is honest for in
+    inr (rw e (record { text = o.1; headline = h; lost = All-from_recursion OnlyForMemory h.losses (only-for-memory r files (work_of over did) o.0 o.1 h honest.depot_tells faultless.depot_is); written = all }))
+is-complete asked over did (Ok o) is (inr (six, (k, less, part, rose))) files honest r for none faultless = absurd (faultless.sink_is rose)
+is-complete asked over did (Err s) is (e, some) files honest r for none faultless =
+    let comes = comes-told r files over.shelf (work_of over did) (Err s) honest.shelf_tells (decided-for asked r over.shelf (work_of over did) (Err s) for is) in
+    let memory = stop-excused r (text_in (table_source r.table) files) (text_in (batch_source r.batch) files) over.shelf (work_of over did) s none faultless.shelf_is faultless.depot_is comes in
     inl (e ∙ ap status_of memory)
 
 -- ---- parts
 
-pub is-for-all-parts : (asked : Option Request) (shelf : OverShelf) (w : Work) (d : Result Text Stop) (status : ℕ) (sink : OverSink) → IsDecision asked shelf w d → Prints d status sink → IsForAllParts asked shelf w status sink
-is-for-all-parts asked shelf w d status sink is prints low files honest r for none =
-    let (text, h, written) = keeps-headline asked shelf w d status sink is prints low files honest r for in
-    record { text = text; headline = h; written = written; alike = for-any-parts r files w status text h (only-for-memory r files w status text h honest.depot_tells none) }
+pub is-for-all-parts : (asked : Option Request) (over : Devices) (did : Did) (d : Result Text Stop) → IsDecision asked over.shelf (work_of over did) d → Prints d did.status over.sink → IsForAllParts asked over did
+is-for-all-parts asked over did d is prints low files honest r for none =
+    let (text, h, written) = keeps-headline asked over did d is prints low files honest r for in
+    record { text = text; headline = h; written = written; alike = for-any-parts r files (work_of over did) did.status text h (only-for-memory r files (work_of over did) did.status text h honest.depot_tells none) }
 
 -- ---- the stops
 
@@ -398,11 +400,11 @@ worked r table batch shelf w o table_is batch_is (inl runs) =
     record { table = table; batch = batch; table_is = table_is; batch_is = batch_is; given = runs.given; is_given = runs.is_given; worked = runs.comes.are.worked }
 worked r table batch shelf w o table_is batch_is (inr (never, untouched)) = absurd never
 
-pub leaves-its-work : (asked : Option Request) (shelf : OverShelf) (w : Work) (d : Result Text Stop) (status : ℕ) (sink : OverSink) → IsDecision asked shelf w d → Prints d status sink → LeavesItsWork asked shelf w status
-leaves-its-work asked shelf w (Ok o) status sink is prints h r for = let decided = decided-for asked r shelf w (Ok o) for is in
-    worked r decided.table decided.batch shelf w o decided.table_is decided.batch_is decided.comes
-leaves-its-work asked shelf w (Err s) status sink is prints (inl low) r for = let late = (stops-late s).0 in let no : ⊥ = omega (arith, prints.0, low, late) in absurd no
-leaves-its-work asked shelf w (Err s) status sink is prints (inr six) r for = absurd ((stops-late s).1 (sym prints.0 ∙ six))
+pub leaves-its-work : (asked : Option Request) (over : Devices) (did : Did) (d : Result Text Stop) → IsDecision asked over.shelf (work_of over did) d → Prints d did.status over.sink → LeavesItsWork asked over did
+leaves-its-work asked over did (Ok o) is prints h r for = let decided = decided-for asked r over.shelf (work_of over did) (Ok o) for is in
+    worked r decided.table decided.batch over.shelf (work_of over did) o decided.table_is decided.batch_is decided.comes
+leaves-its-work asked over did (Err s) is prints (inl low) r for = let late = (stops-late s).0 in let no : ⊥ = omega (arith, prints.0, low, late) in absurd no
+leaves-its-work asked over did (Err s) is prints (inr six) r for = absurd ((stops-late s).1 (sym prints.0 ∙ six))
 
 abbrev NoStory : Work → Type 0
 NoStory w = (w.story ≡ []) × (w.taken ≡ [])
@@ -414,11 +416,11 @@ no-story r table batch shelf w s seven (inl runs) = elim runs.comes [
 ]
 no-story r table batch shelf w s seven (inr (stops, untouched)) = (untouched.story, untouched.taken)
 
-pub is-idle-elsewhere : (asked : Option Request) (shelf : OverShelf) (w : Work) (d : Result Text Stop) (status : ℕ) (sink : OverSink) → IsDecision asked shelf w d → Prints d status sink → IsIdleElsewhere w status
-is-idle-elsewhere None shelf w d status sink is prints late six seven = (is.1.story, is.1.taken)
-is-idle-elsewhere (Some r) shelf w d status sink is prints late six seven =
-    let (s, e, by) = stopped (Some r) shelf w d status sink is prints late six in
-    no-story r is.table is.batch shelf w s (λ h. seven (by ∙ h)) (subst (λ (x : Result Text Stop). ComesTo r is.table is.batch shelf w x) e is.comes)
+pub is-idle-elsewhere : (asked : Option Request) (over : Devices) (did : Did) (d : Result Text Stop) → IsDecision asked over.shelf (work_of over did) d → Prints d did.status over.sink → IsIdleElsewhere did
+is-idle-elsewhere None over did d is prints late six seven = (is.1.story, is.1.taken)
+is-idle-elsewhere (Some r) over did d is prints late six seven =
+    let (s, e, by) = stopped (Some r) over.shelf (work_of over did) d did.status over.sink is prints late six in
+    no-story r is.table is.batch over.shelf (work_of over did) s (λ h. seven (by ∙ h)) (subst (λ (x : Result Text Stop). ComesTo r is.table is.batch over.shelf (work_of over did) x) e is.comes)
 
 -- what holds of the depot's counts whatever the status
 pub record IsCounted (w : Work) : Type 0 where
@@ -445,3 +447,29 @@ comes-counted r table batch shelf w d (inr (stops, untouched)) = untouched-count
 pub is-counted : (asked : Option Request) (shelf : OverShelf) (w : Work) (d : Result Text Stop) → IsDecision asked shelf w d → IsCounted w
 is-counted None shelf w d is = untouched-counted w is.1
 is-counted (Some r) shelf w d is = comes-counted r is.table is.batch shelf w d is.comes
+
+-- EVERY PROMISE, of what was decided and written
+pub keeps-promises : (asked : Option Request) (over : Devices) (did : Did) → DecidesAndPrints asked over did → KeepsPromises asked over did
+keeps-promises asked over did (d, is, prints) =
+    let w = work_of over did in
+    let counted = is-counted asked over.shelf w d is in
+    record {
+      headline = keeps-headline asked over did d is prints;
+      complete = is-complete asked over did d is prints;
+      parts = is-for-all-parts asked over did d is prints;
+      usage = is-usage-exactly asked over.shelf w d did.status over.sink is prints;
+      no_table = stops-exactly 3 (inl refl) asked over.shelf w d did.status over.sink is prints;
+      read_fault = fails-to-read asked over.shelf w d did.status over.sink is prints;
+      no_file = misses-file asked over.shelf w d did.status over.sink is prints;
+      put_fault = put-fault-of asked over.shelf w d did.status over.sink is prints;
+      write_fault = write-fault-of asked over.shelf w d did.status over.sink is prints;
+      cut = keeps-headline-cut asked over did d is prints;
+      no_memory = no-memory-of asked over.shelf w d did.status over.sink is prints;
+      frames = stops-exactly 8 (inr (inl refl)) asked over.shelf w d did.status over.sink is prints;
+      no_batch = stops-exactly 9 (inr (inr refl)) asked over.shelf w d did.status over.sink is prints;
+      worked = leaves-its-work asked over did d is prints;
+      idle = is-idle-elsewhere asked over did d is prints;
+      licensed = counted.licensed;
+      reads = counted.reads;
+      decides = (d, is, prints);
+    }

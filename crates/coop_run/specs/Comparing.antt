@@ -1,10 +1,9 @@
--- What a comparison of policies promises: by its request and its policies, its shelf, its depot before and after, its runs, its status and its sink.
+-- What a comparison of policies promises, by its request and its policies, its devices and what it did.
 use Rattle.std.specs.Prelude.{◌≡◌, ◌≤◌, ◌⊎◌, ℕ, max, List, [], ◌∷◌, All, Option, Some, None, ⊤}
 use Rattle.coop_outside.specs.Causes.{Rose}
 use Rattle.command_words.specs.Options.{Request}
 use Rattle.batch_inputs.specs.Ending.{IsTextOf}
 use Rattle.batch_inputs.specs.Sources.{batch_source, table_source}
-use Rattle.batch_run.specs.Lost.{Tells}
 use Rattle.batch_answers.specs.Devices.{DepotAt, OverShelf, OverSink}
 use Rattle.batch_answers.specs.Losses.{OnlyForMemory, SomeForMemory}
 use Rattle.batch_answers.specs.Running.{IsWorked}
@@ -14,6 +13,8 @@ use Rattle.policy_compare.specs.Lines.{lines_of}
 use Rattle.policy_compare.specs.Policies.{PolicyAt}
 use Rattle.policy_compare.specs.Runs.{work_in}
 use Rattle.policy_compare.specs.declared.policy_run.PolicyRun.{PolicyRun}
+use Rattle.coop_run.specs.Devices.{AreFaultless, AreHonest, Devices}
+use Rattle.coop_run.specs.Runs.{DidRuns}
 use Rattle.coop_run.specs.Ending.{Headline, IsCutShort, IsForAnyParts, IsWritten, stop_over}
 
 -- ---- what the workers did
@@ -59,22 +60,16 @@ abbrev pub nothing_more : (r : Request) (files : List ℕ → Option (List ℕ))
 nothing_more r files w status text h = ⊤
 
 -- with 0 and 1 over honest devices the headline holds of the run of each policy, and their lines are written
-abbrev pub KeepsHeadlines : Request → List PolicyAt → OverShelf → DepotAt → DepotAt → List PolicyRun → ℕ → OverSink → Type 0
-KeepsHeadlines r ps shelf old new runs status sink = status ≤ 1 → (files : List ℕ → Option (List ℕ)) → shelf.held ≡ Some files → Tells old.held
-    → Headlines r files (nothing_more r files) ps old new runs status × IsWritten (lines_of runs) sink
+abbrev pub KeepsHeadlines : Request → List PolicyAt → Devices → DidRuns → Type 0
+KeepsHeadlines r ps over did = did.status ≤ 1 → (files : List ℕ → Option (List ℕ)) → AreHonest over files
+    → Headlines r files (nothing_more r files) ps over.depot.old over.depot.new did.runs did.status × IsWritten (lines_of did.runs) over.sink
 
 -- with 6 over honest devices it holds too, and a front of the lines is written
-abbrev pub KeepsHeadlinesCut : Request → List PolicyAt → OverShelf → DepotAt → DepotAt → List PolicyRun → ℕ → OverSink → Type 0
-KeepsHeadlinesCut r ps shelf old new runs status sink = status ≡ 6 → (files : List ℕ → Option (List ℕ)) → shelf.held ≡ Some files → Tells old.held
-    → (ends : ℕ) × Headlines r files (nothing_more r files) ps old new runs ends × IsCutShort (lines_of runs) sink
+abbrev pub KeepsHeadlinesCut : Request → List PolicyAt → Devices → DidRuns → Type 0
+KeepsHeadlinesCut r ps over did = did.status ≡ 6 → (files : List ℕ → Option (List ℕ)) → AreHonest over files
+    → (ends : ℕ) × Headlines r files (nothing_more r files) ps over.depot.old over.depot.new did.runs ends × IsCutShort (lines_of did.runs) over.sink
 
 -- ---- completeness
-
--- no device counted a fault, or stands at its last value
-pub record CountNoFault (shelf : OverShelf) (old new : DepotAt) (sink : OverSink) : Type 0 where
-  pub shelf_is : Rose shelf.before shelf.now → ⊥
-  pub depot_is : Rose old.faults new.faults → ⊥
-  pub sink_is : Rose sink.before sink.now → ⊥
 
 -- no query is lost but for want of memory
 abbrev pub lost_for_memory : (r : Request) (files : List ℕ → Option (List ℕ)) → Remark r files
@@ -82,18 +77,18 @@ lost_for_memory r files w status text h = All OnlyForMemory h.losses
 
 -- COMPLETENESS: where nothing refuses the runs and no honest device counts a fault, the line of each policy is written, and no query is lost
 -- in any run, but for want of memory
-abbrev pub AreComplete : Request → List PolicyAt → OverShelf → DepotAt → DepotAt → List PolicyRun → ℕ → OverSink → Type 0
-AreComplete r ps shelf old new runs status sink = (files : List ℕ → Option (List ℕ)) → shelf.held ≡ Some files → Tells old.held → stop_over r files ≡ None → CountNoFault shelf old new sink
-    → (status ≡ 7) ⊎ (Headlines r files (lost_for_memory r files) ps old new runs status × IsWritten (lines_of runs) sink)
+abbrev pub AreComplete : Request → List PolicyAt → Devices → DidRuns → Type 0
+AreComplete r ps over did = (files : List ℕ → Option (List ℕ)) → AreHonest over files → stop_over r files ≡ None → AreFaultless over
+    → (did.status ≡ 7) ⊎ (Headlines r files (lost_for_memory r files) ps over.depot.old over.depot.new did.runs did.status × IsWritten (lines_of did.runs) over.sink)
 
 -- PARTS: with 0 and 1 over honest devices, where the depot counts no fault, each run is one for any number of parts; or memory was wanting
 -- for one of its queries
 abbrev pub for_any_parts : (r : Request) (files : List ℕ → Option (List ℕ)) → Remark r files
 for_any_parts r files w status text h = SomeForMemory h.losses ⊎ IsForAnyParts h.table h.batch h.given w status text
 
-abbrev pub AreForAllParts : Request → List PolicyAt → OverShelf → DepotAt → DepotAt → List PolicyRun → ℕ → Type 0
-AreForAllParts r ps shelf old new runs status = status ≤ 1 → (files : List ℕ → Option (List ℕ)) → shelf.held ≡ Some files → Tells old.held → (Rose old.faults new.faults → ⊥)
-    → Headlines r files (for_any_parts r files) ps old new runs status
+abbrev pub AreForAllParts : Request → List PolicyAt → Devices → DidRuns → Type 0
+AreForAllParts r ps over did = did.status ≤ 1 → (files : List ℕ → Option (List ℕ)) → AreHonest over files → (Rose over.depot.old.faults over.depot.new.faults → ⊥)
+    → Headlines r files (for_any_parts r files) ps over.depot.old over.depot.new did.runs did.status
 
 -- ---- what is written
 
@@ -103,9 +98,9 @@ pub record AreLines (runs : List PolicyRun) (status : ℕ) (sink : OverSink) : T
   pub cut : status ≡ 6 → IsCutShort (lines_of runs) sink
 
 -- with no policy to compare nothing is read and nothing written; or memory was wanting for the words
-pub record LeavesAll (shelf : OverShelf) (old new : DepotAt) (runs : List PolicyRun) (status : ℕ) (sink : OverSink) : Type 0 where
-  pub status_is : (status ≡ 0) ⊎ (status ≡ 7)
-  pub unread : shelf.now ≡ shelf.before
-  pub depot : new ≡ old
-  pub none : runs ≡ []
-  pub unwritten : sink.new ≡ sink.old
+pub record LeavesAll (over : Devices) (did : DidRuns) : Type 0 where
+  pub status_is : (did.status ≡ 0) ⊎ (did.status ≡ 7)
+  pub unread : over.shelf.now ≡ over.shelf.before
+  pub depot : over.depot.new ≡ over.depot.old
+  pub none : did.runs ≡ []
+  pub unwritten : over.sink.new ≡ over.sink.old

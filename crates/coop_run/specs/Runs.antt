@@ -7,6 +7,7 @@ use Rattle.batch_answers.specs.Work.{Work, work}
 use Rattle.policy_compare.specs.Joined.{joined_story}
 use Rattle.policy_compare.specs.Policies.{PolicyAt}
 use Rattle.policy_compare.specs.declared.policy_run.PolicyRun.{PolicyRun}
+use Rattle.coop_run.specs.Did.{Did, did_with}
 
 -- the chunks that the scans of runs took
 abbrev pub joined_taken : List PolicyRun → List Taken
@@ -16,6 +17,18 @@ joined_taken (run ∷ runs) = run.taken.items ++ joined_taken runs
 -- the work of the runs with one policy
 abbrev pub work_under : PolicyAt → DepotAt → DepotAt → List PolicyRun → Work
 work_under p old new runs = work p.name p.cursor old new (joined_story runs) (joined_taken runs)
+
+-- WHAT A RUN WITH POLICIES IN BOXES DID: how it ended, and what the workers left under each policy with which they ran
+pub record DidRuns : Type 0 where
+  pub status : ℕ
+  pub runs : List PolicyRun
+
+abbrev pub did_runs : ℕ → List PolicyRun → DidRuns
+did_runs status runs = record { status = status; runs = runs }
+
+-- the same as what a run with one policy did
+abbrev pub did_under : PolicyAt → DidRuns → Did
+did_under p did = did_with p did.status (joined_story did.runs) (joined_taken did.runs)
 
 -- with 0, 1 and 6 there is one run, under the name of the policy; with 7 there may be one; else there is none
 pub record AreOfOne (p : PolicyAt) (status : ℕ) (runs : List PolicyRun) : Type 0 where

@@ -1,26 +1,19 @@
 // The top call for policies in boxes.
-ghost use Rattle.std.specs.Prelude.{◌≡◌, ◌≤◌, ◌<◌, ◌+◌, ◌^◌, [], All, Err, None, length, map, Result, is_some, true, vec_capacity, vec_len};
-ghost use Rattle.coop_outside.specs.Causes.{Rose};
+ghost use Rattle.std.specs.Prelude.{◌≡◌, ◌≤◌, ◌<◌, ◌^◌, [], All, Err, None, Some, length, map, is_some, true, vec_capacity, vec_len};
 ghost use Rattle.command_words.specs.Limits.{IsWithinLimits};
 ghost use Rattle.command_words.specs.Views.{request_view};
 ghost use Rattle.command_words.specs.declared.call.Call.TheVariants.{RunBoxed};
-ghost use Rattle.run_texts.specs.declared.stop.Stop.{Stop};
-ghost use Rattle.scan_story.specs.Causes.{Licensed};
-ghost use Rattle.scan_story.specs.Spent.{reads};
-ghost use Rattle.scan_story.specs.Views.{past};
 ghost use Rattle.batch_inputs.specs.Asked.{asked_of};
 ghost use Rattle.batch_answers.specs.Answering.{story_in, taken_in};
-ghost use Rattle.batch_answers.specs.Deciding.{IsDecided};
-ghost use Rattle.batch_answers.specs.Devices.{depot_at, over_shelf, over_sink};
-ghost use Rattle.batch_answers.specs.Running.{Text};
-ghost use Rattle.policy_compare.specs.Comparing.{IsCompared};
 ghost use Rattle.policy_compare.specs.Joined.{joined_story};
 ghost use Rattle.policy_compare.specs.Policies.{policy_at};
-ghost use Rattle.coop_run.specs.Boxed.{ComparesNothing, DecidesOn, IsCompleteOn, IsForAllPartsOn, KeepsHeadlineCutOn, KeepsHeadlineOn, LeavesItsWorkOn, LeavesRuns, WritesLines};
+ghost use Rattle.coop_run.specs.Boxed.{ComparesAndPrints, DecidesAndPrintsOn, KeepsPromisesOn, LeavesRuns};
+ghost use Rattle.coop_run.specs.Devices.{devices, sink_over};
+ghost use Rattle.coop_run.specs.Did.{policy_of};
 ghost use Rattle.coop_run.specs.Ending.{Prints};
-ghost use Rattle.coop_run.specs.Jobs.{asked_in, asked_to_read, job_of};
-ghost use Rattle.coop_run.specs.Promises.{FailsToRead, IsUsageExactly, MissesFile, StopsExactly};
-ghost use Rattle.coop_run.specs.Runs.{AreOfOne, joined_taken, work_under};
+ghost use Rattle.coop_run.specs.Jobs.{job_of};
+ghost use Rattle.coop_run.specs.Promises.{DecidesAndPrints};
+ghost use Rattle.coop_run.specs.Runs.{AreOfOne, did_runs, did_under, joined_taken};
 
 use crate::boxed_end::BoxedEnd;
 use crate::print::print;
@@ -61,54 +54,11 @@ pub fn run_boxed<F: Shelf, D: Depot + Send, O: Sink, T: Gate + Sync, R: Threads 
 ) -> BoxedEnd<D>
     requires few { length policies.items ≤ 16 }
     requires gets { D.gets depot ≤ 2 ^ 62 }
-    // 0 and 1, THE HEADLINE, of the run with one policy and of each run of a comparison: for every table, batch, number of workers and buffer of at least three frames per worker plus one, in every
-    // interleaving that ends, each query not refused prints its SQL meaning over the whole table; its scans took each chunk that it needs
-    // exactly once, from frames that nobody refilled meanwhile; and every recorded load, delivery and eviction was the policy's choice
-    // among those it allowed
-    ensures headline { KeepsHeadlineOn (job_of (map (λ p. policy_at (name p) (cursor p)) policies.items) (asked_of RunBoxed words.now)) (over_shelf (F.held shelf.old) (F.faults shelf.old) (F.faults shelf.new)) (depot_at (D.held depot) (D.gets depot) (D.faults depot))
-        (depot_at (D.held result.depot) (D.gets result.depot) (D.faults result.depot)) result.runs.items result.status (over_sink (O.taken out.old) (O.taken out.new) (O.faults out.old) (O.faults out.new)) }
-    // where nothing refuses the run and no device counts a fault, the answers are written, and no query is lost, but for want of memory
-    ensures complete { IsCompleteOn (job_of (map (λ p. policy_at (name p) (cursor p)) policies.items) (asked_of RunBoxed words.now)) (over_shelf (F.held shelf.old) (F.faults shelf.old) (F.faults shelf.new)) (depot_at (D.held depot) (D.gets depot) (D.faults depot))
-        (depot_at (D.held result.depot) (D.gets result.depot) (D.faults result.depot)) result.runs.items result.status (over_sink (O.taken out.old) (O.taken out.new) (O.faults out.old) (O.faults out.new)) }
-    // the answers are those of any number of parts, and each chunk that a query needs was delivered to exactly one of its scans
-    ensures parts { IsForAllPartsOn (job_of (map (λ p. policy_at (name p) (cursor p)) policies.items) (asked_of RunBoxed words.now)) (over_shelf (F.held shelf.old) (F.faults shelf.old) (F.faults shelf.new)) (depot_at (D.held depot) (D.gets depot) (D.faults depot))
-        (depot_at (D.held result.depot) (D.gets result.depot) (D.faults result.depot)) result.runs.items result.status (over_sink (O.taken out.old) (O.taken out.new) (O.faults out.old) (O.faults out.new)) }
-    // 2: the words are refused, or, without a comparison, no policy of the name was handed in
-    ensures usage { IsUsageExactly (asked_in (job_of (map (λ p. policy_at (name p) (cursor p)) policies.items) (asked_of RunBoxed words.now))) result.status }
-    // 3: the table is refused, or has too many chunks
-    ensures no_table { StopsExactly 3 (asked_to_read (job_of (map (λ p. policy_at (name p) (cursor p)) policies.items) (asked_of RunBoxed words.now))) (over_shelf (F.held shelf.old) (F.faults shelf.old) (F.faults shelf.new)) result.status }
-    // 4: the shelf failed, or lacks the name; always where it tells that it lacks the name, and nothing is refused before
-    ensures read_fault { FailsToRead (asked_to_read (job_of (map (λ p. policy_at (name p) (cursor p)) policies.items) (asked_of RunBoxed words.now))) (over_shelf (F.held shelf.old) (F.faults shelf.old) (F.faults shelf.new)) result.status }
-    ensures no_file { MissesFile (asked_to_read (job_of (map (λ p. policy_at (name p) (cursor p)) policies.items) (asked_of RunBoxed words.now))) (over_shelf (F.held shelf.old) (F.faults shelf.old) (F.faults shelf.new)) result.status }
-    // 5: the depot failed while pieces were put
-    ensures put_fault { result.status ≡ 5 → Rose (D.faults depot) (D.faults result.depot) }
-    // 6: the sink failed, and has a front of the output
-    ensures write_fault { result.status ≡ 6 → Rose (O.faults out.old) (O.faults out.new) }
-    ensures cut { KeepsHeadlineCutOn (job_of (map (λ p. policy_at (name p) (cursor p)) policies.items) (asked_of RunBoxed words.now)) (over_shelf (F.held shelf.old) (F.faults shelf.old) (F.faults shelf.new)) (depot_at (D.held depot) (D.gets depot) (D.faults depot))
-        (depot_at (D.held result.depot) (D.gets result.depot) (D.faults result.depot)) result.runs.items result.status (over_sink (O.taken out.old) (O.taken out.new) (O.faults out.old) (O.faults out.new)) }
-    // 7: memory was wanting, and nothing is written
-    ensures no_memory { result.status ≡ 7 → O.taken out.new ≡ O.taken out.old }
-    // 8: there are too few frames, or too many words in them
-    ensures frames { StopsExactly 8 (asked_to_read (job_of (map (λ p. policy_at (name p) (cursor p)) policies.items) (asked_of RunBoxed words.now))) (over_shelf (F.held shelf.old) (F.faults shelf.old) (F.faults shelf.new)) result.status }
-    // 9: the batch is too long, or has too many statements or scans
-    ensures no_batch { StopsExactly 9 (asked_to_read (job_of (map (λ p. policy_at (name p) (cursor p)) policies.items) (asked_of RunBoxed words.now))) (over_shelf (F.held shelf.old) (F.faults shelf.old) (F.faults shelf.new)) result.status }
-    // 0, 1 and 6, over every device: what the workers did
-    ensures worked { LeavesItsWorkOn (job_of (map (λ p. policy_at (name p) (cursor p)) policies.items) (asked_of RunBoxed words.now)) (over_shelf (F.held shelf.old) (F.faults shelf.old) (F.faults shelf.new)) (depot_at (D.held depot) (D.gets depot) (D.faults depot))
-        (depot_at (D.held result.depot) (D.gets result.depot) (D.faults result.depot)) result.runs.items result.status }
-    // with 0, 1 and 6 there is one run, under the policy's name, or one for each policy, in their order; without a comparison no worker ran
-    // but with these and 7
-    ensures runs { LeavesRuns (job_of (map (λ p. policy_at (name p) (cursor p)) policies.items) (asked_of RunBoxed words.now)) result.status result.runs.items }
-    // of a comparison: a line for each run is written, with 6 a front of them; with no policy nothing is read and nothing written
-    ensures lines { WritesLines (job_of (map (λ p. policy_at (name p) (cursor p)) policies.items) (asked_of RunBoxed words.now)) result.runs.items result.status (over_sink (O.taken out.old) (O.taken out.new) (O.faults out.old) (O.faults out.new)) }
-    ensures nothing { ComparesNothing (job_of (map (λ p. policy_at (name p) (cursor p)) policies.items) (asked_of RunBoxed words.now)) (over_shelf (F.held shelf.old) (F.faults shelf.old) (F.faults shelf.new)) (depot_at (D.held depot) (D.gets depot) (D.faults depot))
-        (depot_at (D.held result.depot) (D.gets result.depot) (D.faults result.depot)) result.runs.items result.status (over_sink (O.taken out.old) (O.taken out.new) (O.faults out.old) (O.faults out.new)) }
-    // with every status: each fault of the stories joined in order has its own rise of the depot's count, and the depot's gets rose by their reads
-    ensures licensed { Licensed (is_some (D.held depot)) (D.faults depot) (D.faults result.depot) (past (joined_story result.runs.items)) }
-    ensures reads { D.gets result.depot ≡ D.gets depot + reads (past (joined_story result.runs.items)) }
-    // over every device: what was decided, with its causes, and what of it was written
-    ensures decides { (d : Result Text Stop) × DecidesOn (job_of (map (λ p. policy_at (name p) (cursor p)) policies.items) (asked_of RunBoxed words.now)) (over_shelf (F.held shelf.old) (F.faults shelf.old) (F.faults shelf.new)) (depot_at (D.held depot) (D.gets depot) (D.faults depot))
-        (depot_at (D.held result.depot) (D.gets result.depot) (D.faults result.depot)) result.runs.items d
-        × Prints d result.status (over_sink (O.taken out.old) (O.taken out.new) (O.faults out.old) (O.faults out.new)) }
+    // the clauses by their names, 0 and 1 with THE HEADLINE first: specs/Boxed.antt
+    ensures promises { KeepsPromisesOn
+        (job_of (map (λ p. policy_at (name p) (cursor p)) policies.items) (asked_of RunBoxed words.now))
+        (devices F.Shelf shelf.old shelf.new D.Depot depot result.depot O.Sink out.old out.new)
+        (did_runs result.status result.runs.items) }
 {
     run_taken(rt, alloc, keys, words, shelf, depot, policies, gate, out)
 }
@@ -127,10 +77,12 @@ fn run_taken<F: Shelf, D: Depot + Send, O: Sink, T: Gate + Sync, R: Threads + Wa
 ) -> BoxedEnd<D>
     requires few { length policies.items ≤ 16 }
     requires gets { D.gets depot ≤ 2 ^ 62 }
-    ensures decides { (d : Result Text Stop) × DecidesOn (job_of (map (λ p. policy_at (name p) (cursor p)) policies.items) (asked_of RunBoxed words.now)) (over_shelf (F.held shelf.old) (F.faults shelf.old) (F.faults shelf.new)) (depot_at (D.held depot) (D.gets depot) (D.faults depot))
-        (depot_at (D.held result.depot) (D.gets result.depot) (D.faults result.depot)) result.runs.items d
-        × Prints d result.status (over_sink (O.taken out.old) (O.taken out.new) (O.faults out.old) (O.faults out.new)) }
-    ensures runs { LeavesRuns (job_of (map (λ p. policy_at (name p) (cursor p)) policies.items) (asked_of RunBoxed words.now)) result.status result.runs.items }
+    ensures decides { DecidesAndPrintsOn
+        (job_of (map (λ p. policy_at (name p) (cursor p)) policies.items) (asked_of RunBoxed words.now))
+        (devices F.Shelf shelf.old shelf.new D.Depot depot result.depot O.Sink out.old out.new)
+        (did_runs result.status result.runs.items) }
+    ensures runs { LeavesRuns (job_of (map (λ p. policy_at (name p) (cursor p)) policies.items) (asked_of RunBoxed words.now))
+        result.status result.runs.items }
 {
     let request = match request_in(alloc, Call::RunBoxed, words) {
         Ok(request) => request,
@@ -161,9 +113,10 @@ fn run_compared<F: Shelf, D: Depot + Send, O: Sink, T: Gate + Sync, R: Threads +
     requires few { length policies.items ≤ 16 }
     requires limits { IsWithinLimits (request_view request.now) }
     requires gets { D.gets depot ≤ 2 ^ 62 }
-    ensures decides { (d : Result Text Stop) × IsCompared (request_view request.now) (over_shelf (F.held shelf.old) (F.faults shelf.old) (F.faults shelf.new)) (map (λ p. policy_at (name p) (cursor p)) policies.items)
-        (depot_at (D.held depot) (D.gets depot) (D.faults depot)) (depot_at (D.held result.depot) (D.gets result.depot) (D.faults result.depot)) result.runs.items d
-        × Prints d result.status (over_sink (O.taken out.old) (O.taken out.new) (O.faults out.old) (O.faults out.new)) }
+    ensures decides { ComparesAndPrints (request_view request.now)
+        (map (λ p. policy_at (name p) (cursor p)) policies.items)
+        (devices F.Shelf shelf.old shelf.new D.Depot depot result.depot O.Sink out.old out.new)
+        (did_runs result.status result.runs.items) }
 {
     let Compared {
         ending,
@@ -180,7 +133,7 @@ fn run_compared<F: Shelf, D: Depot + Send, O: Sink, T: Gate + Sync, R: Threads +
 
 // What is left where no worker runs.
 fn stop_before<D, O: Sink>(alloc: Global, stop: Stop, depot: D, out: &mut O) -> BoxedEnd<D>
-    ensures prints { Prints (Err stop) result.status (over_sink (O.taken out.old) (O.taken out.new) (O.faults out.old) (O.faults out.new)) }
+    ensures prints { Prints (Err stop) result.status (sink_over O.Sink out.old out.new) }
     ensures depot { result.depot ≡ depot }
     ensures runs { result.runs.items ≡ [] }
 {
@@ -213,10 +166,10 @@ fn run_under<
 ) -> BoxedEnd<D>
     requires limits { IsWithinLimits (request_view request.now) }
     requires gets { D.gets depot ≤ 2 ^ 63 }
-    ensures decides { (d : Result Text Stop) × IsDecided (request_view request.now) (over_shelf (F.held shelf.old) (F.faults shelf.old) (F.faults shelf.new))
-        (work_under (policy_at (P.name policy) (P.cursor policy)) (depot_at (D.held depot) (D.gets depot) (D.faults depot)) (depot_at (D.held result.depot) (D.gets result.depot) (D.faults result.depot)) result.runs.items) d
-        × Prints d result.status (over_sink (O.taken out.old) (O.taken out.new) (O.faults out.old) (O.faults out.new)) }
-    ensures runs { AreOfOne (policy_at (P.name policy) (P.cursor policy)) result.status result.runs.items }
+    ensures decides { DecidesAndPrints (Some (request_view request.now))
+        (devices F.Shelf shelf.old shelf.new D.Depot depot result.depot O.Sink out.old out.new)
+        (did_under (policy_of P.Policy policy) (did_runs result.status result.runs.items)) }
+    ensures runs { AreOfOne (policy_of P.Policy policy) result.status result.runs.items }
 {
     let Ok(runs) = Vec::with_capacity(alloc, 1) else {
         return stop_before(alloc, Stop::Memory, depot, out);

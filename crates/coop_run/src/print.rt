@@ -1,6 +1,6 @@
 // What is written of a decision.
 ghost use Rattle.batch_answers.specs.Deciding.{shown};
-ghost use Rattle.batch_answers.specs.Devices.{over_sink};
+ghost use Rattle.coop_run.specs.Devices.{sink_over};
 ghost use Rattle.coop_run.specs.Ending.{Prints};
 
 use batch_answers::Output;
@@ -9,7 +9,7 @@ use run_texts::Stop;
 
 /// Writes the text of a decision, or the line of its stop, and answers the status. It takes no memory.
 pub fn print<O: Sink>(ending: Result<Output, Stop>, out: &mut O) -> u8
-    ensures prints { Prints (shown ending) result (over_sink (O.taken out.old) (O.taken out.new) (O.faults out.old) (O.faults out.new)) }
+    ensures prints { Prints (shown ending) result (sink_over O.Sink out.old out.new) }
 {
     match ending {
         Ok(output) => match write_all(out, output.text.as_slice()) {

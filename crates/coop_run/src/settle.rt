@@ -1,16 +1,14 @@
 // What a run comes to and writes.
-ghost use Rattle.std.specs.Prelude.{◌≡◌, ◌≢◌, ◌≤◌, ◌⊎◌, ◌^◌, Option, Result, Err, None, Some, is_some, true};
+ghost use Rattle.std.specs.Prelude.{◌≡◌, ◌≢◌, ◌≤◌, ◌⊎◌, ◌^◌, Err, None, Some, is_some, true};
 ghost use Rattle.command_words.specs.Limits.{IsWithinLimits};
 ghost use Rattle.command_words.specs.Views.{request_view};
-ghost use Rattle.run_texts.specs.declared.stop.Stop.{Stop};
-ghost use Rattle.batch_inputs.specs.Asked.{asked_of};
 ghost use Rattle.command_words.specs.declared.call.Call.TheVariants.{Run};
+ghost use Rattle.batch_inputs.specs.Asked.{asked_of};
 ghost use Rattle.batch_answers.specs.Answering.{story_in, taken_in};
-ghost use Rattle.batch_answers.specs.Deciding.{IsDecided, IsDecision};
-ghost use Rattle.batch_answers.specs.Devices.{depot_at, over_shelf, over_sink};
+ghost use Rattle.coop_run.specs.Devices.{devices, sink_over};
+ghost use Rattle.coop_run.specs.Did.{did_with, policy_of};
 ghost use Rattle.coop_run.specs.Ending.{Prints};
-ghost use Rattle.batch_answers.specs.Running.{Text};
-ghost use Rattle.batch_answers.specs.Work.{work};
+ghost use Rattle.coop_run.specs.Promises.{DecidesAndPrints};
 
 use crate::print::print;
 use batch_answers::{Decision, Ran, decide};
@@ -57,10 +55,9 @@ pub fn settle<
 ) -> Settled<D>
     requires limits { IsWithinLimits (request_view request.now) }
     requires gets { D.gets depot ≤ 2 ^ 63 }
-    ensures decides { (d : Result Text Stop) × IsDecided (request_view request.now) (over_shelf (F.held shelf.old) (F.faults shelf.old) (F.faults shelf.new))
-        (work (P.name policy) (P.cursor policy) (depot_at (D.held depot) (D.gets depot) (D.faults depot)) (depot_at (D.held result.depot) (D.gets result.depot) (D.faults result.depot))
-        (story_in result.ran) (taken_in result.ran)) d
-        × Prints d result.status (over_sink (O.taken out.old) (O.taken out.new) (O.faults out.old) (O.faults out.new)) }
+    ensures decides { DecidesAndPrints (Some (request_view request.now))
+        (devices F.Shelf shelf.old shelf.new D.Depot depot result.depot O.Sink out.old out.new)
+        (did_with (policy_of P.Policy policy) result.status (story_in result.ran) (taken_in result.ran)) }
     ensures ran { (result.status ≤ 1) ⊎ (result.status ≡ 6) → is_some result.ran ≡ true }
     ensures idle { 2 ≤ result.status → result.status ≢ 6 → result.status ≢ 7 → result.ran ≡ None }
 {
@@ -73,7 +70,7 @@ pub fn settle<
 
 /// Writes the line of a stop that comes of the words, before anything was read.
 pub fn refuse<D, O: Sink>(stop: Stop, depot: D, out: &mut O) -> Settled<D>
-    ensures prints { Prints (Err stop) result.status (over_sink (O.taken out.old) (O.taken out.new) (O.faults out.old) (O.faults out.new)) }
+    ensures prints { Prints (Err stop) result.status (sink_over O.Sink out.old out.new) }
     ensures depot { result.depot ≡ depot }
     ensures idle { result.ran ≡ None }
 {
@@ -105,10 +102,9 @@ pub fn settle_words<
     out: &mut O,
 ) -> Settled<D>
     requires gets { D.gets depot ≤ 2 ^ 63 }
-    ensures decides { (d : Result Text Stop) × IsDecision (asked_of Run words.now) (over_shelf (F.held shelf.old) (F.faults shelf.old) (F.faults shelf.new))
-        (work (P.name policy) (P.cursor policy) (depot_at (D.held depot) (D.gets depot) (D.faults depot)) (depot_at (D.held result.depot) (D.gets result.depot) (D.faults result.depot))
-        (story_in result.ran) (taken_in result.ran)) d
-        × Prints d result.status (over_sink (O.taken out.old) (O.taken out.new) (O.faults out.old) (O.faults out.new)) }
+    ensures decides { DecidesAndPrints (asked_of Run words.now)
+        (devices F.Shelf shelf.old shelf.new D.Depot depot result.depot O.Sink out.old out.new)
+        (did_with (policy_of P.Policy policy) result.status (story_in result.ran) (taken_in result.ran)) }
 {
     match request_in(alloc, Call::Run, words) {
         Ok(request) => settle(rt, alloc, keys, &request, shelf, depot, policy, gate, out),

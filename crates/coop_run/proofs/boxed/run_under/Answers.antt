@@ -2,6 +2,7 @@ use Rattle.std.proofs.Common.{◌≡◌, Err, All, refl, subst}
 use Rattle.run_texts.specs.declared.stop.Stop.TheVariants as stop
 use Rattle.scan_story.specs.declared.setting.PolicyName.{PolicyName}
 use Rattle.policy_compare.specs.declared.policy_run.PolicyRun.{PolicyRun}
+use Rattle.coop_run.specs.Did.{policy_of}
 use Rattle.coop_run.proofs.Runs.{none-of-one, untouched-under}
 use Rattle.coop_run.proofs.Words.{memory-ends}
 use Rattle.coop_run.proofs.boxed.run_under.Goals as goal
@@ -9,7 +10,7 @@ use Rattle.coop_run.proofs.boxed.run_under.Goals as goal
 pub returns-in_default-clause-decides : goal.returns-in_default-clause-decides
 returns-in_default-clause-decides g c = (
   Err stop.Memory,
-  memory-ends _ _ _ (untouched-under _ _ _ _ (rw c.stop_before.ensures.depot refl) c.stop_before.ensures.runs),
+  memory-ends _ _ _ (untouched-under (policy_of g.P.Policy c.args.policy) _ _ _ (rw c.stop_before.ensures.depot refl) c.stop_before.ensures.runs),
   c.stop_before.ensures.prints,
 )
 

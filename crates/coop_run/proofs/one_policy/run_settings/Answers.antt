@@ -1,55 +1,10 @@
-use Rattle.std.proofs.Common.{inl, inr, refl, Some}
+use Rattle.std.proofs.Common.{Some}
 use Rattle.command_words.specs.Views.{request_view}
-use Rattle.coop_run.proofs.Endings.{fails-to-read, is-complete, is-counted, is-for-all-parts, is-idle-elsewhere, is-usage-exactly, keeps-headline, keeps-headline-cut, leaves-its-work, misses-file, no-memory-of, put-fault-of, stops-exactly, write-fault-of}
+use Rattle.coop_run.proofs.Endings.{keeps-promises}
 use Rattle.coop_run.proofs.one_policy.run_settings.Goals as goal
 
-pub returns-clause-headline : goal.returns-clause-headline
-returns-clause-headline g c = let (d, is, prints) = c.run_request.ensures.decides in keeps-headline (Some (request_view c.args.request.now)) _ _ d _ _ is prints
-
-pub returns-clause-complete : goal.returns-clause-complete
-returns-clause-complete g c = let (d, is, prints) = c.run_request.ensures.decides in is-complete (Some (request_view c.args.request.now)) _ _ d _ _ is prints
-
-pub returns-clause-parts : goal.returns-clause-parts
-returns-clause-parts g c = let (d, is, prints) = c.run_request.ensures.decides in is-for-all-parts (Some (request_view c.args.request.now)) _ _ d _ _ is prints
+pub returns-clause-promises : goal.returns-clause-promises
+returns-clause-promises g c = keeps-promises (Some (request_view c.args.request.now)) _ _ c.run_request.ensures.decides
 
 pub returns-clause-usage : goal.returns-clause-usage
-returns-clause-usage g c two = let (d, is, prints) = c.run_request.ensures.decides in let no = (is-usage-exactly (Some (request_view c.args.request.now)) _ _ d _ _ is prints).only two in cc no
-
-pub returns-clause-no_table : goal.returns-clause-no_table
-returns-clause-no_table g c = let (d, is, prints) = c.run_request.ensures.decides in stops-exactly 3 (inl refl) (Some (request_view c.args.request.now)) _ _ d _ _ is prints
-
-pub returns-clause-read_fault : goal.returns-clause-read_fault
-returns-clause-read_fault g c = let (d, is, prints) = c.run_request.ensures.decides in fails-to-read (Some (request_view c.args.request.now)) _ _ d _ _ is prints
-
-pub returns-clause-no_file : goal.returns-clause-no_file
-returns-clause-no_file g c = let (d, is, prints) = c.run_request.ensures.decides in misses-file (Some (request_view c.args.request.now)) _ _ d _ _ is prints
-
-pub returns-clause-put_fault : goal.returns-clause-put_fault
-returns-clause-put_fault g c = let (d, is, prints) = c.run_request.ensures.decides in put-fault-of (Some (request_view c.args.request.now)) _ _ d _ _ is prints
-
-pub returns-clause-write_fault : goal.returns-clause-write_fault
-returns-clause-write_fault g c = let (d, is, prints) = c.run_request.ensures.decides in write-fault-of (Some (request_view c.args.request.now)) _ _ d _ _ is prints
-
-pub returns-clause-cut : goal.returns-clause-cut
-returns-clause-cut g c = let (d, is, prints) = c.run_request.ensures.decides in keeps-headline-cut (Some (request_view c.args.request.now)) _ _ d _ _ is prints
-
-pub returns-clause-no_memory : goal.returns-clause-no_memory
-returns-clause-no_memory g c = let (d, is, prints) = c.run_request.ensures.decides in no-memory-of (Some (request_view c.args.request.now)) _ _ d _ _ is prints
-
-pub returns-clause-frames : goal.returns-clause-frames
-returns-clause-frames g c = let (d, is, prints) = c.run_request.ensures.decides in stops-exactly 8 (inr (inl refl)) (Some (request_view c.args.request.now)) _ _ d _ _ is prints
-
-pub returns-clause-no_batch : goal.returns-clause-no_batch
-returns-clause-no_batch g c = let (d, is, prints) = c.run_request.ensures.decides in stops-exactly 9 (inr (inr refl)) (Some (request_view c.args.request.now)) _ _ d _ _ is prints
-
-pub returns-clause-worked : goal.returns-clause-worked
-returns-clause-worked g c = let (d, is, prints) = c.run_request.ensures.decides in leaves-its-work (Some (request_view c.args.request.now)) _ _ d _ _ is prints
-
-pub returns-clause-idle : goal.returns-clause-idle
-returns-clause-idle g c = let (d, is, prints) = c.run_request.ensures.decides in is-idle-elsewhere (Some (request_view c.args.request.now)) _ _ d _ _ is prints
-
-pub returns-clause-licensed : goal.returns-clause-licensed
-returns-clause-licensed g c = let (d, is, prints) = c.run_request.ensures.decides in (is-counted (Some (request_view c.args.request.now)) _ _ d is).licensed
-
-pub returns-clause-reads : goal.returns-clause-reads
-returns-clause-reads g c = let (d, is, prints) = c.run_request.ensures.decides in (is-counted (Some (request_view c.args.request.now)) _ _ d is).reads
+returns-clause-usage g c two = let none = (keeps-promises (Some (request_view c.args.request.now)) _ _ c.run_request.ensures.decides).usage.only two in cc none
