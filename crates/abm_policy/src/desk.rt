@@ -92,8 +92,10 @@ impl<S: Origin, P: Policy, D: Depot> Desk<S, P, D> {
         depot: D,
     ) -> Result<Desk<S, P, D>, (P, D, Memory)>
         requires start { IsStart S.origin }
-        requires setting { S.origin.setting ≡ setting_of needs.items chunks workers frames groups (P.name policy) (P.cursor policy) }
-        requires depot { S.origin ≡ start_of S.origin.setting (depot_view (D.held depot) (D.gets depot) (D.faults depot)) }
+        requires setting { S.origin.setting ≡ setting_of needs.items chunks workers frames groups (P.name policy)
+            (P.cursor policy) }
+        requires depot { S.origin ≡ start_of S.origin.setting
+            (depot_view (D.held depot) (D.gets depot) (D.faults depot)) }
         ensures empty { IfOk result (λ d. d ≡ []) }
         ensures back { IfErr result (λ r. (r.0 ≡ policy) × (r.1 ≡ depot)) }
     {
@@ -125,7 +127,8 @@ impl<S: Origin, P: Policy, D: Depot> Desk<S, P, D> {
     pub(crate) fn kept(&self)
         ensures start { IsStart S.origin }
         ensures legal { Legal S.origin.setting (past self.now) }
-        ensures missing { (l : Load) → underway S.origin.setting (past self.now) ≡ Some l → (0 < length l.missing) × NoneTwice l.missing }
+        ensures missing { (l : Load) → underway S.origin.setting (past self.now) ≡ Some l → (0 < length l.missing)
+            × NoneTwice l.missing }
     {
         let _book = &self.book;
     }
@@ -205,7 +208,8 @@ impl<S: Origin, P: Policy, D: Depot> Desk<S, P, D> {
         ensures undisturbed { Undisturbed S.origin.setting (past self) }
         ensures name { P.name result.1 ≡ S.origin.setting.policy }
         ensures cursor { P.cursor result.1 ≡ cursor_at S.origin.setting (past self) }
-        ensures depot { Agrees S.origin (past self) (depot_view (D.held result.2) (D.gets result.2) (D.faults result.2)) }
+        ensures depot { Agrees S.origin (past self)
+            (depot_view (D.held result.2) (D.gets result.2) (D.faults result.2)) }
     {
         let Desk {
             book: _,

@@ -25,7 +25,8 @@ impl<S: Origin, P: Policy, D: Depot> Desk<S, P, D> {
     fn finish_one(&mut self, w: u32, frame: u32, piece: u32)
         requires may { MayFinish (underway S.origin.setting (past self.old)) w frame piece true }
         ensures entries { self.new ≡ self.old ++ Filled w frame piece ∷ [] }
-        ensures load { underway S.origin.setting (past self.new) ≡ option_map (end_fill piece) (underway S.origin.setting (past self.old)) }
+        ensures load { underway S.origin.setting (past self.new)
+            ≡ option_map (end_fill piece) (underway S.origin.setting (past self.old)) }
         ensures reads { reads (past self.new) ≡ reads (past self.old) + 1 }
         ensures last_fault { last_fault S.origin.faults (past self.new) ≡ last_fault S.origin.faults (past self.old) }
     {
@@ -40,7 +41,8 @@ impl<S: Origin, P: Policy, D: Depot> Desk<S, P, D> {
     // Appends the load's last Filled, and takes the depot back.
     fn finish_last(&mut self, w: u32, frame: u32, piece: u32, depot: D)
         requires load { MayFinish (underway S.origin.setting (past self.old)) w frame piece false }
-        requires depot { ComesBack S.origin (past self.old) 1 (depot_view (D.held depot) (D.gets depot) (D.faults depot)) }
+        requires depot { ComesBack S.origin (past self.old) 1
+            (depot_view (D.held depot) (D.gets depot) (D.faults depot)) }
         ensures entries { self.new ≡ self.old ++ Filled w frame piece ∷ [] }
         ensures closed { underway S.origin.setting (past self.new) ≡ None }
         ensures legal { Legal S.origin.setting (past self.new) }
@@ -56,9 +58,11 @@ impl<S: Origin, P: Policy, D: Depot> Desk<S, P, D> {
 
     // Appends the load's Failed, and takes the depot back.
     fn fail_one(&mut self, w: u32, frame: u32, query: u32, piece: u32, why: Why, depot: D)
-        requires load { (open_after : Bool) × MayFinish (underway S.origin.setting (past self.old)) w frame piece open_after }
+        requires load { (open_after : Bool) × MayFinish (underway S.origin.setting (past self.old)) w frame piece
+            open_after }
         requires query { (l : Load) → underway S.origin.setting (past self.old) ≡ Some l → l.query ≡ query }
-        requires depot { ComesBack S.origin (past self.old) 1 (depot_view (D.held depot) (D.gets depot) (D.faults depot)) }
+        requires depot { ComesBack S.origin (past self.old) 1
+            (depot_view (D.held depot) (D.gets depot) (D.faults depot)) }
         requires why { MayReport S.origin (past self.old) (D.faults depot) why }
         ensures entries { self.new ≡ self.old ++ Failed w query piece why ∷ [] }
         ensures closed { underway S.origin.setting (past self.new) ≡ None }
@@ -77,11 +81,13 @@ impl<S: Origin, P: Policy, D: Depot> Desk<S, P, D> {
 
     // Appends a Filled for each of the first slots, which aren't all.
     fn finish_first(&mut self, w: u32, query: u32, chunk: u32, slots: &Slots, n: u32)
-        requires load { underway S.origin.setting (past self.old) ≡ Some (load_at w query chunk (pieces slots.now) slots.now []) }
+        requires load { underway S.origin.setting (past self.old)
+            ≡ Some (load_at w query chunk (pieces slots.now) slots.now []) }
         requires none_twice { NoneTwice (pieces slots.now) }
         requires some_left { n < length slots.now }
         ensures entries { self.new ≡ self.old ++ all_filled w (take n slots.now) }
-        ensures load { underway S.origin.setting (past self.new) ≡ Some (load_at w query chunk (pieces slots.now) slots.now (take n (pieces slots.now))) }
+        ensures load { underway S.origin.setting (past self.new)
+            ≡ Some (load_at w query chunk (pieces slots.now) slots.now (take n (pieces slots.now))) }
         ensures reads { reads (past self.new) ≡ reads (past self.old) + n }
         ensures last_fault { last_fault S.origin.faults (past self.new) ≡ last_fault S.origin.faults (past self.old) }
     {
@@ -100,11 +106,13 @@ impl<S: Origin, P: Policy, D: Depot> Desk<S, P, D> {
     /// for each slot besides, and its count of faults is at least the last one in the story.
     pub fn filled(&mut self, ticket: Ticket, depot: D)
         requires load { underway S.origin.setting (past self.old) ≡ Some (load_of ticket []) }
-        requires depot { ComesBack S.origin (past self.old) (length ticket.slots) (depot_view (D.held depot) (D.gets depot) (D.faults depot)) }
+        requires depot { ComesBack S.origin (past self.old) (length ticket.slots)
+            (depot_view (D.held depot) (D.gets depot) (D.faults depot)) }
         ensures entries { self.new ≡ self.old ++ all_filled ticket.worker ticket.slots }
         ensures closed { underway S.origin.setting (past self.new) ≡ None }
         ensures legal { Legal S.origin.setting (past self.new) }
-        ensures may { (q : ℕ) → RunsOn S.origin.setting (past self.old) q ticket.worker → MayTurn S.origin.setting (past self.new) ticket.worker q }
+        ensures may { (q : ℕ) → RunsOn S.origin.setting (past self.old) q ticket.worker
+            → MayTurn S.origin.setting (past self.new) ticket.worker q }
     {
         self.kept();
         let Ticket {
@@ -130,12 +138,15 @@ impl<S: Origin, P: Policy, D: Depot> Desk<S, P, D> {
     pub fn failed(&mut self, ticket: Ticket, depot: D, done: u32, why: Why)
         requires load { underway S.origin.setting (past self.old) ≡ Some (load_of ticket []) }
         requires done { done < length ticket.slots }
-        requires depot { ComesBack S.origin (past self.old) (done + 1) (depot_view (D.held depot) (D.gets depot) (D.faults depot)) }
+        requires depot { ComesBack S.origin (past self.old) (done + 1)
+            (depot_view (D.held depot) (D.gets depot) (D.faults depot)) }
         requires why { MayReport S.origin (past self.old) (D.faults depot) why }
-        ensures entries { self.new ≡ self.old ++ (all_filled ticket.worker (take done ticket.slots) ++ Failed ticket.worker ticket.query (slice_index (pieces ticket.slots) done) why ∷ []) }
+        ensures entries { self.new ≡ self.old ++ (all_filled ticket.worker (take done ticket.slots)
+            ++ Failed ticket.worker ticket.query (slice_index (pieces ticket.slots) done) why ∷ []) }
         ensures closed { underway S.origin.setting (past self.new) ≡ None }
         ensures legal { Legal S.origin.setting (past self.new) }
-        ensures may { (q : ℕ) → RunsOn S.origin.setting (past self.old) q ticket.worker → MayTurn S.origin.setting (past self.new) ticket.worker q }
+        ensures may { (q : ℕ) → RunsOn S.origin.setting (past self.old) q ticket.worker
+            → MayTurn S.origin.setting (past self.new) ticket.worker q }
     {
         self.kept();
         let Ticket {

@@ -34,10 +34,12 @@ impl<S: Origin, P: Policy, D: Depot> Desk<S, P, D> {
         requires may { MayTurn S.origin.setting (past self.old) w q }
         requires trigger { is_trigger S.origin.setting (past self.old) q ≡ true }
         ensures entries { self.new ≡ self.old ++ Plan w result.query result.chunk ∷ [] }
-        ensures load { underway S.origin.setting (past self.new) ≡ Some (load_at w result.query result.chunk result.missing [] []) }
+        ensures load { underway S.origin.setting (past self.new)
+            ≡ Some (load_at w result.query result.chunk result.missing [] []) }
         ensures missing { result.missing ≡ missing_pieces S.origin.setting (past self.old) result.query result.chunk }
         ensures none_twice { NoneTwice result.missing }
-        ensures depot { Agrees S.origin (past self.new) (depot_view (D.held result.depot) (D.gets result.depot) (D.faults result.depot)) }
+        ensures depot { Agrees S.origin (past self.new)
+            (depot_view (D.held result.depot) (D.gets result.depot) (D.faults result.depot)) }
         ensures room { D.gets result.depot + 16 ≤ 2 ^ 64 - 1 }
     {
         let Some(query) = self.policy.pick_query(&self.book) else {
@@ -103,9 +105,11 @@ impl<S: Origin, P: Policy, D: Depot> Desk<S, P, D> {
 
     // Appends a Fill of the piece into the free frame of least number, and answers that frame.
     fn begin_fill(&mut self, w: u32, piece: u32) -> u32
-        requires may { MayBegin (underway S.origin.setting (past self.old)) (free_frames S.origin.setting (past self.old)) w piece }
+        requires may { MayBegin (underway S.origin.setting (past self.old))
+            (free_frames S.origin.setting (past self.old)) w piece }
         ensures entries { self.new ≡ self.old ++ Fill w result piece ∷ [] }
-        ensures load { underway S.origin.setting (past self.new) ≡ option_map (begin_fill result piece) (underway S.origin.setting (past self.old)) }
+        ensures load { underway S.origin.setting (past self.new)
+            ≡ option_map (begin_fill result piece) (underway S.origin.setting (past self.old)) }
         ensures frame { IsFirst (is_free S.origin.setting (past self.old)) S.origin.setting.frames result }
         ensures free { free_frames S.origin.setting (past self.old) ≤ free_frames S.origin.setting (past self.new) + 1 }
     {
@@ -147,7 +151,8 @@ impl<S: Origin, P: Policy, D: Depot> Desk<S, P, D> {
         requires may { MayTurn S.origin.setting (past self.old) w q }
         requires trigger { is_trigger S.origin.setting (past self.old) q ≡ true }
         ensures load { AddsLoad S.origin.setting w result.0 self.old self.new }
-        ensures depot { IsHandedOut S.origin (past self.new) (length result.0.slots) (depot_view (D.held result.1) (D.gets result.1) (D.faults result.1)) }
+        ensures depot { IsHandedOut S.origin (past self.new) (length result.0.slots)
+            (depot_view (D.held result.1) (D.gets result.1) (D.faults result.1)) }
         ensures legal { Legal S.origin.setting (past self.new) }
     {
         let Planned {

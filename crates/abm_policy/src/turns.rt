@@ -55,9 +55,11 @@ impl<S: Origin, P: Policy, D: Depot> Desk<S, P, D> {
     fn deliver(&mut self, w: u32, q: u32) -> Option<u32>
         requires on { IsActiveOn S.origin.setting (past self.old) q w }
         requires idle { IsIdle S.origin.setting (past self.old) w }
-        ensures none { IfNone result ((self.new ≡ self.old) × ((c : ℕ) → is_ready S.origin.setting (past self.old) q c ≡ false)) }
+        ensures none { IfNone result ((self.new ≡ self.old)
+            × ((c : ℕ) → is_ready S.origin.setting (past self.old) q c ≡ false)) }
         ensures legal { Legal S.origin.setting (past self.new) }
-        ensures some { IfSome result (λ c. (self.new ≡ self.old ++ Deliver w q c ∷ []) × (is_ready S.origin.setting (past self.old) q c ≡ true)) }
+        ensures some { IfSome result (λ c. (self.new ≡ self.old ++ Deliver w q c ∷ [])
+            × (is_ready S.origin.setting (past self.old) q c ≡ true)) }
     {
         match self.policy.pick_delivery(&self.book, q) {
             None => None,
@@ -107,7 +109,8 @@ impl<S: Origin, P: Policy, D: Depot> Desk<S, P, D> {
     pub fn turn(&mut self, w: u32, q: u32) -> Turn<D>
         requires may { MayTurn S.origin.setting (past self.old) w q }
         ensures row { row_of result ≡ row S.origin.setting (past self.old) q }
-        ensures answer { Answers (λ d. depot_view (D.held d) (D.gets d) (D.faults d)) S.origin w q self.old self.new result }
+        ensures answer { Answers (λ d. depot_view (D.held d) (D.gets d) (D.faults d)) S.origin w q self.old self.new
+            result }
         ensures legal { Legal S.origin.setting (past self.new) }
     {
         self.kept();

@@ -11,7 +11,7 @@ use Rattle.agg_groups.specs.Meaning as meaning
 use Rattle.agg_groups.specs.Meaning.{or_else, first_some, answer, over, meaning, overflow}
 use Rattle.agg_groups.specs.Running.{runnings, over_shown}
 use Rattle.agg_groups.specs.Groups.{groups_of}
-use Rattle.answer_text.specs.Lists.{lists}
+use Rattle.table_core.specs.Lists.{lists}
 use Rattle.agg_groups.specs.Table.{AreSound, AreBelow, AllFit, first_over, result_rows, values_at}
 use Rattle.agg_groups.proofs.Values.{answers-shown, over-shown, all_fit}
 

@@ -66,7 +66,8 @@ fn united(
     requires few { rows + more ≤ 2097152 }
     requires sound { AreSound rows (length items.now) a.now.values }
     requires sound_more { AreSound more (length items.now) b.now.values }
-    ensures joined { IfOk result (λ t. (q : List Cell) → at (seen t) q ≡ merged items.now (merged items.now None (at (seen a.now) q)) (at (seen b.now) q)) }
+    ensures joined { IfOk result (λ t. (q : List Cell) → at (seen t) q
+        ≡ merged items.now (merged items.now None (at (seen a.now) q)) (at (seen b.now) q)) }
     ensures sound { IfOk result (λ t. AreSound (rows + more) (length items.now) t.values) }
     ensures placed { IfOk result (λ t. IsPlaced t) }
 {
@@ -113,7 +114,8 @@ impl Groups {
     pub fn add_row(&mut self, row: &[Cell]) -> Result<(), Memory>
         requires few { self.old.rows ≤ 2097151 }
         requires places { NamesPlaces self.old.items self.old.keys (length row.now) }
-        ensures ok { OnOk result ((rows : List (List Cell)) → Stands self.old rows → Stands self.new (rows ++ row.now ∷ [])) }
+        ensures ok { OnOk result ((rows : List (List Cell)) → Stands self.old rows
+            → Stands self.new (rows ++ row.now ∷ [])) }
         ensures count { OnOk result (self.new.rows ≡ self.old.rows + 1) }
         ensures items { self.new.items ≡ self.old.items }
         ensures keys { self.new.keys ≡ self.old.keys }
@@ -138,7 +140,8 @@ impl Groups {
         requires items { other.items ≡ self.old.items }
         requires keys { other.keys ≡ self.old.keys }
         requires few { self.old.rows + other.rows ≤ 2097152 }
-        ensures ok { OnOk result ((rows more : List (List Cell)) → Stands self.old rows → Stands other more → Stands self.new (rows ++ more)) }
+        ensures ok { OnOk result ((rows more : List (List Cell)) → Stands self.old rows → Stands other more
+            → Stands self.new (rows ++ more)) }
         ensures count { OnOk result (self.new.rows ≡ self.old.rows + other.rows) }
         ensures items { self.new.items ≡ self.old.items }
         ensures keys { self.new.keys ≡ self.old.keys }
@@ -166,9 +169,12 @@ impl Groups {
     ///
     /// A sum that is no whole number of 64 bits is refused, and no partial sum is. After want of memory the groups are gone.
     pub fn finish(self) -> Result<Rows, FinishFault>
-        ensures ok { IfOk result (λ answer. (rows : List (List Cell)) → StandsInSomeOrder self rows → answer ≡ meaning codes self.items self.keys rows) }
-        ensures fits { OnOk result ((rows : List (List Cell)) → StandsInSomeOrder self rows → overflow codes self.items self.keys rows ≡ None) }
-        ensures err { IfErr result (λ fault. (rows : List (List Cell)) → StandsInSomeOrder self rows → IsFault fault (overflow codes self.items self.keys rows)) }
+        ensures ok { IfOk result (λ answer. (rows : List (List Cell)) → StandsInSomeOrder self rows → answer
+            ≡ meaning codes self.items self.keys rows) }
+        ensures fits { OnOk result ((rows : List (List Cell)) → StandsInSomeOrder self rows
+            → overflow codes self.items self.keys rows ≡ None) }
+        ensures err { IfErr result (λ fault. (rows : List (List Cell)) → StandsInSomeOrder self rows
+            → IsFault fault (overflow codes self.items self.keys rows)) }
     {
         if let Some(first) = self.table.first_over(&self.items) {
             return Err(sum_overflow(first));

@@ -1,7 +1,7 @@
 // The result rows of a query, and why there may be none.
 ghost use Rattle.std.specs.Prelude.{◌≡◌, List};
 ghost use Rattle.table_core.specs.declared.cell.Cell.{Cell};
-ghost use Rattle.answer_text.specs.Lists.{lists};
+ghost use Rattle.table_core.specs.Lists.{lists};
 
 use std::marker::Model;
 use table_core::{Cell, Memory};

@@ -3,7 +3,7 @@ ghost use Rattle.std.specs.Prelude.{◌≡◌, ◌<◌, ◌≤◌, ◌+◌, ◌^
 ghost use Rattle.table_core.specs.declared.cell.Cell.{Cell};
 ghost use Rattle.agg_groups.specs.Cells.{codes};
 ghost use Rattle.agg_groups.specs.Running.{HasRoom, IsInRow, nexts, joins, all_shown, FitsCell};
-ghost use Rattle.answer_text.specs.Lists.{lists};
+ghost use Rattle.table_core.specs.Lists.{lists};
 ghost use Rattle.agg_groups.specs.Table.{Placed, IsPlaced, IsNewPlace, IsPlaceFor, AreSound, place_at, values_at, seen, at, merged, first_over, result_rows, AllFit, AreBelow, Puts, base, HasRoomAt, plain_places};
 
 use crate::item::Item;
@@ -49,8 +49,11 @@ fn put_start(
 ) -> Result<usize, Memory>
     requires placed { IsPlaced (record { places = plain_places places.old.entries; values = lists values.old.items }) }
     requires none { place_at (plain_places places.old.entries) key.now ≡ None }
-    ensures ok { IfOk result (λ place. IsNewPlace items.now key.now place (record { places = plain_places places.old.entries; values = lists values.old.items }) (record { places = plain_places places.new.entries; values = lists values.new.items })) }
-    ensures placed { OnOk result (IsPlaced (record { places = plain_places places.new.entries; values = lists values.new.items })) }
+    ensures ok { IfOk result (λ place. IsNewPlace items.now key.now place
+        (record { places = plain_places places.old.entries; values = lists values.old.items })
+        (record { places = plain_places places.new.entries; values = lists values.new.items })) }
+    ensures placed { OnOk result (IsPlaced (record
+        { places = plain_places places.new.entries; values = lists values.new.items })) }
     ensures err_places { OnErr result (places.new.entries ≡ places.old.entries) }
     ensures err_values { OnErr result (values.new.items ≡ values.old.items) }
 {
@@ -82,7 +85,8 @@ fn step_at(values: &mut [Vec<Running>], place: usize, items: &[Item], row: &[Cel
     requires there { place < length values.old }
     requires same { length (values_at (lists values.old) place) ≡ length items.now }
     requires room { All (HasRoom rows) (values_at (lists values.old) place) }
-    ensures values { lists values.new ≡ set (lists values.old) place (nexts items.now row.now (values_at (lists values.old) place)) }
+    ensures values { lists values.new ≡ set (lists values.old) place
+        (nexts items.now row.now (values_at (lists values.old) place)) }
     ensures room { All (HasRoom (rows + 1)) (nexts items.now row.now (values_at (lists values.old) place)) }
 {
     let kept = &mut values[place];
@@ -104,7 +108,8 @@ fn join_at(
     requires same_more { length others.now ≡ length items.now }
     requires room { All (HasRoom rows) (values_at (lists values.old) place) }
     requires room_more { All (HasRoom more) others.now }
-    ensures { lists values.new ≡ set (lists values.old) place (joins items.now (values_at (lists values.old) place) others.now) }
+    ensures { lists values.new ≡ set (lists values.old) place
+        (joins items.now (values_at (lists values.old) place) others.now) }
 {
     let kept = &mut values[place];
     join_all(items, kept, others, rows, more);
@@ -124,7 +129,9 @@ fn absorb_all(
     requires placed_table { IsPlaced table.old }
     requires placed { IsPlaced (record { places = plain_places places.now.entries; values = lists values.now }) }
     requires sound_other { AreSound more (length items.now) (lists values.now) }
-    ensures joined { OnOk result ((q : List Cell) → at (seen table.new) q ≡ merged items.now (at (seen table.old) q) (at (seen (record { places = plain_places places.now.entries; values = lists values.now })) q)) }
+    ensures joined { OnOk result ((q : List Cell) → at (seen table.new) q
+        ≡ merged items.now (at (seen table.old) q)
+        (at (seen (record { places = plain_places places.now.entries; values = lists values.now })) q)) }
     ensures sound { OnOk result (AreSound (rows + more) (length items.now) table.new.values) }
     ensures placed { OnOk result (IsPlaced table.new) }
 {
@@ -138,8 +145,10 @@ fn absorb_all(
 fn first_over_in(places: &Places, values: &[Vec<Running>], items: &[Item]) -> Option<(u32, i128)>
     requires few { length items.now < 2 ^ 32 }
     requires below { AreBelow (length values.now) (plain_places places.now.entries) }
-    requires sound { (i : ℕ) → i < length (lists values.now) → length (values_at (lists values.now) i) ≡ length items.now }
-    ensures { result ≡ first_over (seen (record { places = plain_places places.now.entries; values = lists values.now })) }
+    requires sound { (i : ℕ) → i < length (lists values.now) → length (values_at (lists values.now) i)
+        ≡ length items.now }
+    ensures { result ≡ first_over (seen (record
+        { places = plain_places places.now.entries; values = lists values.now })) }
 {
     for (_, place) in places {
         let one = over(values_of(values, *place));
@@ -157,10 +166,13 @@ fn rows_in(
     values: &[Vec<Running>],
     items: &[Item],
 ) -> Result<Vec<Vec<Cell>>, Memory>
-    requires same { (i : ℕ) → i < length (lists values.now) → length (values_at (lists values.now) i) ≡ length items.now }
+    requires same { (i : ℕ) → i < length (lists values.now) → length (values_at (lists values.now) i)
+        ≡ length items.now }
     requires below { AreBelow (length values.now) (plain_places places.now.entries) }
     requires fits { AllFit (seen (record { places = plain_places places.now.entries; values = lists values.now })) }
-    ensures { IfOk result (λ rows. lists rows.items ≡ result_rows items.now (seen (record { places = plain_places places.now.entries; values = lists values.now }))) }
+    ensures { IfOk result (λ rows. lists rows.items
+        ≡ result_rows items.now (seen (record
+        { places = plain_places places.now.entries; values = lists values.now }))) }
 {
     let mut rows = Vec::new(alloc);
     for (key, place) in places {
@@ -207,7 +219,8 @@ impl GroupTable {
         requires same { length (values_at self.old.values place) ≡ length items.now }
         requires room { All (HasRoom rows) (values_at self.old.values place) }
         ensures places { self.new.places ≡ self.old.places }
-        ensures values { self.new.values ≡ set self.old.values place (nexts items.now row.now (values_at self.old.values place)) }
+        ensures values { self.new.values ≡ set self.old.values place
+            (nexts items.now row.now (values_at self.old.values place)) }
         ensures room { All (HasRoom (rows + 1)) (nexts items.now row.now (values_at self.old.values place)) }
         ensures placed { IsPlaced self.new }
     {
@@ -223,7 +236,8 @@ impl GroupTable {
         requires room { All (HasRoom rows) (values_at self.old.values place) }
         requires room_more { All (HasRoom more) others.now }
         ensures places { self.new.places ≡ self.old.places }
-        ensures values { self.new.values ≡ set self.old.values place (joins items.now (values_at self.old.values place) others.now) }
+        ensures values { self.new.values ≡ set self.old.values place
+            (joins items.now (values_at self.old.values place) others.now) }
         ensures placed { IsPlaced self.new }
     {
         join_at(&mut self.values, place, items, others, rows, more);
@@ -243,7 +257,9 @@ impl GroupTable {
         requires room_more { All (HasRoom more) others.now }
         requires room { HasRoomAt rows (length items.now) (at (seen self.old) key.now) }
         requires sound { AreSound (rows + more) (length items.now) self.old.values }
-        ensures joined { OnOk result (Puts key.now (joins items.now (base items.now (at (seen self.old) key.now)) others.now) (seen self.old) (seen self.new)) }
+        ensures joined { OnOk result (Puts key.now
+            (joins items.now (base items.now (at (seen self.old) key.now)) others.now) (seen self.old)
+            (seen self.new)) }
         ensures sound { OnOk result (AreSound (rows + more) (length items.now) self.new.values) }
         ensures placed { OnOk result (IsPlaced self.new) }
     {
@@ -266,7 +282,8 @@ impl GroupTable {
         requires few { rows + more ≤ 2097152 }
         requires sound { AreSound rows (length items.now) self.old.values }
         requires sound_other { AreSound more (length items.now) other.now.values }
-        ensures joined { OnOk result ((q : List Cell) → at (seen self.new) q ≡ merged items.now (at (seen self.old) q) (at (seen other.now) q)) }
+        ensures joined { OnOk result ((q : List Cell) → at (seen self.new) q
+            ≡ merged items.now (at (seen self.old) q) (at (seen other.now) q)) }
         ensures sound { OnOk result (AreSound (rows + more) (length items.now) self.new.values) }
         ensures placed { OnOk result (IsPlaced self.new) }
     {
@@ -276,7 +293,8 @@ impl GroupTable {
     /// The first sum, in key order and then in item order, that is no whole number of 64 bits.
     pub(crate) fn first_over(&self, items: &[Item]) -> Option<(u32, i128)>
         requires few { length items.now < 2 ^ 32 }
-        requires sound { (i : ℕ) → i < length self.now.values → length (values_at self.now.values i) ≡ length items.now }
+        requires sound { (i : ℕ) → i < length self.now.values → length (values_at self.now.values i)
+            ≡ length items.now }
         ensures { result ≡ first_over (seen self.now) }
     {
         first_over_in(&self.places, &self.values, items)

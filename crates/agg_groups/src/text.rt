@@ -2,14 +2,13 @@
 ghost use Rattle.std.specs.Prelude.{◌≡◌, ◌≤◌, ◌<◌, ℕ, List, length, map, All, IfOk};
 ghost use Rattle.table_core.specs.declared.cell.Cell.{Cell};
 ghost use Rattle.table_core.specs.Value.{places_of};
-ghost use Rattle.answer_text.specs.Answer.{AreCellsOf, IsColumn, answer, kinds_of, values_of};
+ghost use Rattle.table_core.specs.Answer.{AreCellsOf, IsColumn, answer, kinds_of, values_of};
 ghost use Rattle.agg_groups.specs.Text as spec;
 
 use crate::item::Item;
 use crate::rows::Rows;
-use answer_text::text_of_answer;
 use std::alloc::{AllocError, Global};
-use table_core::{Bytes, Dict, Memory, Schema};
+use table_core::{Bytes, Dict, Memory, Schema, text_of_answer};
 
 // The column in which the cell of an item is read; a count has none.
 fn column_of(keys: &[u32], item: Item) -> Option<u32>
@@ -44,7 +43,8 @@ pub fn rows_text(
     requires dicts { length dicts.now ≡ length schema.now }
     requires places { All (λ c. places_of c.kind ≤ 9) schema.now }
     requires cells { All (AreCellsOf (spec.columns_of keys.now items.now) dicts.now) rows.now }
-    ensures { IfOk result (λ text. text ≡ answer query (kinds_of schema.now (spec.columns_of keys.now items.now)) (map (values_of dicts.now (spec.columns_of keys.now items.now)) rows.now)) }
+    ensures { IfOk result (λ text. text ≡ answer query (kinds_of schema.now (spec.columns_of keys.now items.now))
+        (map (values_of dicts.now (spec.columns_of keys.now items.now)) rows.now)) }
 {
     let columns = columns_of(alloc, keys, items)?;
     text_of_answer(alloc, query, &columns, schema, dicts, rows.as_slice())

@@ -18,8 +18,8 @@ use Rattle.scan_story.specs.declared.setting.PolicyName.{PolicyName}
 use Rattle.scan_story.specs.declared.setting.Setting.{Setting}
 use Rattle.scan_story.specs.Setting.{IsSetting, IsNeed, IsRising, AreColumns, AreDistinct}
 use Rattle.chunk_interest.specs.Fresh.{as_need}
-use Rattle.query_parts.specs.Deal as dealing
-use Rattle.query_parts.specs.Deal.{deal, is_dealt}
+use Rattle.batch_plan.specs.Deal as dealing
+use Rattle.batch_plan.specs.Deal.{deal, is_dealt}
 use Rattle.batch_plan.specs.declared.task.Task.{Task}
 use Rattle.batch_plan.specs.declared.options.Options.{Options}
 use Rattle.batch_plan.specs.Scans.{Scan, scan_number, scan_of, scans_from_part, scans_from, scans, need_of, needs}

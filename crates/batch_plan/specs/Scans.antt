@@ -2,7 +2,7 @@
 use Rattle.std.specs.Prelude.{◌+◌, ◌-◌, ◌*◌, ◌%◌, ◌++◌, ℕ, zero, suc, List, [], ◌∷◌, map}
 use Rattle.filter_zones.specs.declared.zone.ChunkZones.{ChunkZones}
 use Rattle.filter_zones.specs.Possible.{needed}
-use Rattle.query_parts.specs.Deal.{deal}
+use Rattle.batch_plan.specs.Deal.{deal}
 use Rattle.chunk_interest.specs.declared.need.Need.{Need}
 use Rattle.sql_bind.specs.declared.plan.Plan.{Plan}
 use Rattle.batch_plan.specs.declared.task.Task.{Task}

@@ -8,12 +8,12 @@ ghost use Rattle.table_core.specs.Sets.{AreMembers};
 ghost use Rattle.batch_plan.specs.Scans as spec;
 ghost use Rattle.batch_plan.specs.Setting.{IsBatch, batch_setting};
 
+use crate::dealing::deal;
 use crate::options::Options;
 use crate::task::Task;
 use chunk_interest::Need;
 use filter_zones::{ChunkZones, needed};
 use piece_format::Shape;
-use query_parts::deal;
 use std::alloc::Global;
 use table_core::{ChunkSet, Memory};
 
@@ -70,9 +70,12 @@ pub fn needs_of(
     options: &Options,
 ) -> Result<Vec<Need>, Memory>
     requires { IsBatch shape.now zones.now tasks.now options.now }
-    ensures needs { IfOk result (λ needs. needs.items ≡ spec.needs zones.now options.now.parts (spec.scans options.now.workers options.now.parts tasks.now)) }
-    ensures setting { IsOk result → (name : PolicyName) (cursor : List ℕ) → IsSetting (batch_setting shape.now zones.now tasks.now options.now name cursor) }
-    ensures room { (name : PolicyName) (cursor : List ℕ) → HasRoom (batch_setting shape.now zones.now tasks.now options.now name cursor) }
+    ensures needs { IfOk result (λ needs. needs.items
+        ≡ spec.needs zones.now options.now.parts (spec.scans options.now.workers options.now.parts tasks.now)) }
+    ensures setting { IsOk result → (name : PolicyName) (cursor : List ℕ)
+        → IsSetting (batch_setting shape.now zones.now tasks.now options.now name cursor) }
+    ensures room { (name : PolicyName) (cursor : List ℕ)
+        → HasRoom (batch_setting shape.now zones.now tasks.now options.now name cursor) }
 {
     let mut needs = Vec::new(alloc);
     for task in tasks {

@@ -17,10 +17,10 @@ use Rattle.filter_zones.specs.Possible.{needed}
 use Rattle.filter_zones.specs.declared.zone.ChunkZones.{ChunkZones}
 use Rattle.piece_format.specs.Shape.{TableShape}
 use Rattle.sql_bind.specs.Reads.{ReadsItsColumns}
-use Rattle.query_answers.specs.declared.answer.Answer.{Answer}
+use Rattle.query_gather.specs.declared.answer.Answer.{Answer}
 use Rattle.batch_plan.specs.declared.task.Task.{Task}
 use Rattle.batch_plan.specs.Scans.{Scan, needs, scans_from, scans_from_part}
-use Rattle.batch_scans.specs.Came.{CameOf, IsNeedOf}
+use Rattle.batch_run.specs.Came.{CameOf, IsNeedOf}
 use Rattle.batch_run.specs.Answering.{AnswersSome, AreAllJoinable, Came, IsStoppedFor}
 use Rattle.batch_run.specs.Lost.{IsLostBy, stop_of}
 use Rattle.batch_run.specs.Taken.{TookNeed}

@@ -10,7 +10,7 @@ use Rattle.table_core.specs.Dict.{Rises}
 use Rattle.table_core.specs.Sets.{Rising}
 use Rattle.table_core.specs.Table.{TableRows}
 use Rattle.table_core.specs.declared.cell.Cell.{Cell}
-use Rattle.csv_rows.specs.Judged.{Fields}
+use Rattle.csv_load.specs.Judged.{Fields}
 use Rattle.csv_load.specs.Loaded.{IsLoaded}
 use Rattle.filter_zones.specs.Possible.{needed}
 use Rattle.filter_zones.specs.Truth as codes
@@ -32,9 +32,9 @@ use Rattle.piece_format.specs.Cells.{IsTableOf}
 use Rattle.piece_format.specs.Shape.{IsShape, TableShape, chunks, groups, pieces}
 use Rattle.sql_bind.specs.Bounds.{FitsRow}
 use Rattle.sql_bind.specs.Reads.{ReadsItsColumns}
-use Rattle.query_answers.specs.declared.answer.Answer.{Answer}
-use Rattle.query_answers.specs.Answer.{CanBeWritten, IsAnswer, IsAnswerOver}
-use Rattle.query_answers.proofs.Tabled.{answer_of_table}
+use Rattle.query_gather.specs.declared.answer.Answer.{Answer}
+use Rattle.query_gather.specs.Answer.{CanBeWritten, IsAnswer, IsAnswerOver}
+use Rattle.query_gather.proofs.Tabled.{answer_of_table}
 use Rattle.top_rows.specs.Rows.{Numbered}
 use Rattle.table_pieces.specs.Putting.{AreLong, ArePut, AreSound, GiveBack, ReadBack}
 use Rattle.table_pieces.specs.Shaping.{shape_of}
@@ -45,8 +45,8 @@ use Rattle.batch_plan.specs.declared.task.Task.{Task}
 use Rattle.batch_plan.specs.Scans.{Scan, needs, scans}
 use Rattle.batch_plan.specs.Setting.{AreOptions, batch_setting}
 use Rattle.batch_plan.proofs.Planned.{some_queries}
-use Rattle.batch_scans.specs.Came.{CameOf, IsNeedOf}
-use Rattle.batch_scans.specs.Whole.{IsWholeStory}
+use Rattle.batch_run.specs.Came.{CameOf, IsNeedOf}
+use Rattle.batch_run.specs.Whole.{IsWholeStory}
 use Rattle.batch_run.specs.Answering.{AnswersSome, AreAllJoinable, Came}
 use Rattle.batch_run.specs.Lost.{IsLostBy, Tells, stop_of}
 use Rattle.batch_run.specs.Noting.{HasRoomFor, IsOpened, NotesAll}

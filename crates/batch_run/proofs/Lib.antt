@@ -12,3 +12,16 @@ pub mod Noted
 pub mod Batches
 pub mod Written
 pub mod Ending
+mod Delivered
+mod Registered
+mod Coming
+mod Resting
+mod Serving
+mod Seats
+mod Sorting
+mod Placing
+mod Endings
+mod Planned
+mod Finishing
+mod Zips
+mod Working

@@ -18,7 +18,7 @@ use Rattle.piece_format.specs.Shape.{TableShape, chunks}
 use Rattle.top_rows.specs.Rows.{Numbered}
 use Rattle.sql_bind.specs.declared.plan.Plan.{Plan}
 use Rattle.sql_bind.specs.Meaning.{is_true, matches, numbered}
-use Rattle.query_answers.specs.Partial.{matching}
+use Rattle.query_gather.specs.Partial.{matching}
 use Rattle.table_pieces.specs.Zoning.{NoMatchOutside}
 use Rattle.table_pieces.proofs.Passing.{passing_chunks}
 use Rattle.multi_scan.specs.Rows.{chunk_rows, rows_of_chunks}

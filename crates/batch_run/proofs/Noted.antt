@@ -15,7 +15,7 @@ use Rattle.story_laws.proofs.Counts.{count_mono}
 use Rattle.story_laws.proofs.Bools.{self_number}
 use Rattle.story_laws.proofs.Lists.{count_has, length_named}
 use Rattle.cscan.proofs.Stories.{delivered_append}
-use Rattle.query_parts.specs.Deal.{is_dealt}
+use Rattle.batch_plan.specs.Deal.{is_dealt}
 use Rattle.table_core.proofs.Members.{has-numbers}
 use Rattle.filter_zones.specs.Possible.{needed}
 use Rattle.std.proofs.lemmas.Bool.{and_parts, cases_eq, ltb-true}

@@ -10,7 +10,7 @@ use Rattle.story_laws.specs.Lists.{NoneTwice}
 use Rattle.story_laws.proofs.Bools.{flipped, or_false, or_off, or_right}
 use Rattle.top_rows.specs.Rows.{Numbered}
 use Rattle.top_rows.proofs.Exchange.{rearranged}
-use Rattle.query_answers.specs.Agree.{Agree}
+use Rattle.query_gather.specs.Agree.{Agree}
 
 -- what the elements are mapped to, joined
 module _ {X Y : Type 0} (f : X → List Y) where

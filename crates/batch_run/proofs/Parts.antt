@@ -26,23 +26,23 @@ use Rattle.top_rows.specs.Rows.{Numbered, has_number}
 use Rattle.sql_bind.specs.declared.plan.Plan.{Plan}
 use Rattle.sql_bind.specs.Meaning.{matches}
 use Rattle.sql_bind.specs.Reads.{ReadsItsColumns}
-use Rattle.query_answers.specs.declared.answer.Answer.{Answer}
-use Rattle.query_answers.specs.declared.answer.Answer.TheVariants as answer
-use Rattle.query_answers.specs.declared.partial.Partial.{Partial}
-use Rattle.query_answers.specs.declared.partial.Partial.TheVariants as partials
-use Rattle.query_answers.specs.Agree.{Agree}
-use Rattle.query_answers.specs.Answer.{IsAnswerOver}
-use Rattle.query_answers.specs.Partial.{FitsPlan, MayJoin, MayJoinAll, StandForEach, joined, matching, rows_of_all}
-use Rattle.query_answers.proofs.Answering.{answer_agrees}
-use Rattle.query_parts.specs.Deal as dealing
-use Rattle.query_parts.specs.Deal.{deal, dealt_to, is_dealt}
-use Rattle.query_parts.proofs.Dealt.{all_dealt}
+use Rattle.query_gather.specs.declared.answer.Answer.{Answer}
+use Rattle.query_gather.specs.declared.answer.Answer.TheVariants as answer
+use Rattle.query_gather.specs.declared.partial.Partial.{Partial}
+use Rattle.query_gather.specs.declared.partial.Partial.TheVariants as partials
+use Rattle.query_gather.specs.Agree.{Agree}
+use Rattle.query_gather.specs.Answer.{IsAnswerOver}
+use Rattle.query_gather.specs.Partial.{FitsPlan, MayJoin, MayJoinAll, StandForEach, joined, matching, rows_of_all}
+use Rattle.query_gather.proofs.Answering.{answer_agrees}
+use Rattle.batch_plan.specs.Deal as dealing
+use Rattle.batch_plan.specs.Deal.{deal, dealt_to, is_dealt}
+use Rattle.batch_plan.proofs.Dealt.{all_dealt}
 use Rattle.cscan.specs.Tables.{HoldsTable}
 use Rattle.multi_scan.specs.Rows.{AreOfShape, FitsShape, chunk_numbers, chunk_rows, numbers_of_chunks, rows_of_chunks}
 use Rattle.batch_plan.specs.declared.task.Task.{Task}
 use Rattle.batch_plan.specs.Scans.{scan_number, scans_from_part}
 use Rattle.batch_plan.proofs.Rises.{rises_to}
-use Rattle.batch_scans.specs.Came.{CameOf}
+use Rattle.batch_run.specs.Came.{CameOf}
 use Rattle.batch_run.specs.Answering.{AreApart, AreJoinable, Came, IsAnswerOf, first_cause}
 use Rattle.batch_run.specs.Lost.{cause_from, or_first, stop_of}
 use Rattle.batch_run.specs.Taken.{TookNeed}

@@ -10,13 +10,13 @@ use Rattle.top_rows.specs.Rows.{Numbered}
 use Rattle.sql_bind.specs.declared.plan.Plan.{Plan}
 use Rattle.scan_story.specs.declared.cause.Cause.{Cause}
 use Rattle.scan_story.specs.declared.cause.Cause.TheVariants as cause
-use Rattle.query_answers.specs.declared.answer.Answer.{Answer}
-use Rattle.query_answers.specs.declared.answer.Answer.TheVariants as answer
-use Rattle.query_answers.specs.declared.partial.Partial.{Partial}
-use Rattle.query_answers.specs.Answer.{IsAnswerOver, StopsFor}
-use Rattle.query_answers.specs.Partial.{FitsPlan, IsAlike, MayJoinAll, StandForEach, Stands, joined, row_count, rows_of_all}
-use Rattle.query_answers.proofs.Alike.{both_alike}
-use Rattle.query_answers.proofs.Standing.{stands_reordered}
+use Rattle.query_gather.specs.declared.answer.Answer.{Answer}
+use Rattle.query_gather.specs.declared.answer.Answer.TheVariants as answer
+use Rattle.query_gather.specs.declared.partial.Partial.{Partial}
+use Rattle.query_gather.specs.Answer.{IsAnswerOver, StopsFor}
+use Rattle.query_gather.specs.Partial.{FitsPlan, IsAlike, MayJoinAll, StandForEach, Stands, joined, row_count, rows_of_all}
+use Rattle.query_gather.proofs.Alike.{both_alike}
+use Rattle.query_gather.proofs.Standing.{stands_reordered}
 use Rattle.batch_run.specs.Answering.{AnswersParts, AnswersSome, AreAllJoinable, AreApart, AreJoinable, AreParts, Came, IsAnswerOf, IsStoppedFor, MayAllJoin, first_cause}
 use Rattle.batch_run.specs.declared.answering.Parts.{Parts}
 use Rattle.batch_run.specs.declared.answering.Parts.TheVariants as parts

@@ -23,7 +23,7 @@ use Rattle.story_laws.proofs.Bools.{equal_number, other_number, or_false}
 use Rattle.story_laws.proofs.Laws.{delivered_once_each, ended_took_all}
 use Rattle.chunk_interest.specs.Fresh.{as_need}
 use Rattle.cscan.proofs.Stories.{delivered_append}
-use Rattle.query_parts.specs.Deal.{deal, is_dealt}
+use Rattle.batch_plan.specs.Deal.{deal, is_dealt}
 use Rattle.batch_plan.specs.Scans.{Scan, need_of, needs}
 use Rattle.batch_run.specs.Taken.{TookNeed}
 use Rattle.batch_run.proofs.Orders.{alike_below, none_twice_in_order, rising_order}

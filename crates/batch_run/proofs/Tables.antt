@@ -13,7 +13,7 @@ use Rattle.table_core.specs.declared.cell.Cell.TheVariants.{Null, Int, Code}
 use Rattle.table_core.specs.declared.schema.Column.{Column}
 use Rattle.table_core.specs.declared.schema.Kind.{Kind}
 use Rattle.table_core.specs.declared.schema.Kind.TheVariants as kinds
-use Rattle.csv_rows.specs.Judged.{Fields}
+use Rattle.csv_load.specs.Judged.{Fields}
 use Rattle.csv_load.specs.Loaded as loads
 use Rattle.csv_load.specs.Loaded.{IsLoaded}
 use Rattle.filter_zones.specs.Truth as codes
@@ -24,7 +24,7 @@ use Rattle.piece_format.specs.declared.layout.Layout.{Layout}
 use Rattle.sql_bind.specs.Bounds.{FitsRow}
 use Rattle.sql_bind.specs.Reads.{ReadsItsColumns}
 use Rattle.sql_bind.specs.declared.plan.Plan.{Plan}
-use Rattle.query_answers.specs.Partial.{FitsCond}
+use Rattle.query_gather.specs.Partial.{FitsCond}
 use Rattle.table_pieces.specs.Shaping.{FitsDicts, shape_of}
 use Rattle.multi_scan.specs.Rows.{FitsShape, IsPlanOfShape}
 use Rattle.batch_run.specs.Tasks.{FitsWhere, IsPlanOfTable}

@@ -12,10 +12,10 @@ use Rattle.top_rows.specs.Rows.{Numbered}
 use Rattle.sql_bind.specs.Bounds.{FitsRow}
 use Rattle.sql_bind.specs.Meaning.{matches}
 use Rattle.sql_bind.specs.declared.plan.Plan.{Plan}
-use Rattle.query_answers.specs.declared.answer.Answer.{Answer}
-use Rattle.query_answers.specs.Answer.{CanBeWritten, IsAnswerOver}
-use Rattle.query_answers.specs.Partial.{matching, unnumbered}
-use Rattle.query_answers.proofs.Written.{can_be_written}
+use Rattle.query_gather.specs.declared.answer.Answer.{Answer}
+use Rattle.query_gather.specs.Answer.{CanBeWritten, IsAnswerOver}
+use Rattle.query_gather.specs.Partial.{matching, unnumbered}
+use Rattle.query_gather.proofs.Written.{can_be_written}
 use Rattle.multi_scan.specs.Rows.{FitsShape}
 
 -- what holds of each row that has a shape holds of those that match

@@ -5,10 +5,10 @@ use Rattle.scan_story.specs.declared.cause.Cause.TheVariants as cause
 use Rattle.table_core.specs.declared.cell.Cell.{Cell}
 use Rattle.top_rows.specs.Rows.{Numbered}
 use Rattle.sql_bind.specs.declared.plan.Plan.{Plan}
-use Rattle.query_answers.specs.declared.answer.Answer.{Answer}
-use Rattle.query_answers.specs.declared.partial.Partial.{Partial}
-use Rattle.query_answers.specs.Answer.{IsAnswerOver}
-use Rattle.query_answers.specs.Partial.{FitsPlan, MayJoinAll, StandForEach, joined, rows_of_all}
+use Rattle.query_gather.specs.declared.answer.Answer.{Answer}
+use Rattle.query_gather.specs.declared.partial.Partial.{Partial}
+use Rattle.query_gather.specs.Answer.{IsAnswerOver}
+use Rattle.query_gather.specs.Partial.{FitsPlan, MayJoinAll, StandForEach, joined, rows_of_all}
 use Rattle.batch_run.specs.Lost.{stop_of}
 use Rattle.batch_run.specs.declared.answering.Parts.{Parts}
 use Rattle.batch_run.specs.declared.answering.Parts.TheVariants as parts

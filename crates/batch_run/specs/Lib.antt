@@ -6,3 +6,10 @@ pub mod Refusals
 pub mod Noting
 pub mod Answering
 pub mod Picked
+pub mod Came
+pub mod Whole
+pub mod Jobs
+pub mod Lists
+pub mod Workers
+pub mod Crews
+pub mod Works

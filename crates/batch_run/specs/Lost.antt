@@ -6,8 +6,8 @@ use Rattle.scan_story.specs.declared.cause.Cause.TheVariants as cause
 use Rattle.scan_story.specs.Views.{History}
 use Rattle.scan_story.specs.Causes.{cause_of}
 use Rattle.batch_plan.specs.Scans.{scan_number}
-use Rattle.query_answers.specs.declared.answer.Answer.{Answer}
-use Rattle.query_answers.specs.declared.answer.Answer.TheVariants as answer
+use Rattle.query_gather.specs.declared.answer.Answer.{Answer}
+use Rattle.query_gather.specs.declared.answer.Answer.TheVariants as answer
 
 -- the depot tells what it holds
 abbrev pub Tells : Stored → Type 0

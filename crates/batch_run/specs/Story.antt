@@ -5,7 +5,7 @@ use Rattle.scan_story.specs.declared.setting.Setting.{Setting}
 use Rattle.scan_story.specs.Views.{past}
 use Rattle.scan_story.specs.Causes.{Licensed}
 use Rattle.scan_story.specs.Spent.{reads}
-use Rattle.batch_scans.specs.Whole.{IsWholeStory}
+use Rattle.batch_run.specs.Whole.{IsWholeStory}
 
 -- what a depot counts, before and after: its gets and its faults
 pub record Counts : Type 0 where

@@ -1,6 +1,6 @@
 -- What a batch is given: a loaded table, and queries with plans over it.
 use Rattle.std.specs.Prelude.{◌<◌, List, length, Option, Some, None}
-use Rattle.csv_rows.specs.Judged.{Fields}
+use Rattle.csv_load.specs.Judged.{Fields}
 use Rattle.csv_load.specs.Loaded.{IsLoaded}
 use Rattle.table_core.specs.Table.{TableRows}
 use Rattle.table_core.specs.declared.schema.Column.{Column}

@@ -1,10 +1,10 @@
 // The answers of a batch, by what came of its scans.
 ghost use Rattle.std.specs.Prelude.{◌≡◌, ◌≤◌, ◌++◌, ◌∷◌, [], ℕ, List, drop, length, map, take, vec_capacity};
 ghost use Rattle.scan_story.specs.declared.cause.Cause.TheVariants as cause;
-ghost use Rattle.query_answers.specs.Answer.{StopsFor};
+ghost use Rattle.query_gather.specs.Answer.{StopsFor};
 ghost use Rattle.batch_run.specs.Answering.{AnswersParts, AnswersSome, AreAllJoinable, AreJoinable, AreParts, Came, IsAnswerOf, MayAllJoin};
 
-use query_answers::{Answer, Cause, Partial, join_parts};
+use query_gather::{Answer, Cause, Partial, join_parts};
 use std::alloc::Global;
 
 /// What is kept of the results of a query's parts.

@@ -5,7 +5,7 @@ ghost use Rattle.table_core.specs.Chunk.{chunk_count};
 ghost use Rattle.table_core.specs.Sets.{Rising};
 ghost use Rattle.piece_format.specs.Shape.{frame_words, groups, pieces};
 ghost use Rattle.scan_story.specs.Views.{past};
-ghost use Rattle.query_answers.specs.Answer.{CanBeWritten, IsAnswer};
+ghost use Rattle.query_gather.specs.Answer.{CanBeWritten, IsAnswer};
 ghost use Rattle.table_pieces.specs.Putting.{ArePut};
 ghost use Rattle.table_pieces.specs.Shaping as spec;
 ghost use Rattle.table_pieces.specs.Zoning.{chunk_zones};
@@ -20,10 +20,10 @@ ghost use Rattle.batch_run.specs.Tasks.{CanBeLoaded, IsPlanOfTable};
 use crate::answering::answer_all;
 use crate::batch_end::BatchEnd;
 use crate::picking::run_put;
+use crate::running::ScansEnd;
 use crate::setup::{Setup, all_rise, set_up};
 use crate::takings::note_all;
 use batch_plan::{Options, Task};
-use batch_scans::ScansEnd;
 use coop_outside::Depot;
 use cscan::Gate;
 use csv_load::Loaded;
@@ -62,21 +62,27 @@ pub fn run_batch<P: Policy, D: Depot + Send, T: Gate + Sync, R: Threads + Wait +
     requires some { 1 ≤ options.now.per }
     requires short { options.now.per ≤ 16384 }
     requires few { chunk_count (length loaded.table.rows) options.now.per ≤ 1024 }
-    requires options { AreOptions (groups (spec.shape_of loaded.table loaded.dicts.items options.now.layout options.now.per)) options.now }
-    requires words { options.now.frames * frame_words (spec.shape_of loaded.table loaded.dicts.items options.now.layout options.now.per) ≤ 33554432 }
+    requires options { AreOptions (groups (spec.shape_of loaded.table loaded.dicts.items options.now.layout
+        options.now.per)) options.now }
+    requires words { options.now.frames * frame_words
+        (spec.shape_of loaded.table loaded.dicts.items options.now.layout options.now.per) ≤ 33554432 }
     requires gets { D.gets depot ≤ 2 ^ 63 }
     // where the depot tells what it holds, each answer is the one to its plan over the whole table, unless the query was stopped
-    ensures answers { IfOk result (λ e. Tells (D.held depot) → AllZip (λ t a. IsAnswer t.plan loaded.table.rows a) tasks.now e.answers.items) }
+    ensures answers { IfOk result (λ e. Tells (D.held depot)
+        → AllZip (λ t a. IsAnswer t.plan loaded.table.rows a) tasks.now e.answers.items) }
     // whatever the depot gave, the rows of each answer can be written
-    ensures written { IfOk result (λ e. AllZip (λ t a. CanBeWritten loaded.dicts.items t.plan a) tasks.now e.answers.items) }
+    ensures written { IfOk result (λ e. AllZip (λ t a. CanBeWritten loaded.dicts.items t.plan a) tasks.now
+        e.answers.items) }
     // a query is stopped as the story says of its scans, or for want of memory
-    ensures lost { IfOk result (λ e. AllZip (λ t a. IsLostBy (past e.story.items) options.now.parts t.query (stop_of a)) tasks.now e.answers.items) }
+    ensures lost { IfOk result (λ e. AllZip (λ t a. IsLostBy (past e.story.items) options.now.parts t.query
+        (stop_of a)) tasks.now e.answers.items) }
     // the story is whole, legal, undisturbed and bounded in the setting of this batch; each of its faults has its cause, and the depot was read as it says
     ensures story { let s = spec.shape_of loaded.table loaded.dicts.items options.now.layout options.now.per in
         IfOk result (λ e. IsStoryOver (batch_setting s (chunk_zones s loaded.table.rows) tasks.now options.now (P.name policy) (P.cursor policy)) (is_some (D.held depot))
         (counts (D.gets depot) (D.faults depot)) (counts (D.gets e.depot) (D.faults e.depot)) e.story.items) }
     // one element for each scan, in their order, with exactly the chunks that the story delivered to it
-    ensures taken { IfOk result (λ e. AllZip (IsTakenBy e.story.items) (scans options.now.workers options.now.parts tasks.now) e.taken.items) }
+    ensures taken { IfOk result (λ e. AllZip (IsTakenBy e.story.items)
+        (scans options.now.workers options.now.parts tasks.now) e.taken.items) }
     // each scan took chunks of its need, each once, and where it ended all of them
     ensures took { let s = spec.shape_of loaded.table loaded.dicts.items options.now.layout options.now.per in
         IfOk result (λ e. All (TookNeed (chunk_zones s loaded.table.rows) options.now.parts e.story.items) (scans options.now.workers options.now.parts tasks.now)) }

@@ -1,7 +1,7 @@
 // What a batch ends with.
 
 use crate::taken::Taken;
-use query_answers::Answer;
+use query_gather::Answer;
 use scan_story::Entry;
 use table_core::{Dict, Schema};
 

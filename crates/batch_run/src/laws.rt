@@ -12,11 +12,13 @@ ghost use Rattle.batch_run.specs.Tasks.{IsPlanOfTable};
 
 /// A plan of a statement over a table is one that `run_batch` takes: a law, for its callers. It does nothing.
 pub fn plans_fit()
-    ensures { (text : List ℕ) (columns : List Column) (dicts : List (List (List ℕ))) (p : Plan) → IsPlanFor text columns dicts p → IsPlanOfTable columns dicts p }
+    ensures { (text : List ℕ) (columns : List Column) (dicts : List (List (List ℕ))) (p : Plan)
+        → IsPlanFor text columns dicts p → IsPlanOfTable columns dicts p }
 {}
 
 /// Where the depot tells what it holds, and its count of faults neither rose nor stands at its last value, a query is
 /// stopped only for want of memory: a law, for the callers of `run_batch`. It does nothing.
 pub fn lost_without_faults()
-    ensures { (h : History) (faults parts query : ℕ) (why : Cause) → Licensed true faults faults h → faults < 2 ^ 64 - 1 → cause_of_query h parts query ≡ Some why → why ≡ cause.Memory }
+    ensures { (h : History) (faults parts query : ℕ) (why : Cause) → Licensed true faults faults h
+        → faults < 2 ^ 64 - 1 → cause_of_query h parts query ≡ Some why → why ≡ cause.Memory }
 {}

@@ -5,16 +5,24 @@
 mod answering;
 mod batch;
 mod batch_end;
+mod crew;
+mod job;
 mod laws;
+mod ordering;
 mod picking;
+mod running;
+mod scanning;
+mod seating;
 mod setup;
+mod shop;
 mod taken;
 mod takings;
+mod worker;
 
 pub use batch::run_batch;
 pub use batch_end::BatchEnd;
 pub use batch_plan::{Options, Task};
 pub use laws::{lost_without_faults, plans_fit};
-pub use query_answers::{Answer, Cause};
+pub use query_gather::{Answer, Cause};
 pub use table_pieces::BatchRefusal;
 pub use taken::Taken;

@@ -9,12 +9,12 @@ ghost use Rattle.piece_format.specs.Shape.{IsShape, chunks, frame_words, groups}
 ghost use Rattle.multi_scan.specs.Rows.{IsPlanOfShape};
 ghost use Rattle.batch_plan.specs.Scans.{scans};
 ghost use Rattle.batch_plan.specs.Setting.{AreOptions};
-ghost use Rattle.batch_scans.specs.Came.{CameOf, IsNeedOf};
-ghost use Rattle.batch_scans.specs.Whole.{IsWholeStory};
+ghost use Rattle.batch_run.specs.Came.{CameOf, IsNeedOf};
+ghost use Rattle.batch_run.specs.Whole.{IsWholeStory};
 ghost use Rattle.batch_run.specs.Picked.{HoldsSomeTable, content_of};
 
+use crate::running::{ScansEnd, run_scans};
 use batch_plan::{Options, Task};
-use batch_scans::{ScansEnd, run_scans};
 use chunk_interest::Need;
 use coop_outside::Depot;
 use cscan::Gate;
@@ -41,8 +41,10 @@ pub(crate) fn run_put<P: Policy, D: Depot + Send, T: Gate + Sync, R: Threads + W
     policy: P,
     gate: &T,
 ) -> Result<ScansEnd<D>, (D, Memory)>
-    requires setting { IsSetting (setting_of needs.items (chunks shape.now) options.now.workers options.now.frames (groups shape.now) (P.name policy) (P.cursor policy)) }
-    requires room { HasRoom (setting_of needs.items (chunks shape.now) options.now.workers options.now.frames (groups shape.now) (P.name policy) (P.cursor policy)) }
+    requires setting { IsSetting (setting_of needs.items (chunks shape.now) options.now.workers options.now.frames
+        (groups shape.now) (P.name policy) (P.cursor policy)) }
+    requires room { HasRoom (setting_of needs.items (chunks shape.now) options.now.workers options.now.frames
+        (groups shape.now) (P.name policy) (P.cursor policy)) }
     requires gets { D.gets depot ≤ 2 ^ 63 }
     requires shape { IsShape shape.now }
     requires table { HoldsSomeTable shape.now (D.held depot) }
@@ -51,12 +53,15 @@ pub(crate) fn run_put<P: Policy, D: Depot + Send, T: Gate + Sync, R: Threads + W
     requires needs { AllZip IsNeedOf (scans options.now.workers options.now.parts tasks.now) needs.items }
     requires plans { All (λ t. IsPlanOfShape shape.now t.plan) tasks.now }
     requires scans { All (λ t. t.query * options.now.parts ≤ 256) tasks.now }
-    ensures story { let s = setting_of needs.items (chunks shape.now) options.now.workers options.now.frames (groups shape.now) (P.name policy) (P.cursor policy) in
+    ensures story { let s = setting_of needs.items (chunks shape.now) options.now.workers options.now.frames
+        (groups shape.now) (P.name policy) (P.cursor policy) in
         IfOk result (λ e. IsWholeStory s e.story.items) }
-    ensures results { let s = setting_of needs.items (chunks shape.now) options.now.workers options.now.frames (groups shape.now) (P.name policy) (P.cursor policy) in
+    ensures results { let s = setting_of needs.items (chunks shape.now) options.now.workers options.now.frames
+        (groups shape.now) (P.name policy) (P.cursor policy) in
         IfOk result (λ e. AllZip (CameOf (start_of s (depot_view (D.held depot) (D.gets depot) (D.faults depot))) (content_of shape.now (D.held depot)) shape.now e.story.items)
         (scans options.now.workers options.now.parts tasks.now) e.results.items) }
-    ensures depot { let s = setting_of needs.items (chunks shape.now) options.now.workers options.now.frames (groups shape.now) (P.name policy) (P.cursor policy) in
+    ensures depot { let s = setting_of needs.items (chunks shape.now) options.now.workers options.now.frames
+        (groups shape.now) (P.name policy) (P.cursor policy) in
         IfOk result (λ e. Agrees (start_of s (depot_view (D.held depot) (D.gets depot) (D.faults depot))) (past e.story.items) (depot_view (D.held e.depot) (D.gets e.depot) (D.faults e.depot))) }
     ensures held_back { IfErr result (λ r. D.held r.0 ≡ D.held depot) }
     ensures unread { IfErr result (λ r. D.gets r.0 ≡ D.gets depot) }

@@ -21,7 +21,7 @@ use crate::takings::takings_of;
 use batch_plan::{Options, Task, needs_of};
 use chunk_interest::Need;
 use piece_format::Shape;
-use query_answers::Answer;
+use query_gather::Answer;
 use std::alloc::Global;
 use table_core::{Dict, Memory, Table};
 use table_pieces::{shape_of, zones_of_chunks};
@@ -56,17 +56,24 @@ pub(crate) fn set_up(
 ) -> Result<Setup, Memory>
     requires limits { IsShape (spec.shape_of table.now dicts.now options.now.layout options.now.per) }
     requires fits { spec.FitsDicts table.now dicts.now }
-    requires options { AreOptions (groups (spec.shape_of table.now dicts.now options.now.layout options.now.per)) options.now }
+    requires options { AreOptions (groups (spec.shape_of table.now dicts.now options.now.layout options.now.per))
+        options.now }
     requires numbers { Rising 1 (map (λ t. t.query) tasks.now) 257 }
     requires scans { All (λ t. t.query * options.now.parts ≤ 256) tasks.now }
-    requires columns { All (λ t. NamesColumns (length (spec.shape_of table.now dicts.now options.now.layout options.now.per).kinds) t.plan) tasks.now }
+    requires columns { All (λ t. NamesColumns
+        (length (spec.shape_of table.now dicts.now options.now.layout options.now.per).kinds) t.plan) tasks.now }
     requires conditions { All (λ t. IfSome t.plan.cond (λ c. All (FitsRow c) table.now.rows)) tasks.now }
     ensures shape { IfOk result (λ m. m.shape ≡ spec.shape_of table.now dicts.now options.now.layout options.now.per) }
     ensures table { IfOk result (λ m. IsTableOf m.shape table.now) }
-    ensures needs { IfOk result (λ m. m.needs.items ≡ needs (chunk_zones m.shape table.now.rows) options.now.parts (scans options.now.workers options.now.parts tasks.now)) }
-    ensures setting { IfOk result (λ m. (name : PolicyName) (cursor : List ℕ) → IsSetting (batch_setting m.shape (chunk_zones m.shape table.now.rows) tasks.now options.now name cursor)) }
-    ensures room { IfOk result (λ m. (name : PolicyName) (cursor : List ℕ) → HasRoom (batch_setting m.shape (chunk_zones m.shape table.now.rows) tasks.now options.now name cursor)) }
-    ensures outside { IfOk result (λ m. (c : Cond) → All (FitsRow c) table.now.rows → NoMatchOutside m.shape table.now.rows c (possible.needed (Some c) (chunk_zones m.shape table.now.rows))) }
+    ensures needs { IfOk result (λ m. m.needs.items
+        ≡ needs (chunk_zones m.shape table.now.rows) options.now.parts
+        (scans options.now.workers options.now.parts tasks.now)) }
+    ensures setting { IfOk result (λ m. (name : PolicyName) (cursor : List ℕ)
+        → IsSetting (batch_setting m.shape (chunk_zones m.shape table.now.rows) tasks.now options.now name cursor)) }
+    ensures room { IfOk result (λ m. (name : PolicyName) (cursor : List ℕ)
+        → HasRoom (batch_setting m.shape (chunk_zones m.shape table.now.rows) tasks.now options.now name cursor)) }
+    ensures outside { IfOk result (λ m. (c : Cond) → All (FitsRow c) table.now.rows
+        → NoMatchOutside m.shape table.now.rows c (possible.needed (Some c) (chunk_zones m.shape table.now.rows))) }
     ensures answers { IfOk result (λ m. m.answers.items ≡ []) }
     ensures answers_room { IfOk result (λ m. length tasks.now ≤ vec_capacity m.answers) }
     ensures taken { IfOk result (λ m. AllZip (IsOpened options.now.parts) m.needs.items m.taken.items) }

@@ -33,7 +33,8 @@ impl Taken {
     // Notes a chunk that was delivered to the scan of this number, where it is this one.
     fn note(&mut self, parts: u32, number: u32, chunk: u32)
         requires named { IsNamed parts self.old }
-        requires room { number_of parts self.old ≡ number → length self.old.chunks.items < vec_capacity self.old.chunks }
+        requires room { number_of parts self.old ≡ number
+            → length self.old.chunks.items < vec_capacity self.old.chunks }
         ensures { NotesOne parts number chunk self.old self.new }
     {
         if scan_number(parts, self.query, self.part) == number {

@@ -29,7 +29,8 @@ pub struct Buffer {
 fn settle(frames: &mut Frames, begun: &[Option<u32>])
     requires inside { NamesFrames frames.old begun.now }
     ensures length { length frames.new ≡ length frames.old }
-    ensures each { (f : ℕ) → frame_at frames.new f ≡ (if is_named begun.now (length begun.now) f then settled (frame_at frames.old f) else frame_at frames.old f) }
+    ensures each { (f : ℕ) → frame_at frames.new f
+        ≡ (if is_named begun.now (length begun.now) f then settled (frame_at frames.old f) else frame_at frames.old f) }
 {
     for g in 0..begun.len() {
         if let Some(f) = begun[g] {
@@ -46,8 +47,10 @@ fn leave(frames: &mut Frames, places: &mut [Option<u32>], from: usize, n: usize)
     requires there { from + n ≤ length places.old }
     ensures length { length frames.new ≡ length frames.old }
     ensures length_places { length places.new ≡ length places.old }
-    ensures places { (p : ℕ) → place_at places.new p ≡ (if nat_le from p && nat_lt p (from + n) then None else place_at places.old p) }
-    ensures frames { (f : ℕ) → frame_at frames.new f ≡ (if has_of places.old from n f then Free else frame_at frames.old f) }
+    ensures places { (p : ℕ) → place_at places.new p
+        ≡ (if nat_le from p && nat_lt p (from + n) then None else place_at places.old p) }
+    ensures frames { (f : ℕ) → frame_at frames.new f
+        ≡ (if has_of places.old from n f then Free else frame_at frames.old f) }
 {
     for g in 0..n {
         if let Some(f) = places[from + g] {
@@ -100,7 +103,8 @@ impl Buffer {
     /// Follows a Fill of the frame with the piece.
     pub fn begin(&mut self, frame: u32, piece: u32)
         requires { frame < length self.old.frames }
-        ensures { (s : Setting) (h : History) (w : ℕ) → IsSetting s → AllMayFollow s h → MayFill s h w frame piece → IsBuffer s h self.old → IsBuffer s (Fill w frame piece ∷ h) self.new }
+        ensures { (s : Setting) (h : History) (w : ℕ) → IsSetting s → AllMayFollow s h → MayFill s h w frame piece
+            → IsBuffer s h self.old → IsBuffer s (Fill w frame piece ∷ h) self.new }
     {
         self.frames.put(frame, Frame::Begun);
         self.begun[(piece % self.groups) as usize] = Some(frame);
@@ -124,7 +128,9 @@ impl Buffer {
     // The frames that the load began and that have no piece are free.
     fn settle(&mut self)
         ensures length { length self.new.frames ≡ length self.old.frames }
-        ensures frames { (f : ℕ) → frame_at self.new.frames f ≡ (if is_named self.old.begun.items (length self.old.begun.items) f then settled (frame_at self.old.frames f) else frame_at self.old.frames f) }
+        ensures frames { (f : ℕ) → frame_at self.new.frames f
+            ≡ (if is_named self.old.begun.items (length self.old.begun.items) f then settled
+            (frame_at self.old.frames f) else frame_at self.old.frames f) }
         ensures places { self.new.places.items ≡ self.old.places.items }
         ensures begun { self.new.begun.items ≡ self.old.begun.items }
         ensures groups { self.new.groups ≡ self.old.groups }
@@ -138,7 +144,9 @@ impl Buffer {
         requires frame { frame < length self.old.frames }
         requires piece { piece / self.old.groups < 1024 }
         ensures groups { self.new.groups ≡ self.old.groups }
-        ensures follows { (s : Setting) (h : History) (w : ℕ) → IsSetting s → AllMayFollow s h → MayFilled s h w frame piece → is_none (underway s (Filled w frame piece ∷ h)) ≡ last → IsBuffer s h self.old → IsBuffer s (Filled w frame piece ∷ h) self.new }
+        ensures follows { (s : Setting) (h : History) (w : ℕ) → IsSetting s → AllMayFollow s h
+            → MayFilled s h w frame piece → is_none (underway s (Filled w frame piece ∷ h)) ≡ last
+            → IsBuffer s h self.old → IsBuffer s (Filled w frame piece ∷ h) self.new }
     {
         self.hold(frame, piece);
         if last {
@@ -148,7 +156,8 @@ impl Buffer {
 
     /// Follows a Failed: the frames that the load began and that have no piece are free.
     pub fn give_up(&mut self)
-        ensures { (s : Setting) (h : History) (w q p : ℕ) (why : Why) → IsBuffer s h self.old → IsBuffer s (Failed w q p why ∷ h) self.new }
+        ensures { (s : Setting) (h : History) (w q p : ℕ) (why : Why) → IsBuffer s h self.old
+            → IsBuffer s (Failed w q p why ∷ h) self.new }
     {
         self.settle();
     }
@@ -156,7 +165,8 @@ impl Buffer {
     /// Follows an Evict of the chunk.
     pub fn evict(&mut self, chunk: u32)
         requires { chunk < 1024 }
-        ensures { (s : Setting) (h : History) (w : ℕ) → IsSetting s → AllMayFollow s h → MayEvict s h w chunk → chunk < s.chunks → IsBuffer s h self.old → IsBuffer s (Evict w chunk ∷ h) self.new }
+        ensures { (s : Setting) (h : History) (w : ℕ) → IsSetting s → AllMayFollow s h → MayEvict s h w chunk
+            → chunk < s.chunks → IsBuffer s h self.old → IsBuffer s (Evict w chunk ∷ h) self.new }
     {
         let n = self.groups as usize;
         leave(&mut self.frames, &mut self.places, chunk as usize * n, n);

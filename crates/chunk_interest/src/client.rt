@@ -97,7 +97,8 @@ impl Client {
     /// Follows its Register, which has `noted` entries before it.
     pub fn register(&mut self, noted: u64)
         requires { noted < 2 ^ 63 }
-        ensures follows { (s : Setting) (h : History) (w q : ℕ) → length h ≡ noted → IsClient s h q self.old → IsClient s (Register w q ∷ h) q self.new }
+        ensures follows { (s : Setting) (h : History) (w q : ℕ) → length h ≡ noted → IsClient s h q self.old
+            → IsClient s (Register w q ∷ h) q self.new }
         ensures available { self.new.available ≡ self.old.available }
         ensures near { IsNear 0 self.old self.new }
     {
@@ -110,7 +111,8 @@ impl Client {
     /// Follows a Release of a chunk that was held for it.
     pub fn release(&mut self, noted: u64)
         requires { noted < 2 ^ 63 }
-        ensures follows { (s : Setting) (h : History) (w q c : ℕ) → length h ≡ noted → IsClient s h q self.old → IsClient s (Release w q c ∷ h) q self.new }
+        ensures follows { (s : Setting) (h : History) (w q c : ℕ) → length h ≡ noted → IsClient s h q self.old
+            → IsClient s (Release w q c ∷ h) q self.new }
         ensures phase { self.new.phase ≡ self.old.phase }
         ensures available { self.new.available ≡ self.old.available }
         ensures near { IsNear 0 self.old self.new }
@@ -122,8 +124,10 @@ impl Client {
     /// Follows a Deliver of the chunk to it.
     pub fn deliver(&mut self, c: u32)
         requires { c < 1024 }
-        ensures follows { (s : Setting) (h : History) (w q : ℕ) → IsClient s h q self.old → IsClient s (Deliver w q c ∷ h) q self.new }
-        ensures ready { (s : Setting) (h : History) (w q : ℕ) → IsReady s h q self.old → IsReady s (Deliver w q c ∷ h) q self.new }
+        ensures follows { (s : Setting) (h : History) (w q : ℕ) → IsClient s h q self.old
+            → IsClient s (Deliver w q c ∷ h) q self.new }
+        ensures ready { (s : Setting) (h : History) (w q : ℕ) → IsReady s h q self.old
+            → IsReady s (Deliver w q c ∷ h) q self.new }
         ensures phase { self.new.phase ≡ self.old.phase }
         ensures near { IsNear c self.old self.new }
     {
@@ -133,10 +137,13 @@ impl Client {
 
     /// Follows its Stop, or the Failed of a load that it triggered.
     pub fn stop(&mut self)
-        ensures stop { (s : Setting) (h : History) (w q : ℕ) → IsClient s h q self.old → IsClient s (Stop w q ∷ h) q self.new }
-        ensures failed { (s : Setting) (h : History) (w q p : ℕ) (why : Why) → IsClient s h q self.old → IsClient s (Failed w q p why ∷ h) q self.new }
+        ensures stop { (s : Setting) (h : History) (w q : ℕ) → IsClient s h q self.old
+            → IsClient s (Stop w q ∷ h) q self.new }
+        ensures failed { (s : Setting) (h : History) (w q p : ℕ) (why : Why) → IsClient s h q self.old
+            → IsClient s (Failed w q p why ∷ h) q self.new }
         ensures stop_ready { (s : Setting) (h : History) (w q : ℕ) → IsReady s (Stop w q ∷ h) q self.new }
-        ensures failed_ready { (s : Setting) (h : History) (w q p : ℕ) (why : Why) → IsReady s (Failed w q p why ∷ h) q self.new }
+        ensures failed_ready { (s : Setting) (h : History) (w q p : ℕ) (why : Why)
+            → IsReady s (Failed w q p why ∷ h) q self.new }
         ensures over { is_over self.new ≡ true }
     {
         self.phase = Phase::Stopped;
@@ -146,7 +153,8 @@ impl Client {
 
     /// Follows its End.
     pub fn end(&mut self)
-        ensures follows { (s : Setting) (h : History) (w q : ℕ) → is_stopped h q ≡ false → IsClient s h q self.old → IsClient s (End w q ∷ h) q self.new }
+        ensures follows { (s : Setting) (h : History) (w q : ℕ) → is_stopped h q ≡ false → IsClient s h q self.old
+            → IsClient s (End w q ∷ h) q self.new }
         ensures ready { (s : Setting) (h : History) (w q : ℕ) → IsReady s (End w q ∷ h) q self.new }
         ensures over { is_over self.new ≡ true }
     {
@@ -179,7 +187,8 @@ impl Client {
     /// Whether it needs the chunk, and no piece of it that it reads is missing.
     pub fn can_take(&self, buffer: &Buffer, c: u32) -> bool
         requires { c < 1024 }
-        ensures { result ≡ (has self.now.remaining c && missing_in buffer.now.places.items buffer.now.groups self.now.reads c == 0) }
+        ensures { result ≡ (has self.now.remaining c && missing_in buffer.now.places.items buffer.now.groups
+            self.now.reads c == 0) }
     {
         self.remaining.has(c) && buffer.missing_for(&self.reads, c) == 0
     }

@@ -106,8 +106,10 @@ impl Clients {
         requires some { 0 < q }
         requires few { noted < 2 ^ 63 }
         ensures length { length self.new ≡ length self.old }
-        ensures follows { (s : Setting) (h : History) (w : ℕ) → length h ≡ noted → AreClients s h self.old → AreClients s (Register w q ∷ h) self.new }
-        ensures ready { (s : Setting) (h : History) (w : ℕ) → AreReady s h self.old → AreReady s (Register w q ∷ h) self.new }
+        ensures follows { (s : Setting) (h : History) (w : ℕ) → length h ≡ noted → AreClients s h self.old
+            → AreClients s (Register w q ∷ h) self.new }
+        ensures ready { (s : Setting) (h : History) (w : ℕ) → AreReady s h self.old
+            → AreReady s (Register w q ∷ h) self.new }
     {
         let mut client = self.of(q).copy();
         client.register(noted);
@@ -119,8 +121,10 @@ impl Clients {
         requires there { q < length self.old }
         requires few { noted < 2 ^ 63 }
         ensures length { length self.new ≡ length self.old }
-        ensures follows { (s : Setting) (h : History) (w c : ℕ) → length h ≡ noted → AreClients s h self.old → AreClients s (Release w q c ∷ h) self.new }
-        ensures ready { (s : Setting) (h : History) (w c : ℕ) → AreReady s h self.old → AreReady s (Release w q c ∷ h) self.new }
+        ensures follows { (s : Setting) (h : History) (w c : ℕ) → length h ≡ noted → AreClients s h self.old
+            → AreClients s (Release w q c ∷ h) self.new }
+        ensures ready { (s : Setting) (h : History) (w c : ℕ) → AreReady s h self.old
+            → AreReady s (Release w q c ∷ h) self.new }
     {
         let mut client = self.of(q).copy();
         client.release(noted);
@@ -132,8 +136,10 @@ impl Clients {
         requires there { q < length self.old }
         requires chunk { c < 1024 }
         ensures length { length self.new ≡ length self.old }
-        ensures follows { (s : Setting) (h : History) (w : ℕ) → AreClients s h self.old → AreClients s (Deliver w q c ∷ h) self.new }
-        ensures ready { (s : Setting) (h : History) (w : ℕ) → AreReady s h self.old → AreReady s (Deliver w q c ∷ h) self.new }
+        ensures follows { (s : Setting) (h : History) (w : ℕ) → AreClients s h self.old
+            → AreClients s (Deliver w q c ∷ h) self.new }
+        ensures ready { (s : Setting) (h : History) (w : ℕ) → AreReady s h self.old
+            → AreReady s (Deliver w q c ∷ h) self.new }
     {
         let mut client = self.of(q).copy();
         client.deliver(c);
@@ -144,10 +150,14 @@ impl Clients {
     pub fn stop(&mut self, q: u32)
         requires there { q < length self.old }
         ensures length { length self.new ≡ length self.old }
-        ensures stop { (s : Setting) (h : History) (w : ℕ) → AreClients s h self.old → AreClients s (Stop w q ∷ h) self.new }
-        ensures failed { (s : Setting) (h : History) (w p : ℕ) (why : Why) → AreClients s h self.old → AreClients s (Failed w q p why ∷ h) self.new }
-        ensures stop_ready { (s : Setting) (h : History) (w : ℕ) → AreReady s h self.old → AreReady s (Stop w q ∷ h) self.new }
-        ensures failed_ready { (s : Setting) (h : History) (w p : ℕ) (why : Why) → AreReady s h self.old → AreReady s (Failed w q p why ∷ h) self.new }
+        ensures stop { (s : Setting) (h : History) (w : ℕ) → AreClients s h self.old
+            → AreClients s (Stop w q ∷ h) self.new }
+        ensures failed { (s : Setting) (h : History) (w p : ℕ) (why : Why) → AreClients s h self.old
+            → AreClients s (Failed w q p why ∷ h) self.new }
+        ensures stop_ready { (s : Setting) (h : History) (w : ℕ) → AreReady s h self.old
+            → AreReady s (Stop w q ∷ h) self.new }
+        ensures failed_ready { (s : Setting) (h : History) (w p : ℕ) (why : Why) → AreReady s h self.old
+            → AreReady s (Failed w q p why ∷ h) self.new }
     {
         let mut client = self.of(q).copy();
         client.stop();
@@ -158,8 +168,10 @@ impl Clients {
     pub fn end(&mut self, q: u32)
         requires there { q < length self.old }
         ensures length { length self.new ≡ length self.old }
-        ensures follows { (s : Setting) (h : History) (w : ℕ) → is_stopped h q ≡ false → AreClients s h self.old → AreClients s (End w q ∷ h) self.new }
-        ensures ready { (s : Setting) (h : History) (w : ℕ) → AreReady s h self.old → AreReady s (End w q ∷ h) self.new }
+        ensures follows { (s : Setting) (h : History) (w : ℕ) → is_stopped h q ≡ false → AreClients s h self.old
+            → AreClients s (End w q ∷ h) self.new }
+        ensures ready { (s : Setting) (h : History) (w : ℕ) → AreReady s h self.old
+            → AreReady s (End w q ∷ h) self.new }
     {
         let mut client = self.of(q).copy();
         client.end();
@@ -171,7 +183,8 @@ impl Clients {
         requires there { q < length self.old }
         requires chunk { c < 1024 }
         ensures length { length self.new ≡ length self.old }
-        ensures here { IsRenewed buffer.now.places.items buffer.now.groups c (client_at self.old q) (client_at self.new q) }
+        ensures here { IsRenewed buffer.now.places.items buffer.now.groups c (client_at self.old q)
+            (client_at self.new q) }
         ensures others { (r : ℕ) → r ≢ q → client_at self.new r ≡ client_at self.old r }
     {
         let client = self.of(q);
@@ -187,7 +200,8 @@ impl Clients {
         requires size { length self.old ≡ 257 }
         requires chunk { c < 1024 }
         ensures length { length self.new ≡ length self.old }
-        ensures each { (q : ℕ) → q < length self.old → IsRenewed buffer.now.places.items buffer.now.groups c (client_at self.old q) (client_at self.new q) }
+        ensures each { (q : ℕ) → q < length self.old
+            → IsRenewed buffer.now.places.items buffer.now.groups c (client_at self.old q) (client_at self.new q) }
     {
         for q in 0..257 {
             self.renew_at(q, buffer, c);
@@ -270,7 +284,8 @@ impl Clients {
     /// How many of these queries, which are all active, need the chunk; at most 320.
     pub fn needing(&self, these: &QuerySet, c: u32) -> u32
         requires { c < 1024 }
-        ensures number { ((r : ℕ) → has these.now r ≡ true → is_active_in self.now r ≡ true) → result ≡ count_below (λ r. has these.now r && needs_in self.now r c) (length self.now) }
+        ensures number { ((r : ℕ) → has these.now r ≡ true → is_active_in self.now r ≡ true) → result
+            ≡ count_below (λ r. has these.now r && needs_in self.now r c) (length self.now) }
         ensures few { result ≤ 320 }
     {
         these.common(&self.marks.needing[c as usize])

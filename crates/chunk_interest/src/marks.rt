@@ -40,7 +40,8 @@ fn needing(clients: &[Client], c: u32) -> QuerySet
 fn needing_each(alloc: Global, clients: &[Client]) -> Result<Vec<QuerySet>, Memory>
     requires { length clients.now ≡ 257 }
     ensures size { IfOk result (λ v. length v.items ≡ 1024) }
-    ensures each { IfOk result (λ v. (c q : ℕ) → c < 1024 → has (row_at v.items c) q ≡ has (client_at clients.now q).remaining c) }
+    ensures each { IfOk result (λ v. (c q : ℕ) → c < 1024 → has (row_at v.items c) q
+        ≡ has (client_at clients.now q).remaining c) }
 {
     let mut rows = Vec::new(alloc);
     for c in 0..1024 {
@@ -84,7 +85,8 @@ fn mark(rows: &mut [QuerySet], c: u32, q: u32, is: bool)
     requires chunk { c < length rows.old }
     requires query { q < 320 }
     ensures size { length rows.new ≡ length rows.old }
-    ensures each { (x r : ℕ) → has (row_at rows.new x) r ≡ (if x == c && r == q then is else has (row_at rows.old x) r) }
+    ensures each { (x r : ℕ) → has (row_at rows.new x) r
+        ≡ (if x == c && r == q then is else has (row_at rows.old x) r) }
 {
     let row = &mut rows[c as usize];
     row.put(q, is);

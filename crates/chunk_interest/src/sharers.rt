@@ -47,7 +47,8 @@ fn sharers(clients: &Clients, n: u32, q: u32) -> QuerySet
 pub fn sharers_each(alloc: Global, clients: &Clients, n: u32) -> Result<Vec<QuerySet>, Memory>
     requires { length clients.now ≡ 257 }
     ensures size { IfOk result (λ v. length v.items ≡ 257) }
-    ensures each { IfOk result (λ v. (q r : ℕ) → q < 257 → r < 257 → has (row_at v.items q) r ≡ shares_in clients.now n q r) }
+    ensures each { IfOk result (λ v. (q r : ℕ) → q < 257 → r < 257 → has (row_at v.items q) r
+        ≡ shares_in clients.now n q r) }
 {
     let mut rows = Vec::new(alloc);
     for q in 0..257 {

@@ -18,7 +18,8 @@ pub(crate) fn matches_in<'a>(
     call: Call,
     words: &'a [String],
 ) -> Result<ArgMatches<'a>, Refused>
-    ensures ok { IfOk result (λ m. (pairs : Pairs) × (pairs_of (known_to call) (texts words.now) ≡ Some pairs) × HasPairs (known_to call) (found_of m) pairs) }
+    ensures ok { IfOk result (λ m. (pairs : Pairs) × (pairs_of (known_to call) (texts words.now) ≡ Some pairs)
+        × HasPairs (known_to call) (found_of m) pairs) }
     ensures usage { result ≡ Err Refused.Usage → pairs_of (known_to call) (texts words.now) ≡ None }
 {
     if has_bare(words) {

@@ -28,7 +28,8 @@ pub(crate) struct Values<'a> {
 impl<'a> Values<'a> {
     /// The values that the matches hold.
     pub(crate) fn found(matches: &ArgMatches<'a>) -> Values<'a>
-        ensures { (known : List Known) (pairs : Pairs) → HasPairs known (found_of matches.now) pairs → KnowsValues known → values_view result ≡ values_of pairs }
+        ensures { (known : List Known) (pairs : Pairs) → HasPairs known (found_of matches.now) pairs
+            → KnowsValues known → values_view result ≡ values_of pairs }
     {
         Values {
             threads: matches.get_str("threads"),

@@ -16,7 +16,7 @@ use cscan::NoGate;
 use policy_box::Elevator;
 use policy_plain::{Attach, Normal};
 use relevance::{Policy, Relevance};
-use run_texts::Stop;
+use run_output::Stop;
 use std::alloc::AllocError;
 use std::hash::RandomState;
 use std::process::ExitCode;

@@ -62,8 +62,10 @@ fn read_more<F: Shelf>(
     part: &mut [u8],
 ) -> Result<bool, ReadFault>
     requires room { 0 < length part.old }
-    ensures more { IfOk result (λ some. ReadsMore (F.held shelf.old) name.now (length part.old) some bytes.old.items bytes.new.items) }
-    ensures fault { result ≡ Err ReadFault.Fault → ReadFails (F.held shelf.old) name.now (F.faults shelf.old) (F.faults shelf.new) }
+    ensures more { IfOk result (λ some. ReadsMore (F.held shelf.old) name.now (length part.old) some bytes.old.items
+        bytes.new.items) }
+    ensures fault { result ≡ Err ReadFault.Fault
+        → ReadFails (F.held shelf.old) name.now (F.faults shelf.old) (F.faults shelf.new) }
     ensures not_long { IfErr result (λ e. (l : ℕ) → e ≡ TooLong l → ⊥) }
     ensures held { F.held shelf.new ≡ F.held shelf.old }
     ensures later { F.faults shelf.old ≤ F.faults shelf.new }
@@ -90,7 +92,8 @@ pub fn read_all<F: Shelf>(
     ensures bytes { IfOk result (λ bytes. (told : List ℕ) → Holds (F.held shelf.old) name.now told → bytes ≡ told) }
     ensures there { IfOk result (λ bytes. Lacks (F.held shelf.old) name.now → ⊥) }
     ensures within { IfOk result (λ bytes. length bytes ≤ limit) }
-    ensures fault { result ≡ Err ReadFault.Fault → ReadFails (F.held shelf.old) name.now (F.faults shelf.old) (F.faults shelf.new) }
+    ensures fault { result ≡ Err ReadFault.Fault
+        → ReadFails (F.held shelf.old) name.now (F.faults shelf.old) (F.faults shelf.new) }
     ensures too_long { IfErr result (λ e. (l : ℕ) → e ≡ TooLong l
         → (l ≡ limit) × ((told : List ℕ) → Holds (F.held shelf.old) name.now told → limit < length told) × (Lacks (F.held shelf.old) name.now → ⊥)) }
     ensures held { F.held shelf.new ≡ F.held shelf.old }

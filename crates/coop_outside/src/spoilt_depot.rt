@@ -25,7 +25,8 @@ pub struct SpoiltDepot {
 
 // Puts a value in place of a word, where there are so many.
 fn spoil(buf: &mut [u8], word: u32, value: u64)
-    ensures spoilt { buf.new ≡ (if nat_le (8 * word + 8) (length buf.old) then with_word buf.old word value else buf.old) }
+    ensures spoilt { buf.new ≡ (if nat_le (8 * word + 8) (length buf.old) then with_word buf.old word value else
+        buf.old) }
 {
     let from = word as usize * 8;
     if from + 8 <= buf.len() {
@@ -56,11 +57,13 @@ impl Depot for SpoiltDepot {
         ensures stored { OnOk result ⊤ }
         ensures others { result ≡ Err DepotFault.Failed → ⊤ }
         ensures failed { result ≡ Err DepotFault.Failed → Rose self.old.inner.faults self.new.inner.faults }
-        ensures memory { result ≡ Err DepotFault.Memory → self.new.inner.pieces.entries ≡ self.old.inner.pieces.entries }
+        ensures memory { result ≡ Err DepotFault.Memory → self.new.inner.pieces.entries
+            ≡ self.old.inner.pieces.entries }
         ensures gets { self.new.inner.gets ≡ self.old.inner.gets }
         ensures later { self.old.inner.faults ≤ self.new.inner.faults }
         // the piece's bytes are kept as they are
-        ensures kept { OnOk result (Some self.new.inner.pieces.entries ≡ with_piece (Some self.old.inner.pieces.entries) piece bytes.now) }
+        ensures kept { OnOk result (Some self.new.inner.pieces.entries
+            ≡ with_piece (Some self.old.inner.pieces.entries) piece bytes.now) }
     {
         self.inner.put(piece, bytes)
     }

@@ -16,7 +16,8 @@ pub struct WriteFault {
 /// has taken exactly the first `gone` bytes.
 pub fn write_all<O: Sink>(sink: &mut O, bytes: &[u8]) -> Result<(), WriteFault>
     ensures all { OnOk result (O.taken sink.new ≡ grown (O.taken sink.old) bytes.now) }
-    ensures part { IfErr result (λ e. (e.gone < length bytes.now) × (O.taken sink.new ≡ grown (O.taken sink.old) (take e.gone bytes.now))) }
+    ensures part { IfErr result (λ e. (e.gone < length bytes.now)
+        × (O.taken sink.new ≡ grown (O.taken sink.old) (take e.gone bytes.now))) }
     ensures cause { OnErr result (Rose (O.faults sink.old) (O.faults sink.new)) }
     ensures later { O.faults sink.old ≤ O.faults sink.new }
 {

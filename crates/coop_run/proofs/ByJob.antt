@@ -5,27 +5,27 @@ use Rattle.command_words.specs.Options.{Request}
 use Rattle.scan_story.specs.Views.{past}
 use Rattle.scan_story.specs.declared.setting.PolicyName.{PolicyName}
 use Rattle.scan_story.specs.declared.setting.PolicyName.TheVariants.{Relevance}
-use Rattle.run_texts.specs.Stops.{status_of}
-use Rattle.run_texts.specs.declared.stop.Stop.{Stop}
-use Rattle.run_texts.specs.declared.stop.Stop.TheVariants as stop
-use Rattle.batch_inputs.specs.Ending.{SourceFails}
-use Rattle.batch_inputs.specs.Order.{first_stop}
-use Rattle.batch_inputs.specs.Sources.{batch_source, table_source, text_in}
-use Rattle.batch_inputs.proofs.Texts.{some-text}
+use Rattle.run_output.specs.Stops.{status_of}
+use Rattle.run_output.specs.declared.stop.Stop.{Stop}
+use Rattle.run_output.specs.declared.stop.Stop.TheVariants as stop
+use Rattle.run_inputs.specs.Ending.{SourceFails}
+use Rattle.run_inputs.specs.Order.{first_stop}
+use Rattle.run_inputs.specs.Sources.{batch_source, table_source, text_in}
+use Rattle.run_inputs.proofs.Texts.{some-text}
 use Rattle.batch_run.specs.Lost.{Tells}
-use Rattle.batch_answers.specs.Deciding.{IsUsage, StopsBefore}
-use Rattle.batch_answers.specs.Devices.{DepotAt, OverShelf, OverSink}
-use Rattle.batch_answers.specs.Running.{Text}
-use Rattle.batch_answers.specs.Work.{Work}
-use Rattle.batch_answers.proofs.Stopping.{first-before}
-use Rattle.policy_compare.specs.Comparing.{Compares, DoesNothing}
-use Rattle.policy_compare.specs.Comparing as comparing
-use Rattle.policy_compare.specs.Lines.{lines_of}
-use Rattle.policy_compare.specs.Policies.{PolicyAt, policy_at}
-use Rattle.policy_compare.specs.Joined.{joined_story}
-use Rattle.policy_compare.proofs.Ends.{compared_tells, compared_writes}
-use Rattle.policy_compare.proofs.Joining as joining
-use Rattle.policy_compare.specs.declared.policy_run.PolicyRun.{PolicyRun}
+use Rattle.run_decision.specs.Deciding.{IsUsage, StopsBefore}
+use Rattle.run_decision.specs.Devices.{DepotAt, OverShelf, OverSink}
+use Rattle.run_decision.specs.Running.{Text}
+use Rattle.run_decision.specs.Work.{Work}
+use Rattle.run_decision.proofs.Stopping.{first-before}
+use Rattle.run_policies.specs.Comparing.{Compares, DoesNothing}
+use Rattle.run_policies.specs.Comparing as comparing
+use Rattle.run_policies.specs.Lines.{lines_of}
+use Rattle.run_policies.specs.Policies.{PolicyAt, policy_at}
+use Rattle.run_policies.specs.Joined.{joined_story}
+use Rattle.run_policies.proofs.Ends.{compared_tells, compared_writes}
+use Rattle.run_policies.proofs.Joining as joining
+use Rattle.run_policies.specs.declared.policy_run.PolicyRun.{PolicyRun}
 use Rattle.coop_run.specs.Boxed.{ComparesNothing, DecidesAndPrintsOn, DecidesOn, IsCompleteOn, IsForAllPartsOn, IsUndone, KeepsHeadlineCutOn, KeepsHeadlineOn, KeepsPromisesOn, LacksMemoryAtFirst, LeavesItsWorkOn, LeavesRuns, WritesLines}
 use Rattle.coop_run.specs.Comparing.{AllHaveWorked, AreComplete, AreForAllParts, AreLines, Headlines, KeepsHeadlines, KeepsHeadlinesCut, Remark, for_any_parts, lost_for_memory, nothing_more}
 use Rattle.coop_run.specs.Devices.{Devices}

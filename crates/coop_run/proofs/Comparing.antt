@@ -5,28 +5,28 @@ use Rattle.std.proofs.lemmas.List.Elements.{All-from_recursion}
 use Rattle.coop_outside.specs.Causes.{Rose}
 use Rattle.command_words.specs.Options.{Request}
 use Rattle.piece_format.specs.Shape.{TableShape}
-use Rattle.run_texts.specs.declared.stop.Stop.{Stop}
-use Rattle.run_texts.specs.declared.stop.Stop.TheVariants as stop
+use Rattle.run_output.specs.declared.stop.Stop.{Stop}
+use Rattle.run_output.specs.declared.stop.Stop.TheVariants as stop
 use Rattle.scan_story.specs.Views.{past}
 use Rattle.scan_story.specs.declared.setting.PolicyName.{PolicyName}
 use Rattle.table_core.specs.declared.cell.Cell.{Cell}
 use Rattle.table_pieces.specs.Putting.{ArePut}
 use Rattle.coop_outside.specs.Pieces.{Stored}
-use Rattle.batch_inputs.specs.Order.{first_stop}
-use Rattle.batch_inputs.specs.Sources.{batch_source, table_source, text_in}
+use Rattle.run_inputs.specs.Order.{first_stop}
+use Rattle.run_inputs.specs.Sources.{batch_source, table_source, text_in}
 use Rattle.batch_run.specs.Lost.{Tells}
-use Rattle.batch_answers.specs.Devices.{DepotAt}
-use Rattle.batch_answers.specs.Losses.{OnlyForMemory}
-use Rattle.batch_answers.specs.Running.{IsWorked, Text}
-use Rattle.batch_answers.specs.Work.{Work}
-use Rattle.batch_inputs.specs.declared.inputs.Inputs.{Inputs}
-use Rattle.batch_texts.specs.Answers.{printed}
-use Rattle.batch_texts.specs.Printed.{status as status_in}
-use Rattle.policy_compare.specs.Comparing.{AreRuns, Over, followed}
-use Rattle.policy_compare.specs.Lines.{line_of}
-use Rattle.policy_compare.specs.Policies.{PolicyAt}
-use Rattle.policy_compare.specs.Runs.{IsMade, work_in}
-use Rattle.policy_compare.specs.declared.policy_run.PolicyRun.{PolicyRun}
+use Rattle.run_decision.specs.Devices.{DepotAt}
+use Rattle.run_decision.specs.Losses.{OnlyForMemory}
+use Rattle.run_decision.specs.Running.{IsWorked, Text}
+use Rattle.run_decision.specs.Work.{Work}
+use Rattle.run_inputs.specs.declared.inputs.Inputs.{Inputs}
+use Rattle.run_output.specs.Answers.{printed}
+use Rattle.run_output.specs.Printed.{status as status_in}
+use Rattle.run_policies.specs.Comparing.{AreRuns, Over, followed}
+use Rattle.run_policies.specs.Lines.{line_of}
+use Rattle.run_policies.specs.Policies.{PolicyAt}
+use Rattle.run_policies.specs.Runs.{IsMade, work_in}
+use Rattle.run_policies.specs.declared.policy_run.PolicyRun.{PolicyRun}
 use Rattle.coop_run.specs.Comparing.{HaveWorked, HeadlineUnder, Headlines, Remark, for_any_parts, lost_for_memory, nothing_more}
 use Rattle.coop_run.specs.Ending.{Headline}
 use Rattle.coop_run.proofs.Endings.{headline-of, only-for-memory, status-small}

@@ -8,30 +8,30 @@ use Rattle.command_words.specs.Options.{Request}
 use Rattle.coop_outside.specs.Causes.{Rose}
 use Rattle.coop_outside.specs.Held.{Held}
 use Rattle.coop_outside.specs.Taken.{grown}
-use Rattle.csv_rows.specs.Rows.{table_records}
-use Rattle.run_texts.specs.Stops.{status_of}
-use Rattle.run_texts.specs.declared.stop.Stop.{Stop}
-use Rattle.run_texts.specs.declared.stop.Stop.TheVariants as stop
+use Rattle.csv_load.specs.Rows.{table_records}
+use Rattle.run_output.specs.Stops.{status_of}
+use Rattle.run_output.specs.declared.stop.Stop.{Stop}
+use Rattle.run_output.specs.declared.stop.Stop.TheVariants as stop
 use Rattle.scan_story.specs.Causes.{Licensed}
 use Rattle.scan_story.specs.Spent.{reads}
 use Rattle.scan_story.specs.Views.{past}
-use Rattle.batch_inputs.specs.Ending.{IsReadFault, IsTextOf}
-use Rattle.batch_inputs.specs.Order.{first_stop}
-use Rattle.batch_inputs.specs.Sources.{Source, made, stored, batch_source, table_source, text_in}
-use Rattle.batch_inputs.specs.Statements.{statements_in}
+use Rattle.run_inputs.specs.Ending.{IsReadFault, IsTextOf}
+use Rattle.run_inputs.specs.Order.{first_stop}
+use Rattle.run_inputs.specs.Sources.{Source, made, stored, batch_source, table_source, text_in}
+use Rattle.run_inputs.specs.Statements.{statements_in}
 use Rattle.batch_run.specs.Lost.{Tells}
-use Rattle.batch_texts.specs.Answers.{printed}
-use Rattle.batch_texts.specs.Outcomes.{losses}
-use Rattle.batch_texts.specs.Output.{PrintEach}
-use Rattle.batch_texts.specs.Printed.{Printed, is_answered, output, status}
-use Rattle.batch_answers.specs.Deciding.{ComesTo, HasWorked, IsDecided, IsDecision, IsUntouched, Runs}
-use Rattle.batch_answers.specs.Devices.{DepotAt, OverShelf, OverSink}
-use Rattle.batch_answers.specs.Losses.{OnlyForMemory}
-use Rattle.batch_answers.specs.Running.{IsIdle, Text}
-use Rattle.batch_answers.specs.Tasks.{totals_of, trace_of}
-use Rattle.batch_answers.specs.Work.{Work}
-use Rattle.batch_answers.proofs.Given.{rows-same}
-use Rattle.batch_answers.proofs.Stopping.{first-before}
+use Rattle.run_output.specs.Answers.{printed}
+use Rattle.run_output.specs.Outcomes.{losses}
+use Rattle.run_output.specs.Output.{PrintEach}
+use Rattle.run_output.specs.Printed.{Printed, is_answered, output, status}
+use Rattle.run_decision.specs.Deciding.{ComesTo, HasWorked, IsDecided, IsDecision, IsUntouched, Runs}
+use Rattle.run_decision.specs.Devices.{DepotAt, OverShelf, OverSink}
+use Rattle.run_decision.specs.Losses.{OnlyForMemory}
+use Rattle.run_decision.specs.Running.{IsIdle, Text}
+use Rattle.run_decision.specs.Tasks.{totals_of, trace_of}
+use Rattle.run_decision.specs.Work.{Work}
+use Rattle.run_decision.proofs.Given.{rows-same}
+use Rattle.run_decision.proofs.Stopping.{first-before}
 use Rattle.coop_run.specs.Ending.{HasStatus, Headline, IsExcused, Prints, values_of}
 use Rattle.coop_run.specs.Devices.{AreHonest, Devices}
 use Rattle.coop_run.specs.Did.{Did, work_of}

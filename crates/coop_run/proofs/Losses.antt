@@ -13,7 +13,7 @@ use Rattle.scan_story.specs.MayFollow.{IsRise}
 use Rattle.scan_story.specs.Views.{History}
 use Rattle.batch_plan.specs.Scans.{scan_number}
 use Rattle.batch_run.specs.Lost.{IsLostBy, Tells, cause_from, or_first}
-use Rattle.batch_answers.specs.Losses.{AreLostBy, OnlyForMemory}
+use Rattle.run_decision.specs.Losses.{AreLostBy, OnlyForMemory}
 
 -- the counts of a licensed story don't fall
 pub licensed-rises : (told : Bool) (from to : ℕ) (h : History) → Licensed told from to h → from ≤ to

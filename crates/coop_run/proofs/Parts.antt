@@ -13,18 +13,18 @@ use Rattle.scan_story.specs.declared.entry.Entry.{Entry}
 use Rattle.scan_story.specs.Views.{History, past}
 use Rattle.table_core.specs.Value.{Value}
 use Rattle.table_core.specs.declared.schema.Column.{Column}
-use Rattle.batch_inputs.specs.Statements.{statements_in}
+use Rattle.run_inputs.specs.Statements.{statements_in}
 use Rattle.batch_plan.specs.declared.task.Task.{Task}
 use Rattle.batch_run.specs.Lost.{IsLostBy, cause_of_query}
-use Rattle.batch_texts.specs.Output.{PrintEach}
-use Rattle.batch_texts.specs.Outcomes.{ComesTo}
-use Rattle.batch_texts.specs.Printed.{Printed, summary_of, text_in, trace_of}
-use Rattle.batch_answers.specs.Losses.{AreLostBy, OnlyForMemory, SomeForMemory}
-use Rattle.batch_answers.specs.Running.{TookEachOnce, delivered_to, queries_in, zones_in}
-use Rattle.batch_answers.specs.Tasks as tasks
-use Rattle.batch_answers.specs.Work.{Work}
-use Rattle.batch_answers.proofs.Losing.{tasks_within}
-use Rattle.batch_answers.proofs.Parting.{zip-length}
+use Rattle.run_output.specs.Output.{PrintEach}
+use Rattle.run_output.specs.Outcomes.{ComesTo}
+use Rattle.run_output.specs.Printed.{Printed, summary_of, text_in, trace_of}
+use Rattle.run_decision.specs.Losses.{AreLostBy, OnlyForMemory, SomeForMemory}
+use Rattle.run_decision.specs.Running.{TookEachOnce, delivered_to, queries_in, zones_in}
+use Rattle.run_decision.specs.Tasks as tasks
+use Rattle.run_decision.specs.Work.{Work}
+use Rattle.run_decision.proofs.Losing.{tasks_within}
+use Rattle.run_decision.proofs.Parting.{zip-length}
 use Rattle.coop_run.specs.Ending.{Headline, IsForAnyParts, values_of}
 
 -- for some query memory was wanting, or none is lost

@@ -2,13 +2,13 @@
 use Rattle.std.proofs.Common.{◌≡◌, ◌∙◌, ◌++◌, ℕ, List, [], ◌∷◌, Err, refl, sym, ap, arith, inl, inr}
 use Rattle.std.proofs.lemmas.List.{append-nil}
 use Rattle.std.proofs.lemmas.List.Elements.{All-from_recursion}
-use Rattle.run_texts.specs.declared.stop.Stop.{Stop}
-use Rattle.batch_answers.specs.Deciding.{IsUntouched}
-use Rattle.batch_answers.specs.Devices.{DepotAt, OverSink}
+use Rattle.run_output.specs.declared.stop.Stop.{Stop}
+use Rattle.run_decision.specs.Deciding.{IsUntouched}
+use Rattle.run_decision.specs.Devices.{DepotAt, OverSink}
 use Rattle.coop_run.specs.Ending.{Prints}
-use Rattle.policy_compare.specs.Joined.{joined_story}
-use Rattle.policy_compare.specs.Policies.{PolicyAt}
-use Rattle.policy_compare.specs.declared.policy_run.PolicyRun.{PolicyRun}
+use Rattle.run_policies.specs.Joined.{joined_story}
+use Rattle.run_policies.specs.Policies.{PolicyAt}
+use Rattle.run_policies.specs.declared.policy_run.PolicyRun.{PolicyRun}
 use Rattle.coop_run.specs.Runs.{AreOfOne, joined_taken, work_under}
 use Rattle.coop_run.proofs.Endings.{stops-late}
 

@@ -1,13 +1,13 @@
 -- Words that are refused, and want of memory for them.
 use Rattle.std.proofs.Common.{◌≡◌, Option, Some, None, Err, refl, ap, inl, inr, ◌⊎◌}
 use Rattle.command_words.specs.Options.{Request}
-use Rattle.run_texts.specs.declared.stop.Stop.{Stop}
-use Rattle.run_texts.specs.declared.stop.Stop.TheVariants as stop
-use Rattle.batch_inputs.specs.Sources.{batch_source, table_source}
-use Rattle.batch_inputs.proofs.Texts.{some-text}
-use Rattle.batch_answers.specs.Deciding.{IsDecided, IsDecision, IsUntouched}
-use Rattle.batch_answers.specs.Devices.{OverShelf}
-use Rattle.batch_answers.specs.Work.{Work}
+use Rattle.run_output.specs.declared.stop.Stop.{Stop}
+use Rattle.run_output.specs.declared.stop.Stop.TheVariants as stop
+use Rattle.run_inputs.specs.Sources.{batch_source, table_source}
+use Rattle.run_inputs.proofs.Texts.{some-text}
+use Rattle.run_decision.specs.Deciding.{IsDecided, IsDecision, IsUntouched}
+use Rattle.run_decision.specs.Devices.{OverShelf}
+use Rattle.run_decision.specs.Work.{Work}
 
 -- want of memory may end any run before it reads
 pub memory-ends : (r : Request) (shelf : OverShelf) (w : Work) → IsUntouched w → IsDecided r shelf w (Err stop.Memory)

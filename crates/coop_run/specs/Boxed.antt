@@ -5,15 +5,15 @@ use Rattle.command_words.specs.Options.{Request}
 use Rattle.scan_story.specs.Causes.{Licensed}
 use Rattle.scan_story.specs.Spent.{reads}
 use Rattle.scan_story.specs.Views.{past}
-use Rattle.run_texts.specs.declared.stop.Stop.{Stop}
-use Rattle.run_texts.specs.declared.stop.Stop.TheVariants as stop
-use Rattle.batch_answers.specs.Deciding.{IsDecided}
-use Rattle.batch_answers.specs.Devices.{DepotAt, OverShelf}
-use Rattle.batch_answers.specs.Running.{Text}
-use Rattle.policy_compare.specs.Comparing.{IsCompared}
-use Rattle.policy_compare.specs.Joined.{joined_story}
-use Rattle.policy_compare.specs.Policies.{PolicyAt}
-use Rattle.policy_compare.specs.declared.policy_run.PolicyRun.{PolicyRun}
+use Rattle.run_output.specs.declared.stop.Stop.{Stop}
+use Rattle.run_output.specs.declared.stop.Stop.TheVariants as stop
+use Rattle.run_decision.specs.Deciding.{IsDecided}
+use Rattle.run_decision.specs.Devices.{DepotAt, OverShelf}
+use Rattle.run_decision.specs.Running.{Text}
+use Rattle.run_policies.specs.Comparing.{IsCompared}
+use Rattle.run_policies.specs.Joined.{joined_story}
+use Rattle.run_policies.specs.Policies.{PolicyAt}
+use Rattle.run_policies.specs.declared.policy_run.PolicyRun.{PolicyRun}
 use Rattle.coop_run.specs.Comparing.{AllHaveWorked, AreComplete, AreForAllParts, AreLines, KeepsHeadlines, KeepsHeadlinesCut, LeavesAll}
 use Rattle.coop_run.specs.Devices.{Devices}
 use Rattle.coop_run.specs.Ending.{Prints}

@@ -2,17 +2,17 @@
 use Rattle.std.specs.Prelude.{◌≡◌, ◌≤◌, ◌⊎◌, ℕ, max, List, [], ◌∷◌, All, Option, Some, None, ⊤}
 use Rattle.coop_outside.specs.Causes.{Rose}
 use Rattle.command_words.specs.Options.{Request}
-use Rattle.batch_inputs.specs.Ending.{IsTextOf}
-use Rattle.batch_inputs.specs.Sources.{batch_source, table_source}
-use Rattle.batch_answers.specs.Devices.{DepotAt, OverShelf, OverSink}
-use Rattle.batch_answers.specs.Losses.{OnlyForMemory, SomeForMemory}
-use Rattle.batch_answers.specs.Running.{IsWorked}
-use Rattle.batch_answers.specs.Work.{Work}
-use Rattle.policy_compare.specs.Comparing.{Over}
-use Rattle.policy_compare.specs.Lines.{lines_of}
-use Rattle.policy_compare.specs.Policies.{PolicyAt}
-use Rattle.policy_compare.specs.Runs.{work_in}
-use Rattle.policy_compare.specs.declared.policy_run.PolicyRun.{PolicyRun}
+use Rattle.run_inputs.specs.Ending.{IsTextOf}
+use Rattle.run_inputs.specs.Sources.{batch_source, table_source}
+use Rattle.run_decision.specs.Devices.{DepotAt, OverShelf, OverSink}
+use Rattle.run_decision.specs.Losses.{OnlyForMemory, SomeForMemory}
+use Rattle.run_decision.specs.Running.{IsWorked}
+use Rattle.run_decision.specs.Work.{Work}
+use Rattle.run_policies.specs.Comparing.{Over}
+use Rattle.run_policies.specs.Lines.{lines_of}
+use Rattle.run_policies.specs.Policies.{PolicyAt}
+use Rattle.run_policies.specs.Runs.{work_in}
+use Rattle.run_policies.specs.declared.policy_run.PolicyRun.{PolicyRun}
 use Rattle.coop_run.specs.Devices.{AreFaultless, AreHonest, Devices}
 use Rattle.coop_run.specs.Runs.{DidRuns}
 use Rattle.coop_run.specs.Ending.{Headline, IsCutShort, IsForAnyParts, IsWritten, stop_over}

@@ -5,7 +5,7 @@ use Rattle.coop_outside.specs.declared.depot.Depot.{Ghosts as Depot}
 use Rattle.coop_outside.specs.declared.shelf.Shelf.{Ghosts as Shelf}
 use Rattle.coop_outside.specs.declared.sink.Sink.{Ghosts as Sink}
 use Rattle.batch_run.specs.Lost.{Tells}
-use Rattle.batch_answers.specs.Devices.{DepotAt, OverShelf, OverSink, depot_at, over_shelf, over_sink}
+use Rattle.run_decision.specs.Devices.{DepotAt, OverShelf, OverSink, depot_at, over_shelf, over_sink}
 
 -- a depot before a run and after it
 pub record OverDepot : Type 0 where

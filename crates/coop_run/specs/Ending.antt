@@ -4,24 +4,24 @@ use Rattle.coop_outside.specs.Causes.{Rose}
 use Rattle.coop_outside.specs.Taken.{grown}
 use Rattle.command_words.specs.Options.{Request}
 use Rattle.csv_load.specs.Meaning.{Values, table_of}
-use Rattle.csv_rows.specs.Rows.{table_records}
+use Rattle.csv_load.specs.Rows.{table_records}
 use Rattle.filter_zones.specs.Possible.{needed}
 use Rattle.scan_story.specs.Views.{past}
 use Rattle.scan_story.specs.declared.cause.Cause.{Cause}
-use Rattle.run_texts.specs.Stops.{line_of, status_of}
-use Rattle.run_texts.specs.declared.stop.Stop.{Stop}
-use Rattle.batch_inputs.specs.Ending.{AreInputs}
-use Rattle.batch_inputs.specs.Order.{first_stop}
-use Rattle.batch_inputs.specs.Sources.{batch_source, table_source, text_in}
-use Rattle.batch_inputs.specs.Statements.{statements_in}
-use Rattle.batch_inputs.specs.declared.inputs.Inputs.{Inputs}
+use Rattle.run_output.specs.Stops.{line_of, status_of}
+use Rattle.run_output.specs.declared.stop.Stop.{Stop}
+use Rattle.run_inputs.specs.Ending.{AreInputs}
+use Rattle.run_inputs.specs.Order.{first_stop}
+use Rattle.run_inputs.specs.Sources.{batch_source, table_source, text_in}
+use Rattle.run_inputs.specs.Statements.{statements_in}
+use Rattle.run_inputs.specs.declared.inputs.Inputs.{Inputs}
 use Rattle.batch_plan.specs.declared.task.Task.{Task}
-use Rattle.batch_texts.specs.Output.{IsOutput}
-use Rattle.batch_answers.specs.Devices.{OverShelf, OverSink}
-use Rattle.batch_answers.specs.Losses.{AreLostBy, OnlyForMemory, SomeForMemory}
-use Rattle.batch_answers.specs.Running.{IsWorked, Text, delivered_to, queries_in, zones_in}
-use Rattle.batch_answers.specs.Tasks.{totals_of, trace_of}
-use Rattle.batch_answers.specs.Work.{Work}
+use Rattle.run_output.specs.Output.{IsOutput}
+use Rattle.run_decision.specs.Devices.{OverShelf, OverSink}
+use Rattle.run_decision.specs.Losses.{AreLostBy, OnlyForMemory, SomeForMemory}
+use Rattle.run_decision.specs.Running.{IsWorked, Text, delivered_to, queries_in, zones_in}
+use Rattle.run_decision.specs.Tasks.{totals_of, trace_of}
+use Rattle.run_decision.specs.Work.{Work}
 
 -- the sink took the whole text
 abbrev pub IsWritten : List ℕ → OverSink → Type 0

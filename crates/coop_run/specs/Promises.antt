@@ -5,12 +5,12 @@ use Rattle.command_words.specs.Options.{Request}
 use Rattle.scan_story.specs.Causes.{Licensed}
 use Rattle.scan_story.specs.Spent.{reads}
 use Rattle.scan_story.specs.Views.{past}
-use Rattle.run_texts.specs.declared.stop.Stop.{Stop}
-use Rattle.batch_inputs.specs.Ending.{SourceFails}
-use Rattle.batch_inputs.specs.Sources.{batch_source, table_source}
-use Rattle.batch_answers.specs.Deciding.{HasWorked, IsDecision}
-use Rattle.batch_answers.specs.Devices.{OverShelf}
-use Rattle.batch_answers.specs.Running.{Text}
+use Rattle.run_output.specs.declared.stop.Stop.{Stop}
+use Rattle.run_inputs.specs.Ending.{SourceFails}
+use Rattle.run_inputs.specs.Sources.{batch_source, table_source}
+use Rattle.run_decision.specs.Deciding.{HasWorked, IsDecision}
+use Rattle.run_decision.specs.Devices.{OverShelf}
+use Rattle.run_decision.specs.Running.{Text}
 use Rattle.coop_run.specs.Devices.{AreFaultless, AreHonest, Devices}
 use Rattle.coop_run.specs.Did.{Did, work_of}
 use Rattle.coop_run.specs.Ending.{ComesExactly, HasStatus, Headline, IsCutShort, IsWritten, Prints, WritesAll, WritesForAnyParts, stop_over}

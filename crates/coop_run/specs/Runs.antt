@@ -2,11 +2,11 @@
 use Rattle.std.specs.Prelude.{◌≡◌, ◌≢◌, ◌≤◌, ◌⊎◌, ◌++◌, ℕ, List, [], ◌∷◌, All, length, map}
 use Rattle.scan_story.specs.declared.setting.PolicyName.{PolicyName}
 use Rattle.batch_run.specs.declared.taken.Taken.{Taken}
-use Rattle.batch_answers.specs.Devices.{DepotAt}
-use Rattle.batch_answers.specs.Work.{Work, work}
-use Rattle.policy_compare.specs.Joined.{joined_story}
-use Rattle.policy_compare.specs.Policies.{PolicyAt}
-use Rattle.policy_compare.specs.declared.policy_run.PolicyRun.{PolicyRun}
+use Rattle.run_decision.specs.Devices.{DepotAt}
+use Rattle.run_decision.specs.Work.{Work, work}
+use Rattle.run_policies.specs.Joined.{joined_story}
+use Rattle.run_policies.specs.Policies.{PolicyAt}
+use Rattle.run_policies.specs.declared.policy_run.PolicyRun.{PolicyRun}
 use Rattle.coop_run.specs.Did.{Did, did_with}
 
 -- the chunks that the scans of runs took

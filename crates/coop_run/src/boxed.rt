@@ -3,10 +3,10 @@ ghost use Rattle.std.specs.Prelude.{◌≡◌, ◌≤◌, ◌<◌, ◌^◌, [], 
 ghost use Rattle.command_words.specs.Limits.{IsWithinLimits};
 ghost use Rattle.command_words.specs.Views.{request_view};
 ghost use Rattle.command_words.specs.declared.call.Call.TheVariants.{RunBoxed};
-ghost use Rattle.batch_inputs.specs.Asked.{asked_of};
-ghost use Rattle.batch_answers.specs.Answering.{story_in, taken_in};
-ghost use Rattle.policy_compare.specs.Joined.{joined_story};
-ghost use Rattle.policy_compare.specs.Policies.{policy_at};
+ghost use Rattle.run_inputs.specs.Asked.{asked_of};
+ghost use Rattle.run_decision.specs.Answering.{story_in, taken_in};
+ghost use Rattle.run_policies.specs.Joined.{joined_story};
+ghost use Rattle.run_policies.specs.Policies.{policy_at};
 ghost use Rattle.coop_run.specs.Boxed.{ComparesAndPrints, DecidesAndPrintsOn, KeepsPromisesOn, LeavesRuns};
 ghost use Rattle.coop_run.specs.Devices.{devices, sink_over};
 ghost use Rattle.coop_run.specs.Did.{policy_of};
@@ -19,15 +19,15 @@ use crate::boxed_end::BoxedEnd;
 use crate::print::print;
 use crate::settle::{Settled, refuse, settle};
 use crate::taken_policy::TakenPolicy;
-use batch_answers::Ran;
-use batch_inputs::request_in;
 use command_words::{Call, Request};
 use coop_outside::{Depot, Shelf, Sink};
 use cscan::Gate;
 use policy_box::{Boxed, choose};
-use policy_compare::{Compared, PolicyRun, compare};
 use relevance::Policy;
-use run_texts::Stop;
+use run_decision::Ran;
+use run_inputs::request_in;
+use run_output::Stop;
+use run_policies::{Compared, PolicyRun, compare};
 use scan_story::PolicyName;
 use std::alloc::Global;
 use std::hash::RandomState;
@@ -81,7 +81,8 @@ fn run_taken<F: Shelf, D: Depot + Send, O: Sink, T: Gate + Sync, R: Threads + Wa
         (job_of (map (λ p. policy_at (name p) (cursor p)) policies.items) (asked_of RunBoxed words.now))
         (devices F.Shelf shelf.old shelf.new D.Depot depot result.depot O.Sink out.old out.new)
         (did_runs result.status result.runs.items) }
-    ensures runs { LeavesRuns (job_of (map (λ p. policy_at (name p) (cursor p)) policies.items) (asked_of RunBoxed words.now))
+    ensures runs { LeavesRuns (job_of (map (λ p. policy_at (name p) (cursor p)) policies.items)
+        (asked_of RunBoxed words.now))
         result.status result.runs.items }
 {
     let request = match request_in(alloc, Call::RunBoxed, words) {

@@ -1,6 +1,6 @@
 // What a run with boxed policies leaves.
 
-use policy_compare::PolicyRun;
+use run_policies::PolicyRun;
 
 /// What a run with boxed policies leaves.
 #[derive(Drop)]

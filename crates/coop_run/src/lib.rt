@@ -23,4 +23,4 @@ pub use boxed::run_boxed;
 pub use boxed_end::BoxedEnd;
 pub use ended::Ended;
 pub use one_policy::{run, run_settings};
-pub use policy_compare::PolicyRun;
+pub use run_policies::PolicyRun;

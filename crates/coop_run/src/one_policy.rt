@@ -3,19 +3,19 @@ ghost use Rattle.std.specs.Prelude.{◌≡◌, ◌≢◌, ◌≤◌, ◌^◌, So
 ghost use Rattle.command_words.specs.Limits.{IsWithinLimits};
 ghost use Rattle.command_words.specs.Views.{request_view};
 ghost use Rattle.command_words.specs.declared.call.Call.TheVariants.{Run};
-ghost use Rattle.batch_inputs.specs.Asked.{asked_of};
-ghost use Rattle.batch_answers.specs.Answering.{story_in, taken_in};
+ghost use Rattle.run_inputs.specs.Asked.{asked_of};
+ghost use Rattle.run_decision.specs.Answering.{story_in, taken_in};
 ghost use Rattle.coop_run.specs.Devices.{devices};
 ghost use Rattle.coop_run.specs.Did.{did_with, policy_of};
 ghost use Rattle.coop_run.specs.Promises.{DecidesAndPrints, KeepsPromises};
 
 use crate::ended::Ended;
 use crate::settle::{Settled, settle, settle_words};
-use batch_answers::Ran;
 use command_words::Request;
 use coop_outside::{Depot, Shelf, Sink};
 use cscan::Gate;
 use relevance::Policy;
+use run_decision::Ran;
 use std::alloc::Global;
 use std::hash::RandomState;
 use std::sync::Wait;

@@ -1,11 +1,11 @@
 // What is written of a decision.
-ghost use Rattle.batch_answers.specs.Deciding.{shown};
+ghost use Rattle.run_decision.specs.Deciding.{shown};
 ghost use Rattle.coop_run.specs.Devices.{sink_over};
 ghost use Rattle.coop_run.specs.Ending.{Prints};
 
-use batch_answers::Output;
 use coop_outside::{Sink, write_all};
-use run_texts::Stop;
+use run_decision::Output;
+use run_output::Stop;
 
 /// Writes the text of a decision, or the line of its stop, and answers the status. It takes no memory.
 pub fn print<O: Sink>(ending: Result<Output, Stop>, out: &mut O) -> u8

@@ -3,21 +3,21 @@ ghost use Rattle.std.specs.Prelude.{◌≡◌, ◌≢◌, ◌≤◌, ◌⊎◌, 
 ghost use Rattle.command_words.specs.Limits.{IsWithinLimits};
 ghost use Rattle.command_words.specs.Views.{request_view};
 ghost use Rattle.command_words.specs.declared.call.Call.TheVariants.{Run};
-ghost use Rattle.batch_inputs.specs.Asked.{asked_of};
-ghost use Rattle.batch_answers.specs.Answering.{story_in, taken_in};
+ghost use Rattle.run_inputs.specs.Asked.{asked_of};
+ghost use Rattle.run_decision.specs.Answering.{story_in, taken_in};
 ghost use Rattle.coop_run.specs.Devices.{devices, sink_over};
 ghost use Rattle.coop_run.specs.Did.{did_with, policy_of};
 ghost use Rattle.coop_run.specs.Ending.{Prints};
 ghost use Rattle.coop_run.specs.Promises.{DecidesAndPrints};
 
 use crate::print::print;
-use batch_answers::{Decision, Ran, decide};
-use batch_inputs::request_in;
 use command_words::{Call, Request};
 use coop_outside::{Depot, Shelf, Sink};
 use cscan::Gate;
 use relevance::Policy;
-use run_texts::Stop;
+use run_decision::{Decision, Ran, decide};
+use run_inputs::request_in;
+use run_output::Stop;
 use std::alloc::Global;
 use std::hash::RandomState;
 use std::sync::Wait;

@@ -119,7 +119,8 @@ fn cell_by<C: Content>(
     requires column { HasColumn framed.piece column }
     ensures same { berth.new ≡ berth.old }
     ensures fits { FitsKind (kind_at shape.now column) (dict_len_at shape.now column) result }
-    ensures cell { (held : Stored) (rows : List (List Cell)) → HoldsTable held C.pieces shape.now rows → result ≡ cell_at (piece_rows shape.now rows framed.number) row column }
+    ensures cell { (held : Stored) (rows : List (List Cell)) → HoldsTable held C.pieces shape.now rows → result
+        ≡ cell_at (piece_rows shape.now rows framed.number) row column }
 {
     let null = is_set(nulls, framed.piece.null_bit(row, column));
     let word = pool.word(berth, framed.frame, framed.piece.value_place(row, column));
@@ -141,7 +142,8 @@ pub(crate) fn cell_in_frame<C: Content>(
     requires column { HasColumn framed.piece column }
     ensures same { berth.new ≡ berth.old }
     ensures fits { FitsKind (kind_at shape.now column) (dict_len_at shape.now column) result }
-    ensures cell { (held : Stored) (rows : List (List Cell)) → HoldsTable held C.pieces shape.now rows → result ≡ cell_at (piece_rows shape.now rows framed.number) row column }
+    ensures cell { (held : Stored) (rows : List (List Cell)) → HoldsTable held C.pieces shape.now rows → result
+        ≡ cell_at (piece_rows shape.now rows framed.number) row column }
 {
     let nulls = nulls_of(pool, shape, berth, framed, row);
     cell_by(pool, shape, berth, framed, nulls, row, column)

@@ -61,7 +61,8 @@ fn read_in<C: Content, D: Depot, R: Wait>(
     ensures held { D.held depot.new ≡ D.held depot.old }
     ensures later { D.faults depot.old ≤ D.faults depot.new }
     ensures why { IfErr result (λ why. MayReport (D.held depot.old) (D.faults depot.old) (D.faults depot.new) why) }
-    ensures sound { let q = piece_at shape.now slot.1 in OnOk result (NoneBroken shape.now q (word_of bytes.new) (words_in q)) }
+    ensures sound { let q = piece_at shape.now slot.1 in OnOk result
+        (NoneBroken shape.now q (word_of bytes.new) (words_in q)) }
 {
     let (frame, piece) = slot;
     pool.mark(rt, berth, frame);
@@ -104,7 +105,8 @@ pub(crate) fn read_all<C: Content, D: Depot, R: Wait>(
     ensures held { D.held depot.new ≡ D.held depot.old }
     ensures later { D.faults depot.old ≤ D.faults depot.new }
     ensures read { OnOk result (D.gets depot.new ≡ D.gets depot.old + length slots.now) }
-    ensures failed { IfErr result (λ f. (f.done < length slots.now) × (D.gets depot.new ≡ D.gets depot.old + f.done + 1)) }
+    ensures failed { IfErr result (λ f. (f.done < length slots.now)
+        × (D.gets depot.new ≡ D.gets depot.old + f.done + 1)) }
     ensures why { IfErr result (λ f. MayReport (D.held depot.old) (D.faults depot.old) (D.faults depot.new) f.why) }
 {
     for i in 0..slots.len() {

@@ -114,7 +114,8 @@ impl Held {
         ensures same { IsSameScan scan.old scan.new }
         ensures out { scan.new.out ≡ None }
         ensures scan { IsScan S.origin C.pieces scan.new }
-        ensures released { Releases scan.old.station.now.number scan.old.query scan.old.station.now.pass scan.new.station.now.pass self.given.chunk }
+        ensures released { Releases scan.old.station.now.number scan.old.query scan.old.station.now.pass
+            scan.new.station.now.pass self.given.chunk }
     {
         let Held { given } = self;
         let pool = scan.pool;

@@ -30,12 +30,15 @@ fn settle<S: Origin, P: Policy, D: Depot>(
     read: Result<(), Failure>,
 )
     requires load { underway S.origin.setting (past desk.old) ≡ Some (load_of ticket []) }
-    requires read { OnOk read (ComesBack S.origin (past desk.old) (length ticket.slots) (depot_view (D.held depot) (D.gets depot) (D.faults depot))) }
-    requires failed { IfErr read (λ f. (f.done < length ticket.slots) × ComesBack S.origin (past desk.old) (f.done + 1) (depot_view (D.held depot) (D.gets depot) (D.faults depot))) }
+    requires read { OnOk read (ComesBack S.origin (past desk.old) (length ticket.slots)
+        (depot_view (D.held depot) (D.gets depot) (D.faults depot))) }
+    requires failed { IfErr read (λ f. (f.done < length ticket.slots)
+        × ComesBack S.origin (past desk.old) (f.done + 1) (depot_view (D.held depot) (D.gets depot) (D.faults depot))) }
     requires why { IfErr read (λ f. MayReport S.origin (past desk.old) (D.faults depot) f.why) }
     ensures settled { Settles ticket.worker desk.old desk.new }
     ensures legal { Legal S.origin.setting (past desk.new) }
-    ensures may { (q : ℕ) → RunsOn S.origin.setting (past desk.old) q ticket.worker → MayTurn S.origin.setting (past desk.new) ticket.worker q }
+    ensures may { (q : ℕ) → RunsOn S.origin.setting (past desk.old) q ticket.worker
+        → MayTurn S.origin.setting (past desk.new) ticket.worker q }
 {
     match read {
         Ok(()) => desk.filled(ticket, depot),
@@ -58,7 +61,8 @@ pub(crate) fn load<S: Origin, C: Content, P: Policy, D: Depot, R: Wait>(
     requires legal { Legal S.origin.setting (past station.old.pass.seen) }
     requires worker { loading.0.worker ≡ station.old.number }
     requires load { underway S.origin.setting (past station.old.pass.seen) ≡ Some (load_of loading.0 []) }
-    requires depot { IsHandedOut S.origin (past station.old.pass.seen) (length loading.0.slots) (depot_view (D.held loading.1) (D.gets loading.1) (D.faults loading.1)) }
+    requires depot { IsHandedOut S.origin (past station.old.pass.seen) (length loading.0.slots)
+        (depot_view (D.held loading.1) (D.gets loading.1) (D.faults loading.1)) }
     ensures seated { IsSeated baton.now pool.now S.origin [] station.new }
     ensures number { station.new.number ≡ station.old.number }
     ensures settled { IsSettled S.origin.setting station.old.number station.old.pass station.new.pass }

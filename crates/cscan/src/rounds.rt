@@ -54,7 +54,8 @@ pub(crate) fn turn_once<S: Origin, C: Content, P: Policy, D: Depot, R: Wait>(
     requires may { MayTurn S.origin.setting (past station.old.pass.seen) station.old.number query }
     ensures seated { IsSeated baton.now pool.now S.origin (slots_of result) station.new }
     ensures number { station.new.number ≡ station.old.number }
-    ensures round { IsRound S.origin.setting shape.now station.old.number query station.old.pass station.new.pass result }
+    ensures round { IsRound S.origin.setting shape.now station.old.number query station.old.pass station.new.pass
+        result }
 {
     let number = station.number;
     let mut desk = baton.take(rt, &mut station.pass);
@@ -93,7 +94,8 @@ pub(crate) fn turn_on<S: Origin, C: Content, P: Policy, D: Depot, R: Wait>(
     requires may { MayTurn S.origin.setting (past station.old.pass.seen) station.old.number query }
     ensures seated { IsSeated baton.now pool.now S.origin (slots_of result) station.new }
     ensures number { station.new.number ≡ station.old.number }
-    ensures round { IsRound S.origin.setting shape.now station.old.number query station.old.pass station.new.pass result }
+    ensures round { IsRound S.origin.setting shape.now station.old.number query station.old.pass station.new.pass
+        result }
     ensures end { IsEnd result }
 {
     for _ in rt.forever() {

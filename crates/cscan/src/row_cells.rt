@@ -29,7 +29,8 @@ pub(crate) fn read_columns<C: Content>(
     requires width { length cells.old ≡ length shape.now.kinds }
     ensures same { berth.new ≡ berth.old }
     ensures width { length cells.new ≡ length cells.old }
-    ensures read { AreForPlaces C.pieces shape.now (chunk_of shape.now framed.number) row columns.now (length cells.old) cells.new }
+    ensures read { AreForPlaces C.pieces shape.now (chunk_of shape.now framed.number) row columns.now
+        (length cells.old) cells.new }
 {
     let nulls = nulls_of(pool, shape, berth, framed, row);
     for x in 0..cells.len() as u32 {
@@ -58,7 +59,8 @@ pub(crate) fn read_slots<C: Content>(
     requires width { length cells.old ≡ length shape.now.kinds }
     ensures same { berth.new ≡ berth.old }
     ensures width { length cells.new ≡ length cells.old }
-    ensures read { AreForSlots C.pieces shape.now given.now.chunk row columns.now given.now.slots (length given.now.slots) cells.new }
+    ensures read { AreForSlots C.pieces shape.now given.now.chunk row columns.now given.now.slots
+        (length given.now.slots) cells.new }
 {
     let first = given.chunk * cells.len() as u32;
     cells.fill(Cell::Null);

@@ -116,7 +116,8 @@ impl<'a, S: Origin, C: Content, P: Policy, D: Depot> CScan<'a, S, C, P, D> {
         requires none { self.out ≡ None }
         ensures number { self.exit.0.now.number ≡ self.entry.station.now.number }
         ensures over { IsOver S.origin self.entry.baton.now self.entry.pool.now self.entry.query self.exit.0.now }
-        ensures cause { IsStoppedBy self.entry.station.now.number self.entry.query self.entry.station.now.pass self.exit.0.now.pass result }
+        ensures cause { IsStoppedBy self.entry.station.now.number self.entry.query self.entry.station.now.pass
+            self.exit.0.now.pass result }
     {
         let CScan {
             station,

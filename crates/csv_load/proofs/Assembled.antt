@@ -8,9 +8,9 @@ use Rattle.std.proofs.lemmas.Nat.{mul-add-lt, mod-mul-add}
 use Rattle.std.proofs.Math.Nat.{mul-div_left, mul-le-mul_right}
 use Rattle.std.proofs.lemmas.List.{get_or-map, length-map, ext_get_or, length-take-le, length-drop, get_or-take, get_or-drop}
 use Rattle.std.proofs.lemmas.List.Elements.{All-nil, All-cons, All-head, All-tail, All-from_get_or, All-get_or}
-use Rattle.column_types.specs.Kinds.{is_of, kind_of, value_as}
-use Rattle.column_types.proofs.Holding.{same-kind, holds}
-use Rattle.csv_rows.specs.Judged.{Fields, refusal_of}
+use Rattle.csv_load.specs.Kinds.{is_of, kind_of, value_as}
+use Rattle.csv_load.proofs.Holding.{same-kind, holds}
+use Rattle.csv_load.specs.Judged.{Fields, refusal_of}
 use Rattle.table_core.specs.declared.limits.TheConstants.{MOST_COLUMNS, MOST_ROWS}
 use Rattle.csv_load.proofs.Finishing.{column-dict, column-same, get_or-column_at, get_or-columns_from, get_or-zip_with, length-column_at, length-columns_from, length-zip_with, zip-get, zip-length}
 use Rattle.csv_load.specs.Finished.{column_with, columns_with}

@@ -5,9 +5,9 @@ use Rattle.std.proofs.lemmas.Bool.{cases_eq}
 use Rattle.std.specs.List.{AllZip}
 use Rattle.std.proofs.lemmas.List.{get_or-map, length-map, get_or_default}
 use Rattle.std.proofs.lemmas.List.Elements.{All-from_get_or, All-get_or, All-weaker, All-contains, Contains-get_or}
-use Rattle.column_types.specs.Kinds.{is_of, kind_of, value_as}
-use Rattle.column_types.proofs.Holding.{AreSame}
-use Rattle.csv_rows.specs.Judged.{Fields}
+use Rattle.csv_load.specs.Kinds.{is_of, kind_of, value_as}
+use Rattle.csv_load.proofs.Holding.{AreSame}
+use Rattle.csv_load.specs.Judged.{Fields}
 use Rattle.csv_load.specs.Finished.{columns_with}
 use Rattle.csv_load.specs.Gathered.{AreRead, IsCell, Stands, code_at, code_cell}
 use Rattle.csv_load.specs.Meaning.{IsColumnDict, IsDictionary, column_at, columns_from}
@@ -19,7 +19,7 @@ use Rattle.table_core.specs.declared.cell.Cell.TheVariants.{Null, Int, Code}
 use Rattle.table_core.specs.declared.schema.Column.{Column}
 use Rattle.table_core.specs.declared.schema.Kind.{Kind}
 use Rattle.table_core.specs.declared.schema.Kind.TheVariants as kinds
-use Rattle.text_ranks.specs.Ranks.{IsRanked, stands_for}
+use Rattle.csv_load.specs.Ranks.{IsRanked, stands_for}
 
 pub length-zip_with : {A B C : Type 0} (f : A → B → C) (xs : List A) (ys : List B) → length xs ≡ length ys → length (zip_with f xs ys) ≡ length xs
 length-zip_with f [] ys e = refl

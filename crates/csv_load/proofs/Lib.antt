@@ -2,3 +2,10 @@ pub mod Assembled
 pub mod Finishing
 pub mod Rowwise
 pub mod Sounds
+pub mod Left
+pub mod Judging
+pub mod Few
+pub mod Holding
+pub mod Numerals
+pub mod Assigning
+pub mod Keys

@@ -6,7 +6,7 @@ use Rattle.std.proofs.lemmas.Nat.{mul-add-lt}
 use Rattle.std.proofs.lemmas.List.{get_or_append_left, get_or-replicate, length-replicate, map-append, append-nil, drop_all, take_all}
 use Rattle.std.proofs.lemmas.List.Elements.{All-nil, All-push, All-weaker, Contains-append_left, Contains-push}
 use Rattle.std.proofs.Math.Seq.{get_or-append_seam}
-use Rattle.csv_rows.specs.Judged.{Fields, refusal_of}
+use Rattle.csv_load.specs.Judged.{Fields, refusal_of}
 use Rattle.table_core.specs.declared.limits.TheConstants.{MOST_ROWS}
 use Rattle.csv_load.specs.Gathered.{AreRead, IsPut, RowPut, Stands}
 use Rattle.csv_load.specs.Meaning.{column_at}

@@ -1,8 +1,8 @@
 -- Fields that were read: for each column its texts, and for each field a cell with the place of its text.
 use Rattle.std.specs.Prelude.{◌≡◌, ◌≢◌, ◌+◌, ◌*◌, ◌<◌, ◌++◌, ◌⊎◌, ℕ, List, [], ◌∷◌, length, slice_index_or, All, Contains, Option, Some, None}
-use Rattle.column_types.specs.Kinds.{value_as}
+use Rattle.csv_load.specs.Kinds.{value_as}
 use Rattle.csv_load.specs.Meaning.{column_at}
-use Rattle.csv_rows.specs.Judged.{Fields}
+use Rattle.csv_load.specs.Judged.{Fields}
 use Rattle.table_core.specs.Value.{FitsColumn, value_in}
 use Rattle.table_core.specs.declared.cell.Cell.{Cell}
 use Rattle.table_core.specs.declared.cell.Cell.TheVariants.{Null, Int, Code}

@@ -5,3 +5,8 @@ pub mod Meaning
 pub mod Reading
 pub mod Seen
 pub mod Typed
+pub mod Rows
+pub mod Judged
+pub mod Kinds
+pub mod Number
+pub mod Ranks

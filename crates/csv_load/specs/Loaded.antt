@@ -1,7 +1,7 @@
 -- What loading a text gives: cells and dictionaries that stand for the table of its records.
 use Rattle.std.specs.Prelude.{◌≡◌, ◌<◌, ◌≤◌, ℕ, List, [], length, map, drop, slice_index_or, None, All}
 use Rattle.csv_load.specs.Meaning.{IsColumnDict, column_at, table_of}
-use Rattle.csv_rows.specs.Judged.{Fields, refusal_of}
+use Rattle.csv_load.specs.Judged.{Fields, refusal_of}
 use Rattle.table_core.specs.declared.limits.TheConstants.{MOST_COLUMNS, MOST_ROWS}
 use Rattle.table_core.specs.Table.{TableRows}
 use Rattle.table_core.specs.Value.{FitsColumn, row_values}

@@ -1,7 +1,7 @@
 -- The table that a list of records is: typed columns, and a value for each field.
 use Rattle.std.specs.Prelude.{◌≡◌, ◌≢◌, ◌+◌, ℕ, List, [], ◌∷◌, map, slice_index_or, All, Contains, ◌⊎◌}
-use Rattle.column_types.specs.Kinds.{kind_of, value_as}
-use Rattle.csv_rows.specs.Judged.{Fields}
+use Rattle.csv_load.specs.Kinds.{kind_of, value_as}
+use Rattle.csv_load.specs.Judged.{Fields}
 use Rattle.table_core.specs.Dict.{Rises}
 use Rattle.table_core.specs.Value.{Value, zip_with}
 use Rattle.table_core.specs.declared.schema.Column.{Column}

@@ -1,7 +1,7 @@
 -- What reading a text gives, before the kinds of its columns are known.
 use Rattle.std.specs.Prelude.{◌≡◌, ◌≤◌, ◌<◌, List, ◌∷◌, length, None}
 use Rattle.csv_load.specs.Gathered.{AreRead}
-use Rattle.csv_rows.specs.Judged.{Fields, refusal_of}
+use Rattle.csv_load.specs.Judged.{Fields, refusal_of}
 use Rattle.table_core.specs.declared.limits.TheConstants.{MOST_ROWS}
 use Rattle.table_core.specs.declared.cell.Cell.{Cell}
 

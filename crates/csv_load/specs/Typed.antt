@@ -1,13 +1,13 @@
 -- A column whose kind is known, and what makes its cells of the places of its texts.
 use Rattle.std.specs.Prelude.{◌≡◌, ◌≢◌, ◌≤◌, ℕ, List, [], true}
-use Rattle.column_types.specs.Kinds.{is_of, kind_of}
+use Rattle.csv_load.specs.Kinds.{is_of, kind_of}
 use Rattle.csv_load.specs.Gathered.{IsCell, Stands}
 use Rattle.csv_load.specs.declared.typed.Typed.{Typed}
-use Rattle.csv_rows.specs.Judged.{Fields}
+use Rattle.csv_load.specs.Judged.{Fields}
 use Rattle.table_core.specs.Value.{places_of}
 use Rattle.table_core.specs.declared.cell.Cell.{Cell}
 use Rattle.table_core.specs.declared.schema.Kind.TheVariants.{Text}
-use Rattle.text_ranks.specs.Ranks.{IsRanked}
+use Rattle.csv_load.specs.Ranks.{IsRanked}
 
 -- the column of these texts
 pub record IsTyped (texts : Fields) (column : Typed) : Type 0 where

@@ -2,7 +2,7 @@
 ghost use Rattle.std.specs.Prelude.{◌≡◌, ◌<◌, [], List, ℕ, IfOk, IfSome, length, slice_index_or};
 ghost use Rattle.csv_load.specs.Gathered.{IsPut};
 ghost use Rattle.csv_load.specs.Seen.{AreSound};
-ghost use Rattle.csv_rows.specs.Judged.{Fields};
+ghost use Rattle.csv_load.specs.Judged.{Fields};
 
 use crate::seeded::Seeded;
 use std::alloc::{AllocError, Global};
@@ -16,7 +16,8 @@ const MOST_SEEN: usize = 32768;
 
 // The place of a text among the first `count` texts, where it was remembered and they aren't too many.
 fn place_seen(seen: &HashMap<Vec<u8>, u32, Seeded>, field: &[u8], count: usize) -> Option<u32>
-    ensures { (texts : Fields) → AreSound texts seen.now.entries → IfSome result (λ c. (c < length texts) × (slice_index_or texts c [] ≡ field.now)) }
+    ensures { (texts : Fields) → AreSound texts seen.now.entries
+        → IfSome result (λ c. (c < length texts) × (slice_index_or texts c [] ≡ field.now)) }
 {
     if count > MOST_SEEN {
         return None;
@@ -34,7 +35,8 @@ fn remember(
     field: &[u8],
     place: u32,
 ) -> Result<(), AllocError>
-    ensures { (texts : Fields) → AreSound texts seen.old.entries → place < length texts → slice_index_or texts place [] ≡ field.now → AreSound texts seen.new.entries }
+    ensures { (texts : Fields) → AreSound texts seen.old.entries → place < length texts
+        → slice_index_or texts place [] ≡ field.now → AreSound texts seen.new.entries }
 {
     if place as usize >= MOST_SEEN {
         return Ok(());

@@ -3,13 +3,28 @@
 //! definition knows nothing of the way it is made. docs/TABLES.md has the rules for users.
 #![tactic(auto)]
 
+mod fields;
 mod gathered;
+mod header;
+mod kind;
+mod limits;
 mod loading;
+mod memory;
+mod number;
+mod rank;
 mod reading;
+mod refusal;
+mod rows;
 mod seeded;
 #[cfg(test)]
 mod tests;
+#[cfg(test)]
+mod tests_of_ranks;
+#[cfg(test)]
+mod tests_of_rows;
+#[cfg(test)]
+mod tests_of_types;
 mod typed;
 
-pub use csv_rows::LoadRefusal;
 pub use loading::{Loaded, load};
+pub use refusal::LoadRefusal;

@@ -3,15 +3,16 @@ ghost use Rattle.std.specs.Prelude.{◌≡◌, ◌≢◌, ◌≤◌, ◌<◌, �
 ghost use Rattle.csv_load.specs.Finished.{columns_with};
 ghost use Rattle.csv_load.specs.Loaded.{IsLoaded};
 ghost use Rattle.csv_load.specs.declared.typed.Typed.{Typed};
-ghost use Rattle.csv_rows.specs.Judged.{refusal_of};
-ghost use Rattle.csv_rows.specs.Rows.{table_records};
-ghost use Rattle.csv_rows.specs.declared.refusal.LoadRefusal.TheVariants as refusal;
+ghost use Rattle.csv_load.specs.Judged.{refusal_of};
+ghost use Rattle.csv_load.specs.Rows.{table_records};
+ghost use Rattle.csv_load.specs.declared.refusal.LoadRefusal.TheVariants as refusal;
 ghost use Rattle.table_core.specs.Value.{places_of};
 
+use crate::limits::MOST_TEXT_BYTES;
 use crate::reading::{Read, read_rows};
+use crate::refusal::LoadRefusal;
 use crate::seeded::Seeded;
 use crate::typed::{Typed, finish_cells, type_columns};
-use csv_rows::{LoadRefusal, MOST_TEXT_BYTES};
 use std::alloc::{AllocError, Global};
 use std::hash::RandomState;
 use table_core::{Bytes, Column, Dict, Schema, Table};

@@ -1,8 +1,8 @@
 // Tables of whole texts, and the texts that are refused.
 ghost use Rattle.std.specs.Prelude.{◌≤◌, length};
 
+use crate::limits::MOST_TEXT_BYTES;
 use crate::{LoadRefusal, load};
-use csv_rows::MOST_TEXT_BYTES;
 use std::alloc::{AllocError, Global};
 use std::hash::RandomState;
 use std::test::Fail;

@@ -3,18 +3,18 @@ ghost use Rattle.std.specs.Prelude.{◌≡◌, ◌≢◌, ◌≤◌, ◌<◌, �
 ghost use Rattle.std.specs.List.{AllZip};
 ghost use Rattle.csv_load.specs.Typed.{IsFinished, IsTyped};
 ghost use Rattle.csv_load.specs.Gathered.{IsCell, code_at};
-ghost use Rattle.column_types.specs.Kinds.{is_of};
-ghost use Rattle.csv_rows.specs.Judged.{Fields};
+ghost use Rattle.csv_load.specs.Kinds.{is_of};
+ghost use Rattle.csv_load.specs.Judged.{Fields};
 ghost use Rattle.table_core.specs.declared.schema.Kind.TheVariants.{Text};
 ghost use Rattle.csv_load.specs.declared.typed.Typed.{Typed};
 ghost use Rattle.table_core.specs.Value.{places_of};
 ghost use Rattle.table_core.specs.declared.cell.Cell.TheVariants.{Null};
 
 use crate::gathered::Gathered;
-use column_types::{kind_of_texts, number_cell};
+use crate::kind::{kind_of_texts, number_cell};
+use crate::rank::rank_texts;
 use std::alloc::{AllocError, Global};
 use table_core::{Cell, Dict, Kind, Texts};
-use text_ranks::rank_texts;
 
 // A column of texts has its dictionary and the code of each of its texts; any other has its texts.
 #[derive(Drop)]
@@ -75,7 +75,8 @@ fn code_cell(codes: &[Option<u32>], place: usize) -> Cell
 fn numeral(column: &Typed, place: usize) -> Cell
     requires few { places_of column.now.kind ≤ 9 }
     requires numbers { column.now.kind ≢ Text }
-    ensures { (texts : Fields) (field : List ℕ) → IsTyped texts column.now → place < length texts → slice_index_or texts place [] ≡ field
+    ensures { (texts : Fields) (field : List ℕ) → IsTyped texts column.now → place < length texts
+        → slice_index_or texts place [] ≡ field
         → is_of column.now.kind field ≡ true → IsCell column.now.kind column.now.dict field result }
 {
     if place >= column.texts.len() {

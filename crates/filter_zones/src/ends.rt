@@ -104,7 +104,8 @@ impl EndMasks {
     pub(crate) fn of_chunks(column: u32, value: Bound, chunks: &[ChunkZones]) -> EndMasks
         requires few { length chunks.now ≤ 64 }
         requires there { All (λ chunk. column < length chunk.zones) chunks.now }
-        ensures { (k : ℕ) → k < length chunks.now → spec.ends_at result k ≡ spec.column_ends column value (chunk_at chunks.now k) }
+        ensures { (k : ℕ) → k < length chunks.now → spec.ends_at result k
+            ≡ spec.column_ends column value (chunk_at chunks.now k) }
     {
         let mut masks = EndMasks::NONE;
         let mut k = chunks.len();

@@ -38,7 +38,8 @@ pub fn may_be(cond: &Cond, zones: &ChunkZones) -> TruthSet
 fn ranged_in_each(column: u32, op: Op, value: Bound, chunks: &[ChunkZones]) -> Masks
     requires few { length chunks.now ≤ 64 }
     requires there { All (λ chunk. column < length chunk.zones) chunks.now }
-    ensures { AreTruths (λ chunk. let zone = zone_of_column chunk.zones column in spec.ranged op value zone.has_null zone.range) chunks.now result }
+    ensures { AreTruths (λ chunk. let zone = zone_of_column chunk.zones column in spec.ranged op value zone.has_null
+        zone.range) chunks.now result }
 {
     EndMasks::of_chunks(column, value, chunks).truths(op)
 }

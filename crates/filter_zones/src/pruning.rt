@@ -16,7 +16,8 @@ const TOGETHER: usize = 64;
 fn needed_bits(cond: Option<&Cond>, chunks: &[ChunkZones]) -> u64
     requires few { length chunks.now ≤ 64 }
     requires fits { IfSome (option_copied cond) (λ c. All (λ chunk. spec.FitsZones c chunk.zones) chunks.now) }
-    ensures { (k : ℕ) → k < length chunks.now → is_set result k ≡ spec.is_needed (option_copied cond.entry) (spec.chunk_at chunks.now k) }
+    ensures { (k : ℕ) → k < length chunks.now → is_set result k
+        ≡ spec.is_needed (option_copied cond.entry) (spec.chunk_at chunks.now k) }
 {
     match cond {
         None => u64::MAX,

@@ -53,7 +53,8 @@ impl Book {
         groups: u32,
     ) -> Result<Book, Memory>
         requires { IsSetting (made_for needs.items chunks workers frames groups) }
-        ensures { IfOk result (λ b. (s : Setting) → IsMadeFor s needs.items chunks workers frames groups → Stands b s []) }
+        ensures { IfOk result (λ b. (s : Setting) → IsMadeFor s needs.items chunks workers frames groups
+            → Stands b s []) }
     {
         let clients = Clients::new(alloc, &needs, groups)?;
         let buffer = Buffer::new(alloc, frames, groups)?;

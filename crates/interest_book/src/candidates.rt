@@ -101,8 +101,10 @@ impl Book {
 
     /// Chunks that nobody holds, among them each victim.
     pub fn unheld(&self) -> CountedSet
-        ensures unheld { (s : Setting) (h : History) → Stands self.now s h → (c : ℕ) → c < 1024 → has result c ≡ true → is_held s h c ≡ false }
-        ensures victims { (s : Setting) (h : History) → Stands self.now s h → (c : ℕ) → has result c ≡ false → is_victim s h c ≡ false }
+        ensures unheld { (s : Setting) (h : History) → Stands self.now s h → (c : ℕ) → c < 1024 → has result c ≡ true
+            → is_held s h c ≡ false }
+        ensures victims { (s : Setting) (h : History) → Stands self.now s h → (c : ℕ) → has result c ≡ false
+            → is_victim s h c ≡ false }
     {
         CountedSet::of(&unheld(&self.buffer.occupied, &self.holds, self.workers))
     }

@@ -44,7 +44,8 @@ fn leave_out(chunks: &mut ChunkSet, hold: Option<Hold>)
 /// The chunks of the set that none of the first n workers holds.
 pub fn unheld(chunks: &ChunkSet, holds: &[Option<Hold>], n: u32) -> ChunkSet
     requires { n ≤ length holds.now }
-    ensures { (c : ℕ) → c < 1024 → has result c ≡ (has chunks.now c && not (any_below (λ w. is_hold_of c (slice_index_or holds.now w None)) n)) }
+    ensures { (c : ℕ) → c < 1024 → has result c
+        ≡ (has chunks.now c && not (any_below (λ w. is_hold_of c (slice_index_or holds.now w None)) n)) }
 {
     let mut left = chunks.copy();
     for w in 0..n {

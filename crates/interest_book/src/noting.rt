@@ -16,7 +16,8 @@ impl Book {
         requires query { query ≤ 256 }
         requires some { 0 < query }
         requires few { self.old.noted < 2 ^ 63 - 1 }
-        ensures { (s : Setting) (h : History) (w : ℕ) → Stands self.old s h → Allowed s h (Register w query) → Stands self.new s (Register w query ∷ h) }
+        ensures { (s : Setting) (h : History) (w : ℕ) → Stands self.old s h → Allowed s h (Register w query)
+            → Stands self.new s (Register w query ∷ h) }
     {
         self.clients.register(query, self.noted);
         self.noted += 1;
@@ -26,7 +27,8 @@ impl Book {
         requires query { query ≤ 256 }
         requires chunk { chunk < 1024 }
         requires few { self.old.noted < 2 ^ 63 - 1 }
-        ensures { (s : Setting) (h : History) → Stands self.old s h → Allowed s h (Plan worker query chunk) → Stands self.new s (Plan worker query chunk ∷ h) }
+        ensures { (s : Setting) (h : History) → Stands self.old s h → Allowed s h (Plan worker query chunk)
+            → Stands self.new s (Plan worker query chunk ∷ h) }
     {
         let left = self
             .buffer
@@ -43,7 +45,8 @@ impl Book {
     fn note_evict(&mut self, chunk: u32)
         requires chunk { chunk < 1024 }
         requires few { self.old.noted < 2 ^ 63 - 1 }
-        ensures { (s : Setting) (h : History) (w : ℕ) → Stands self.old s h → Allowed s h (Evict w chunk) → Stands self.new s (Evict w chunk ∷ h) }
+        ensures { (s : Setting) (h : History) (w : ℕ) → Stands self.old s h → Allowed s h (Evict w chunk)
+            → Stands self.new s (Evict w chunk ∷ h) }
     {
         self.buffer.evict(chunk);
         self.clients.renew(&self.buffer, chunk);
@@ -53,7 +56,8 @@ impl Book {
     fn note_fill(&mut self, frame: u32, piece: u32)
         requires frame { frame < length self.old.buffer.frames }
         requires few { self.old.noted < 2 ^ 63 - 1 }
-        ensures { (s : Setting) (h : History) (w : ℕ) → Stands self.old s h → Allowed s h (Fill w frame piece) → Stands self.new s (Fill w frame piece ∷ h) }
+        ensures { (s : Setting) (h : History) (w : ℕ) → Stands self.old s h → Allowed s h (Fill w frame piece)
+            → Stands self.new s (Fill w frame piece ∷ h) }
     {
         self.buffer.begin(frame, piece);
         self.noted += 1;
@@ -63,7 +67,8 @@ impl Book {
         requires frame { frame < length self.old.buffer.frames }
         requires piece { piece / self.old.buffer.groups < 1024 }
         requires few { self.old.noted < 2 ^ 63 - 1 }
-        ensures { (s : Setting) (h : History) (w : ℕ) → Stands self.old s h → Allowed s h (Filled w frame piece) → Stands self.new s (Filled w frame piece ∷ h) }
+        ensures { (s : Setting) (h : History) (w : ℕ) → Stands self.old s h → Allowed s h (Filled w frame piece)
+            → Stands self.new s (Filled w frame piece ∷ h) }
     {
         let chunk = piece / self.buffer.groups;
         let loading = after_fill(self.loading);
@@ -76,7 +81,8 @@ impl Book {
     fn note_failed(&mut self, query: u32)
         requires query { query ≤ 256 }
         requires few { self.old.noted < 2 ^ 63 - 1 }
-        ensures { (s : Setting) (h : History) (w p : ℕ) (why : Why) → Stands self.old s h → Allowed s h (Failed w query p why) → Stands self.new s (Failed w query p why ∷ h) }
+        ensures { (s : Setting) (h : History) (w p : ℕ) (why : Why) → Stands self.old s h
+            → Allowed s h (Failed w query p why) → Stands self.new s (Failed w query p why ∷ h) }
     {
         self.clients.stop(query);
         self.buffer.give_up();
@@ -89,7 +95,8 @@ impl Book {
         requires query { query ≤ 256 }
         requires chunk { chunk < 1024 }
         requires few { self.old.noted < 2 ^ 63 - 1 }
-        ensures { (s : Setting) (h : History) → Stands self.old s h → Allowed s h (Deliver worker query chunk) → Stands self.new s (Deliver worker query chunk ∷ h) }
+        ensures { (s : Setting) (h : History) → Stands self.old s h → Allowed s h (Deliver worker query chunk)
+            → Stands self.new s (Deliver worker query chunk ∷ h) }
     {
         self.clients.deliver(query, chunk);
         self.holds[worker as usize] = Some(Hold { query, chunk });
@@ -100,7 +107,8 @@ impl Book {
         requires worker { worker < 32 }
         requires query { query ≤ 256 }
         requires few { self.old.noted < 2 ^ 63 - 1 }
-        ensures { (s : Setting) (h : History) (c : ℕ) → Stands self.old s h → Allowed s h (Release worker query c) → Stands self.new s (Release worker query c ∷ h) }
+        ensures { (s : Setting) (h : History) (c : ℕ) → Stands self.old s h → Allowed s h (Release worker query c)
+            → Stands self.new s (Release worker query c ∷ h) }
     {
         self.clients.release(query, self.noted);
         self.holds[worker as usize] = None;
@@ -110,7 +118,8 @@ impl Book {
     fn note_stop(&mut self, query: u32)
         requires query { query ≤ 256 }
         requires few { self.old.noted < 2 ^ 63 - 1 }
-        ensures { (s : Setting) (h : History) (w : ℕ) → Stands self.old s h → Allowed s h (Stop w query) → Stands self.new s (Stop w query ∷ h) }
+        ensures { (s : Setting) (h : History) (w : ℕ) → Stands self.old s h → Allowed s h (Stop w query)
+            → Stands self.new s (Stop w query ∷ h) }
     {
         self.clients.stop(query);
         self.noted += 1;
@@ -119,7 +128,8 @@ impl Book {
     fn note_end(&mut self, query: u32)
         requires query { query ≤ 256 }
         requires few { self.old.noted < 2 ^ 63 - 1 }
-        ensures { (s : Setting) (h : History) (w : ℕ) → Stands self.old s h → Allowed s h (End w query) → Stands self.new s (End w query ∷ h) }
+        ensures { (s : Setting) (h : History) (w : ℕ) → Stands self.old s h → Allowed s h (End w query)
+            → Stands self.new s (End w query ∷ h) }
     {
         self.clients.end(query);
         self.noted += 1;
@@ -130,7 +140,8 @@ impl Book {
     /// The entry may follow those before it, which are fewer than 9223372036854775807.
     pub fn note(&mut self, entry: &Entry)
         requires { MayFollow self.old entry.now }
-        ensures { (s : Setting) (h : History) → Stands self.old s h → Allowed s h entry.now → Stands self.new s (entry.now ∷ h) }
+        ensures { (s : Setting) (h : History) → Stands self.old s h → Allowed s h entry.now
+            → Stands self.new s (entry.now ∷ h) }
     {
         match *entry {
             Entry::Register { query, .. } => self.note_register(query),

@@ -268,7 +268,8 @@ impl Book {
     /// The least query of the needs that is at least `q`, which may be any number.
     #[tactic(auto, using(crate::proofs::Shown::none_beyond))]
     pub fn least_query_from(&self, q: u32) -> Option<u32>
-        ensures none { (s : Setting) (h : History) → Stands self.now s h → IfNone result ((r : ℕ) → q ≤ r → is_some (need_of s r) ≡ false) }
+        ensures none { (s : Setting) (h : History) → Stands self.now s h
+            → IfNone result ((r : ℕ) → q ≤ r → is_some (need_of s r) ≡ false) }
         ensures least { (s : Setting) (h : History) → Stands self.now s h → IfSome result (λ m. IsLeastQuery s q m) }
     {
         for r in q..257 {

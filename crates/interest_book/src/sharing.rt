@@ -37,7 +37,8 @@ impl Book {
 
     /// The `overlap` and the `starved_overlap` with the chunk, of the query whose sharing this is; each at most 320.
     pub fn overlaps(&self, sharing: &Sharing, c: u32) -> Overlaps
-        ensures number { (s : Setting) (h : History) (q : ℕ) → Stands self.now s h → IsSharing s h q sharing.now → result ≡ overlaps s h q c }
+        ensures number { (s : Setting) (h : History) (q : ℕ) → Stands self.now s h → IsSharing s h q sharing.now
+            → result ≡ overlaps s h q c }
         ensures few_active { result.active ≤ 320 }
         ensures few_starved { result.starved ≤ 320 }
     {

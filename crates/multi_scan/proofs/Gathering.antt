@@ -13,10 +13,10 @@ use Rattle.scan_story.specs.Counting.{has}
 use Rattle.top_rows.specs.Rows.{Numbered}
 use Rattle.sql_bind.specs.declared.plan.Plan.{Plan}
 use Rattle.sql_bind.specs.Meaning.{matches, numbered}
-use Rattle.query_answers.specs.declared.partial.Partial.{Partial}
-use Rattle.query_answers.specs.Agree.{Agree, RowsAgree}
-use Rattle.query_answers.specs.Partial.{FitsPlan, IsNew, Stands, matching, row_count}
-use Rattle.query_answers.proofs.Below.{numbered-append}
+use Rattle.query_gather.specs.declared.partial.Partial.{Partial}
+use Rattle.query_gather.specs.Agree.{Agree, RowsAgree}
+use Rattle.query_gather.specs.Partial.{FitsPlan, IsNew, Stands, matching, row_count}
+use Rattle.query_gather.proofs.Below.{numbered-append}
 use Rattle.cscan.specs.Tables.{HoldsTable}
 use Rattle.multi_scan.specs.Gathered.{Gathered, GatheredRows}
 use Rattle.multi_scan.specs.Rows.{AreOfShape, FitsShape, chunk_numbers, chunk_rows, numbers_of_chunks, rows_of_chunks}

@@ -13,9 +13,9 @@ use Rattle.top_rows.specs.Rows.{Numbered, has_number}
 use Rattle.scan_story.specs.Counting.{has}
 use Rattle.sql_bind.specs.declared.plan.Plan.{Plan}
 use Rattle.sql_bind.specs.Meaning.{matches}
-use Rattle.query_answers.specs.declared.partial.Partial.{Partial}
-use Rattle.query_answers.specs.declared.partial.Partial.TheVariants.{Groups, Top}
-use Rattle.query_answers.specs.Partial.{IsNew, matching}
+use Rattle.query_gather.specs.declared.partial.Partial.{Partial}
+use Rattle.query_gather.specs.declared.partial.Partial.TheVariants.{Groups, Top}
+use Rattle.query_gather.specs.Partial.{IsNew, matching}
 use Rattle.story_laws.specs.Lists.{NoneTwice}
 use Rattle.story_laws.proofs.Bools.{either, if_not, not_both, or_false, or_left, or_off, same_number, equal_number, flipped, or_right, self_number}
 use Rattle.story_laws.proofs.Lists.{length_below}

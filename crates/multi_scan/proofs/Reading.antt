@@ -7,7 +7,7 @@ use Rattle.table_core.specs.Chunk.{chunk, chunk_end}
 use Rattle.table_core.specs.Sets.{has}
 use Rattle.table_core.specs.declared.cell.Cell.{Cell}
 use Rattle.piece_format.specs.Shape.{TableShape, rows_in}
-use Rattle.query_answers.specs.Agree.{RowsAgree}
+use Rattle.query_gather.specs.Agree.{RowsAgree}
 use Rattle.cscan.specs.Rows.{FitColumns, HasCellsOf, OthersAreNull}
 use Rattle.multi_scan.specs.Rows.{AreOfShape, FitsShape}
 

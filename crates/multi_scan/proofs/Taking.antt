@@ -18,8 +18,8 @@ use Rattle.baton.specs.Passes.{PassView, Went}
 use Rattle.baton.proofs.Turns.{went_nowhere, went_on}
 use Rattle.piece_format.specs.Shape.{TableShape, rows_in}
 use Rattle.sql_bind.specs.declared.plan.Plan as plan
-use Rattle.query_answers.specs.declared.partial.Partial.{Partial}
-use Rattle.query_answers.specs.Partial.{row_count}
+use Rattle.query_gather.specs.declared.partial.Partial.{Partial}
+use Rattle.query_gather.specs.Partial.{row_count}
 use Rattle.cscan.specs.declared.scan.CScan.{CScan}
 use Rattle.cscan.specs.Answers.{AreOfLoads, Ends, FindsStopped, Releases, TakesChunk}
 use Rattle.cscan.specs.Scans.{IsOver, IsSameScan, IsScan}

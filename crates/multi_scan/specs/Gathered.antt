@@ -6,9 +6,9 @@ use Rattle.table_core.specs.declared.cell.Cell.{Cell}
 use Rattle.piece_format.specs.Shape.{TableShape}
 use Rattle.top_rows.specs.Rows.{Numbered}
 use Rattle.sql_bind.specs.declared.plan.Plan.{Plan}
-use Rattle.query_answers.specs.declared.partial.Partial.{Partial}
-use Rattle.query_answers.specs.Agree.{Agree}
-use Rattle.query_answers.specs.Partial.{FitsPlan, Stands, matching, row_count}
+use Rattle.query_gather.specs.declared.partial.Partial.{Partial}
+use Rattle.query_gather.specs.Agree.{Agree}
+use Rattle.query_gather.specs.Partial.{FitsPlan, Stands, matching, row_count}
 use Rattle.cscan.specs.Tables.{HoldsTable}
 use Rattle.multi_scan.specs.Rows.{AreOfShape, FitsShape, numbers_of_chunks, rows_of_chunks}
 

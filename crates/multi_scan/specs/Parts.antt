@@ -14,7 +14,7 @@ use Rattle.story_laws.specs.Queries.{chunks_delivered}
 use Rattle.baton.specs.Passes.{PassView, Went}
 use Rattle.frame_pool.specs.Frames.{Told}
 use Rattle.sql_bind.specs.declared.plan.Plan.{Plan}
-use Rattle.query_answers.specs.declared.partial.Partial.{Partial}
+use Rattle.query_gather.specs.declared.partial.Partial.{Partial}
 use Rattle.cscan.specs.declared.scan.CScan.{CScan}
 use Rattle.cscan.specs.Scans.{IsOver, IsScan, reads_column}
 use Rattle.multi_scan.specs.declared.part.Unfinished.{Unfinished}

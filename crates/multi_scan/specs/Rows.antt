@@ -10,7 +10,7 @@ use Rattle.top_rows.specs.Rows.{Numbered}
 use Rattle.sql_bind.specs.declared.plan.Plan.{Plan}
 use Rattle.sql_bind.specs.Meaning.{numbered}
 use Rattle.sql_bind.specs.Reads.{ReadsItsColumns}
-use Rattle.query_answers.specs.Partial.{FitsCond}
+use Rattle.query_gather.specs.Partial.{FitsCond}
 
 -- a row whose cells are those that the columns of a shape may have
 pub record FitsShape (z : TableShape) (row : List Cell) : Type 0 where

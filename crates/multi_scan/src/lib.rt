@@ -6,6 +6,6 @@
 mod part;
 mod rows;
 
+pub use batch_plan::deal;
 pub use part::{Unfinished, scan_part};
-pub use query_answers::{Partial, join_parts};
-pub use query_parts::deal;
+pub use query_gather::{Partial, join_parts};

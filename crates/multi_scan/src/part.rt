@@ -2,7 +2,7 @@
 ghost use Rattle.std.specs.Prelude.{◌≡◌, [], None};
 ghost use Rattle.scan_story.specs.Setting.{IsStart};
 ghost use Rattle.story_laws.specs.Queries.{chunks_delivered};
-ghost use Rattle.query_answers.specs.Partial.{FitsPlan, Stands, row_count};
+ghost use Rattle.query_gather.specs.Partial.{FitsPlan, Stands, row_count};
 ghost use Rattle.cscan.specs.Scans.{IsSameScan, IsScan};
 ghost use Rattle.multi_scan.specs.Parts.{CameTo, ReadsPlan, WentFor};
 ghost use Rattle.multi_scan.specs.Rows.{IsPlanOfShape};
@@ -12,7 +12,7 @@ use coop_outside::Depot;
 use cscan::{CScan, Gate, Next};
 use frame_pool::Content;
 use piece_format::Shape;
-use query_answers::Partial;
+use query_gather::Partial;
 use relevance::Policy;
 use scan_story::{Cause, Origin};
 use sql_bind::Plan;

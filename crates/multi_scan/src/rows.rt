@@ -2,7 +2,7 @@
 ghost use Rattle.std.specs.Prelude.{◌≡◌, ◌≤◌, ◌+◌, ◌++◌, ◌∷◌, ℕ, List, [], false, OnOk, Some};
 ghost use Rattle.scan_story.specs.Counting.{has};
 ghost use Rattle.piece_format.specs.Shape.{rows_in};
-ghost use Rattle.query_answers.specs.Partial.{FitsPlan, row_count};
+ghost use Rattle.query_gather.specs.Partial.{FitsPlan, row_count};
 ghost use Rattle.cscan.specs.Scans.{IsScan};
 ghost use Rattle.multi_scan.specs.Gathered.{Gathered};
 ghost use Rattle.multi_scan.specs.Parts.{ReadsPlan};
@@ -12,7 +12,7 @@ use coop_outside::Depot;
 use cscan::{CScan, Held};
 use frame_pool::Content;
 use piece_format::Shape;
-use query_answers::Partial;
+use query_gather::Partial;
 use relevance::Policy;
 use scan_story::Origin;
 use sql_bind::Plan;
@@ -37,7 +37,8 @@ pub(crate) fn add_rows<S: Origin, C: Content, P: Policy, D: Depot>(
     requires few { row_count partial.old + rows_in shape.now held.now.given.chunk ≤ 2097152 }
     ensures same { scan.new ≡ scan.old }
     // a chunk more, where it isn't among those before it
-    ensures gathered { OnOk result ((cs : List ℕ) → has cs held.now.given.chunk ≡ false → Gathered shape.now plan.now S.origin.held C.pieces cs partial.old
+    ensures gathered { OnOk result ((cs : List ℕ) → has cs held.now.given.chunk ≡ false
+        → Gathered shape.now plan.now S.origin.held C.pieces cs partial.old
         → Gathered shape.now plan.now S.origin.held C.pieces (cs ++ held.now.given.chunk ∷ []) partial.new) }
 {
     let first = held.chunk() * shape.per;

@@ -200,10 +200,13 @@ pub fn check(shape: &Shape, piece: u32, bytes: &[u8]) -> Result<(), Damage>
     requires shape { IsShape shape.now }
     requires there { piece < pieces shape.now }
     requires bytes { length bytes.now ≡ 8 * words_in (piece_at shape.now piece) }
-    ensures ok { let q = piece_at shape.now piece in OnOk result (spec.NoneBroken shape.now q (word_of bytes.now) (words_in q)) }
-    ensures err { IfErr result (λ d. spec.IsLeastBroken shape.now (piece_at shape.now piece) (word_of bytes.now) d.word) }
+    ensures ok { let q = piece_at shape.now piece in OnOk result
+        (spec.NoneBroken shape.now q (word_of bytes.now) (words_in q)) }
+    ensures err { IfErr result (λ d. spec.IsLeastBroken shape.now (piece_at shape.now piece) (word_of bytes.now)
+        d.word) }
     ensures cells { OnOk result (spec.AreSoundCells shape.now (piece_at shape.now piece) (word_of bytes.now)) }
-    ensures encoded { (rows : List (List Cell)) → AreRowsOf shape.now rows → bytes.now ≡ bytes_of (piece_words shape.now rows piece) → IsOk result }
+    ensures encoded { (rows : List (List Cell)) → AreRowsOf shape.now rows → bytes.now
+        ≡ bytes_of (piece_words shape.now rows piece) → IsOk result }
 {
     check_piece(shape, Piece::of(shape, piece), bytes)
 }

@@ -38,8 +38,10 @@ fn push_row(words: &mut Vec<u64>, piece: Piece, cells: &[Cell], row: u32) -> Res
     requires layout { piece.layout ≡ layouts.Row }
     requires cells { HoldsRows piece cells.now }
     requires row { row < piece.rows }
-    requires before { AreFirst piece (cell_at (rows_of piece.columns cells.now)) (row * (piece.columns + 1)) words.old.items }
-    ensures { OnOk result (AreFirst piece (cell_at (rows_of piece.columns cells.now)) (row * (piece.columns + 1) + 1 + piece.columns) words.new.items) }
+    requires before { AreFirst piece (cell_at (rows_of piece.columns cells.now)) (row * (piece.columns + 1))
+        words.old.items }
+    ensures { OnOk result (AreFirst piece (cell_at (rows_of piece.columns cells.now))
+        (row * (piece.columns + 1) + 1 + piece.columns) words.new.items) }
 {
     let start = (row * piece.columns) as usize;
     words.push(null_word(cells, start, 1, piece.columns))?;
@@ -55,7 +57,8 @@ fn push_rows(words: &mut Vec<u64>, piece: Piece, cells: &[Cell]) -> Result<(), M
     requires layout { piece.layout ≡ layouts.Row }
     requires cells { HoldsRows piece cells.now }
     requires empty { words.old.items ≡ [] }
-    ensures { OnOk result (AreFirst piece (cell_at (rows_of piece.columns cells.now)) (words_in piece) words.new.items) }
+    ensures { OnOk result (AreFirst piece (cell_at (rows_of piece.columns cells.now)) (words_in piece)
+        words.new.items) }
 {
     for row in 0..piece.rows {
         push_row(words, piece, cells, row)?;
@@ -83,7 +86,8 @@ fn push_nulls(words: &mut Vec<u64>, piece: Piece, cells: &[Cell]) -> Result<(), 
     requires layout { piece.layout ≡ layouts.Column }
     requires cells { HoldsRows piece cells.now }
     requires before { AreFirst piece (cell_at (rows_of piece.columns cells.now)) piece.rows words.old.items }
-    ensures { OnOk result (AreFirst piece (cell_at (rows_of piece.columns cells.now)) (words_in piece) words.new.items) }
+    ensures { OnOk result (AreFirst piece (cell_at (rows_of piece.columns cells.now)) (words_in piece)
+        words.new.items) }
 {
     for k in 0..(piece.rows + 63) / 64 {
         let from = 64 * k;
@@ -98,7 +102,8 @@ fn push_nulls(words: &mut Vec<u64>, piece: Piece, cells: &[Cell]) -> Result<(), 
 fn encode_cells(alloc: Global, piece: Piece, cells: &[Cell]) -> Result<Vec<u64>, Memory>
     requires piece { IsPiece piece }
     requires cells { HoldsRows piece cells.now }
-    ensures { IfOk result (λ words. AreFirst piece (cell_at (rows_of piece.columns cells.now)) (words_in piece) words.items) }
+    ensures { IfOk result (λ words. AreFirst piece (cell_at (rows_of piece.columns cells.now)) (words_in piece)
+        words.items) }
 {
     let mut words = Vec::with_capacity(alloc, piece.words() as usize)?;
     match piece.layout {
@@ -123,8 +128,10 @@ pub fn encode(alloc: Global, shape: &Shape, table: &Table, piece: u32) -> Result
     ensures words { IfOk result (λ words. words.items ≡ piece_words shape.now table.now.rows piece) }
     ensures len { IfOk result (λ words. length words.items ≡ words_in (piece_at shape.now piece)) }
     ensures back { IfOk result (λ words. GivesBack shape.now table.now.rows piece (slice_index words.items)) }
-    ensures bytes_back { IfOk result (λ words. GivesBack shape.now table.now.rows piece (word_of (bytes_of words.items))) }
-    ensures sound { IfOk result (λ words. let q = piece_at shape.now piece in NoneBroken shape.now q (slice_index words.items) (words_in q)) }
+    ensures bytes_back { IfOk result (λ words. GivesBack shape.now table.now.rows piece
+        (word_of (bytes_of words.items))) }
+    ensures sound { IfOk result (λ words. let q = piece_at shape.now piece in NoneBroken shape.now q
+        (slice_index words.items) (words_in q)) }
 {
     let (from, to) = chunk_span(shape.rows, shape.per, piece / groups(shape));
     let cells = table.rows(from as usize, to as usize);

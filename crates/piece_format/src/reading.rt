@@ -38,7 +38,8 @@ fn read_columns(shape: &Shape, piece: Piece, bytes: &[u8], row: u32, cells: &mut
     requires bytes { length bytes.now ≡ 8 * words_in piece }
     requires row { row < piece.rows }
     requires cells { length cells.old ≡ piece.columns }
-    ensures cells { (x : ℕ) → x < piece.columns → slice_index_or cells.new x Null ≡ cell_in shape.now piece (word_of bytes.now) row x }
+    ensures cells { (x : ℕ) → x < piece.columns → slice_index_or cells.new x Null
+        ≡ cell_in shape.now piece (word_of bytes.now) row x }
     ensures len { length cells.new ≡ length cells.old }
 {
     let start = row * (piece.columns + 1);
@@ -59,8 +60,10 @@ pub fn read_row(shape: &Shape, piece: Piece, bytes: &[u8], row: u32, cells: &mut
     requires bytes { length bytes.now ≡ 8 * words_in piece }
     requires row { row < piece.rows }
     requires cells { length cells.old ≡ piece.columns }
-    ensures cells { (x : ℕ) → HasColumn piece x → slice_index_or cells.new x Null ≡ cell_in shape.now piece (word_of bytes.now) row x }
-    ensures others { (x : ℕ) → x < piece.columns → (HasColumn piece x → ⊥) → slice_index_or cells.new x Null ≡ slice_index_or cells.old x Null }
+    ensures cells { (x : ℕ) → HasColumn piece x → slice_index_or cells.new x Null
+        ≡ cell_in shape.now piece (word_of bytes.now) row x }
+    ensures others { (x : ℕ) → x < piece.columns → (HasColumn piece x → ⊥) → slice_index_or cells.new x Null
+        ≡ slice_index_or cells.old x Null }
     ensures len { length cells.new ≡ length cells.old }
 {
     match piece.layout {

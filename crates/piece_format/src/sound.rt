@@ -29,7 +29,8 @@ fn group_is_sound(
     requires bytes { 8 * (rows * (columns + 1) + 3) ≤ length bytes.now }
     requires bits { AreBits bits.now }
     ensures masks { result ≡ true → (row : ℕ) → row < rows → word_of bytes.now (row * (columns + 1)) < 2 ^ columns }
-    ensures values { result ≡ true → (row l : ℕ) → row < rows → l < 4 → let start = row * (columns + 1) in let x = 4 * group + l in
+    ensures values { result ≡ true → (row l : ℕ) → row < rows → l < 4
+        → let start = row * (columns + 1) in let x = 4 * group + l in
         word_of bytes.now (start + 1 + x) ≤ limit_of (word_of bytes.now start) x (slice_index tops.now x) }
 {
     let first = 4 * group;
@@ -114,7 +115,8 @@ fn run_is_sound(bytes: &[u8], from: u32, nulls: u64, top: u64, eights: u32) -> b
 pub(crate) fn runs_are_sound(rows: u32, bytes: &[u8], top: u64) -> bool
     requires rows { rows ≤ MOST_CHUNK_ROWS }
     requires bytes { length bytes.now ≡ 8 * (rows + (rows + 63) / 64) }
-    ensures { result ≡ true → (row : ℕ) → row < rows / 8 * 8 → word_of bytes.now row ≤ limit_of (word_of bytes.now (rows + row / 64)) (row % 64) top }
+    ensures { result ≡ true → (row : ℕ) → row < rows / 8 * 8
+        → word_of bytes.now row ≤ limit_of (word_of bytes.now (rows + row / 64)) (row % 64) top }
 {
     for k in 0..(rows + 63) / 64 {
         let from = 64 * k;

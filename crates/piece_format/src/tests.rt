@@ -48,7 +48,8 @@ fn fits_kind(kind: Kind, dict_len: u32, cell: Cell) -> bool
 
 fn fits_row(shape: &Shape, row: &[Cell]) -> bool
     requires { IsShape shape.now }
-    ensures { OnTrue result ((x : ℕ) → x < length shape.now.kinds → FitsKind (kind_at shape.now x) (dict_len_at shape.now x) (slice_index_or row.now x Null)) }
+    ensures { OnTrue result ((x : ℕ) → x < length shape.now.kinds
+        → FitsKind (kind_at shape.now x) (dict_len_at shape.now x) (slice_index_or row.now x Null)) }
 {
     if row.len() != shape.kinds.len() {
         return false;

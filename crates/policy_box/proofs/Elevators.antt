@@ -9,11 +9,11 @@ use Rattle.scan_story.specs.Policies.{dist_from, reach}
 use Rattle.chunk_interest.proofs.Below.{true_false}
 use Rattle.chunk_interest.proofs.Kept.{target_inside}
 use Rattle.relevance.specs.Picks.{PicksQuery, PicksLoad, PicksDelivery, PicksVictim, cursor_after_load}
-use Rattle.policy_picks.specs.Around.{far_from}
-use Rattle.policy_picks.specs.Least.{PicksLeast}
-use Rattle.policy_picks.specs.Victims.{PicksFittest}
-use Rattle.policy_picks.proofs.Rounds.{dist_small, far_is_dist}
-use Rattle.policy_picks.proofs.Reaching.{least_found, least_none}
+use Rattle.relevance.specs.Around.{far_from}
+use Rattle.relevance.specs.Least.{PicksLeast}
+use Rattle.relevance.specs.Victims.{PicksFittest}
+use Rattle.relevance.proofs.Rounds.{dist_small, far_is_dist}
+use Rattle.relevance.proofs.Reaching.{least_found, least_none}
 use Rattle.policy_box.specs.Next.{next_of}
 
 pub query_picked : (s : Setting) (h : History) (cursor : List ℕ) (r : Option ℕ) → PicksLeast (is_trigger s h) (reach s h cursor) r → PicksQuery Elevator cursor s h r

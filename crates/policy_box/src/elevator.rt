@@ -7,10 +7,10 @@ ghost use Rattle.interest_book.specs.Stands.{Stands};
 ghost use Rattle.policy_box.specs.Next.{next_of};
 
 use interest_book::Book;
-use policy_picks::{
-    Fitness, chunk_in, distance, first_to_deliver, first_to_load, fitter_of, lesser_of, number_in,
+use relevance::{
+    Fitness, Policy, chunk_in, distance, first_to_deliver, first_to_load, fitter_of, lesser_of,
+    number_in,
 };
-use relevance::Policy;
 use scan_story::PolicyName;
 
 /// Goes up the table and around, from where the last load was.

@@ -10,8 +10,8 @@ use Rattle.scan_story.specs.Policies.{dist_from, start_of, place_in}
 use Rattle.chunk_interest.proofs.Kept.{target_inside}
 use Rattle.interest_book.proofs.Inside.{ready_inside}
 use Rattle.relevance.specs.Picks.{PicksQuery, PicksLoad, PicksDelivery, PicksVictim}
-use Rattle.policy_picks.specs.Least.{PicksLeast, PicksGreatest}
-use Rattle.policy_picks.specs.Victims.{PicksFittest}
+use Rattle.relevance.specs.Least.{PicksLeast, PicksGreatest}
+use Rattle.relevance.specs.Victims.{PicksFittest}
 
 -- Attach
 

@@ -1,9 +1,8 @@
 //! The policy attach.
 use interest_book::Book;
-use policy_picks::{
-    Fitness, chunk_in, first_to_deliver, first_to_load, fitter_of, longest_waiting,
+use relevance::{
+    Fitness, Policy, chunk_in, first_to_deliver, first_to_load, fitter_of, longest_waiting,
 };
-use relevance::Policy;
 use scan_story::PolicyName;
 
 /// Lets a query begin where another one is, and go up the table and around from there.

@@ -6,10 +6,9 @@ ghost use Rattle.policy_plain.specs.Uses.{are_uses};
 use crate::places::places_in;
 use arrayvec::ArrayVec;
 use interest_book::Book;
-use policy_picks::{
-    Fitness, chunk_in, first_to_deliver, first_to_load, fitter_of, longest_waiting,
+use relevance::{
+    Fitness, Policy, chunk_in, first_to_deliver, first_to_load, fitter_of, longest_waiting,
 };
-use relevance::Policy;
 use scan_story::PolicyName;
 
 /// Lets each query go up the table, and evicts what was used the longest time ago.

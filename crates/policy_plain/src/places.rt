@@ -6,7 +6,8 @@ ghost use Rattle.scan_story.specs.Policies.{place_in};
 fn note(list: &[u32], place: u32, places: &mut [u32; 1024])
     requires small { All (λ c. c < 1024) list.now }
     requires few { place + length list.now ≤ 1025 }
-    ensures { (c : ℕ) → c < 1024 → get_or places.new c 0 ≡ (if place_in list.now c == 0 then get_or places.old c 0 else place_in list.now c + place - 1) }
+    ensures { (c : ℕ) → c < 1024 → get_or places.new c 0
+        ≡ (if place_in list.now c == 0 then get_or places.old c 0 else place_in list.now c + place - 1) }
 {
     if let [first, rest @ ..] = list {
         note(rest, place + 1, places);

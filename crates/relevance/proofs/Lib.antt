@@ -1,2 +1,5 @@
 pub mod Choosing
 pub mod Chosen
+pub mod Rounds
+pub mod Leading
+pub mod Reaching

@@ -1,2 +1,6 @@
 pub mod Picks
 pub mod Best
+pub mod Around
+pub mod Least
+pub mod Rated
+pub mod Victims

@@ -34,7 +34,8 @@ pub fn gaining_more(
 ) -> Option<BestChunk>
     requires query { q ≤ 256 }
     requires chunk { c < 1024 }
-    ensures { (s : Setting) (h : History) → Stands book.now s h → IsSharing s h q sharing.now → is_target s h q c ≡ true → result ≡ greater_of best c (load_ratio s h q c) }
+    ensures { (s : Setting) (h : History) → Stands book.now s h → IsSharing s h q sharing.now → is_target s h q c
+        ≡ true → result ≡ greater_of best c (load_ratio s h q c) }
 {
     let num = load_gain(book, sharing, c);
     if !may_exceed(num, best) {

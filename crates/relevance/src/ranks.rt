@@ -30,7 +30,8 @@ pub fn query_rank(book: &Book, q: u32) -> i64
 
 /// The number of the ratio by which a chunk is loaded for the query whose sharing this is, before it is divided.
 pub fn load_gain(book: &Book, sharing: &Sharing, c: u32) -> u32
-    ensures { (s : Setting) (h : History) (q : ℕ) → Stands book.now s h → IsSharing s h q sharing.now → result ≡ (load_ratio s h q c).num }
+    ensures { (s : Setting) (h : History) (q : ℕ) → Stands book.now s h → IsSharing s h q sharing.now → result
+        ≡ (load_ratio s h q c).num }
 {
     let overlaps = book.overlaps(sharing, c);
     1024 * overlaps.starved + overlaps.active

@@ -35,7 +35,8 @@ impl Policy for Relevance {
     #[tactic(auto, using(crate::proofs::Choosing::best_below_more))]
     fn pick_query(&mut self, book: &Book) -> Option<u32>
         ensures picks { (s : Setting) (h : History) → Stands book.now s h → PicksQuery names.Relevance [] s h result }
-        ensures first { (s : Setting) (h : History) → Stands book.now s h → IfSome result (IsFirstBest is_higher (is_trigger s h) (query_rank s h)) }
+        ensures first { (s : Setting) (h : History) → Stands book.now s h
+            → IfSome result (IsFirstBest is_higher (is_trigger s h) (query_rank s h)) }
     {
         let mut best = None;
         for q in 0..257 {
@@ -49,8 +50,10 @@ impl Policy for Relevance {
     fn pick_load(&mut self, book: &Book, q: u32) -> Option<u32>
         requires { HasActive book.now q }
         ensures picks { (s : Setting) (h : History) → Stands book.now s h → PicksLoad names.Relevance [] s h q result }
-        ensures first { (s : Setting) (h : History) → Stands book.now s h → IfSome result (IsFirstBest is_greater (is_target s h q) (load_ratio s h q)) }
-        ensures cursor { (s : Setting) (h : History) → Stands book.now s h → [] ≡ cursor_after_load names.Relevance s [] q result }
+        ensures first { (s : Setting) (h : History) → Stands book.now s h
+            → IfSome result (IsFirstBest is_greater (is_target s h q) (load_ratio s h q)) }
+        ensures cursor { (s : Setting) (h : History) → Stands book.now s h → []
+            ≡ cursor_after_load names.Relevance s [] q result }
     {
         let sharing = book.sharing(q);
         let targets = book.targets(q);
@@ -65,8 +68,10 @@ impl Policy for Relevance {
 
     fn pick_delivery(&mut self, book: &Book, q: u32) -> Option<u32>
         requires { HasActive book.now q }
-        ensures picks { (s : Setting) (h : History) → Stands book.now s h → PicksDelivery names.Relevance [] s h q result }
-        ensures first { (s : Setting) (h : History) → Stands book.now s h → IfSome result (IsFirstBest is_greater (is_ready s h q) (use_ratio s h q)) }
+        ensures picks { (s : Setting) (h : History) → Stands book.now s h
+            → PicksDelivery names.Relevance [] s h q result }
+        ensures first { (s : Setting) (h : History) → Stands book.now s h
+            → IfSome result (IsFirstBest is_greater (is_ready s h q) (use_ratio s h q)) }
         ensures cursor { [] ≡ cursor_after_delivery names.Relevance [] q result }
     {
         let ready = book.deliverable(q);
@@ -82,7 +87,8 @@ impl Policy for Relevance {
     fn pick_victim(&mut self, book: &Book) -> Option<u32>
         requires { HasNoneBegun book.now }
         ensures picks { (s : Setting) (h : History) → Stands book.now s h → PicksVictim names.Relevance [] s h result }
-        ensures first { (s : Setting) (h : History) → Stands book.now s h → IfSome result (IsFirstBest is_less (is_victim s h) (keep_ratio s h)) }
+        ensures first { (s : Setting) (h : History) → Stands book.now s h
+            → IfSome result (IsFirstBest is_less (is_victim s h) (keep_ratio s h)) }
     {
         let unheld = book.unheld();
         let mut best = None;

@@ -84,7 +84,8 @@ fn is_word(bytes: &[u8], word: &[u8]) -> bool
 
 /// Two numbers with a blank between.
 fn pair(text: &[u8]) -> Option<(u32, u32)>
-    ensures reads { (a b : ℕ) → a < 2 ^ 32 → b < 2 ^ 32 → text.now ≡ decimal a ++ (codes " " ++ decimal b) → result ≡ Some (a, b) }
+    ensures reads { (a b : ℕ) → a < 2 ^ 32 → b < 2 ^ 32 → text.now ≡ decimal a ++ (codes " " ++ decimal b) → result
+        ≡ Some (a, b) }
 {
     match cut(text, b' ') {
         Some((first, second)) => short_number(first).zip(short_number(second)),
@@ -94,7 +95,8 @@ fn pair(text: &[u8]) -> Option<(u32, u32)>
 
 /// Two numbers of 64 bits with a blank between.
 fn long_pair(text: &[u8]) -> Option<(u64, u64)>
-    ensures reads { (a b : ℕ) → a < 2 ^ 64 → b < 2 ^ 64 → text.now ≡ decimal a ++ (codes " " ++ decimal b) → result ≡ Some (a, b) }
+    ensures reads { (a b : ℕ) → a < 2 ^ 64 → b < 2 ^ 64 → text.now ≡ decimal a ++ (codes " " ++ decimal b) → result
+        ≡ Some (a, b) }
 {
     match cut(text, b' ') {
         Some((first, second)) => number(first).zip(number(second)),
@@ -104,7 +106,8 @@ fn long_pair(text: &[u8]) -> Option<(u64, u64)>
 
 /// Three numbers with blanks between.
 fn triple(text: &[u8]) -> Option<(u32, (u32, u32))>
-    ensures reads { (a b c : ℕ) → a < 2 ^ 32 → b < 2 ^ 32 → c < 2 ^ 32 → text.now ≡ decimal a ++ (codes " " ++ (decimal b ++ (codes " " ++ decimal c))) → result ≡ Some (a, (b, c)) }
+    ensures reads { (a b c : ℕ) → a < 2 ^ 32 → b < 2 ^ 32 → c < 2 ^ 32 → text.now ≡ decimal a
+        ++ (codes " " ++ (decimal b ++ (codes " " ++ decimal c))) → result ≡ Some (a, (b, c)) }
 {
     match cut(text, b' ') {
         Some((first, rest)) => short_number(first).zip(pair(rest)),
@@ -135,7 +138,8 @@ fn why(text: &[u8]) -> Option<Why>
 }
 
 fn piece_and_why(text: &[u8]) -> Option<(u32, Why)>
-    ensures reads { (p : ℕ) (y : Why) → p < 2 ^ 32 → FitsWhy y → text.now ≡ decimal p ++ (codes " " ++ why_text y) → result ≡ Some (p, y) }
+    ensures reads { (p : ℕ) (y : Why) → p < 2 ^ 32 → FitsWhy y → text.now ≡ decimal p ++ (codes " " ++ why_text y)
+        → result ≡ Some (p, y) }
 {
     match cut(text, b' ') {
         Some((piece, rest)) => short_number(piece).zip(why(rest)),
@@ -144,7 +148,8 @@ fn piece_and_why(text: &[u8]) -> Option<(u32, Why)>
 }
 
 fn query_piece_and_why(text: &[u8]) -> Option<(u32, (u32, Why))>
-    ensures reads { (q p : ℕ) (y : Why) → q < 2 ^ 32 → p < 2 ^ 32 → FitsWhy y → text.now ≡ decimal q ++ (codes " " ++ (decimal p ++ (codes " " ++ why_text y))) → result ≡ Some (q, (p, y)) }
+    ensures reads { (q p : ℕ) (y : Why) → q < 2 ^ 32 → p < 2 ^ 32 → FitsWhy y → text.now ≡ decimal q
+        ++ (codes " " ++ (decimal p ++ (codes " " ++ why_text y))) → result ≡ Some (q, (p, y)) }
 {
     match cut(text, b' ') {
         Some((query, rest)) => short_number(query).zip(piece_and_why(rest)),
@@ -154,7 +159,9 @@ fn query_piece_and_why(text: &[u8]) -> Option<(u32, (u32, Why))>
 
 /// Worker, query, piece and reason of a failed load.
 fn failed(text: &[u8]) -> Option<(u32, (u32, (u32, Why)))>
-    ensures reads { (w q p : ℕ) (y : Why) → w < 2 ^ 32 → q < 2 ^ 32 → p < 2 ^ 32 → FitsWhy y → text.now ≡ decimal w ++ (codes " " ++ (decimal q ++ (codes " " ++ (decimal p ++ (codes " " ++ why_text y))))) → result ≡ Some (w, (q, (p, y))) }
+    ensures reads { (w q p : ℕ) (y : Why) → w < 2 ^ 32 → q < 2 ^ 32 → p < 2 ^ 32 → FitsWhy y → text.now ≡ decimal w
+        ++ (codes " " ++ (decimal q ++ (codes " " ++ (decimal p ++ (codes " " ++ why_text y))))) → result
+        ≡ Some (w, (q, (p, y))) }
 {
     match cut(text, b' ') {
         Some((worker, rest)) => short_number(worker).zip(query_piece_and_why(rest)),
@@ -317,7 +324,8 @@ pub fn read_story(alloc: Global, bytes: &[u8]) -> Result<Vec<Entry>, StoryRefusa
     requires { length bytes.now ≤ 2 ^ 30 }
     ensures story { IfOk result (λ es. bytes.now ≡ story_text es.items) }
     ensures refused { IfErr result (IsRefusal bytes.now) }
-    ensures no_story { (es : List Entry) → AllByRecursion Fits es → bytes.now ≡ story_text es → (line : ℕ) → result ≢ Err (StoryRefusal.BadLine line) }
+    ensures no_story { (es : List Entry) → AllByRecursion Fits es → bytes.now ≡ story_text es → (line : ℕ)
+        → result ≢ Err (StoryRefusal.BadLine line) }
 {
     let mut entries = Vec::new(alloc);
     let mut rest = bytes;

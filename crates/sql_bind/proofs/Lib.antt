@@ -7,3 +7,10 @@ pub mod Matching
 pub mod Means
 pub mod Causes
 pub mod Reading
+pub mod Stand
+pub mod Maps
+pub mod Keys
+pub mod KeyLists
+pub mod Answers
+pub mod Groups
+pub mod Firsts

@@ -10,8 +10,8 @@ use Rattle.table_core.specs.declared.schema.Column.{Column}
 use Rattle.table_core.specs.declared.schema.Kind.{Kind}
 use Rattle.filter_zones.specs.declared.cond.Cond.{Cond}
 use Rattle.top_rows.specs.Rows.{Numbered}
-use Rattle.query_meaning.specs.Texts.{AreCellsOf, dict_at}
-use Rattle.query_meaning.specs.Laws.{numbered_values}
+use Rattle.sql_bind.specs.Texts.{AreCellsOf, dict_at}
+use Rattle.sql_bind.specs.Laws.{numbered_values}
 use Rattle.sql_text.specs.Grammar.{Tree}
 use Rattle.sql_bind.specs.Names.{kind_at}
 use Rattle.sql_bind.specs.Bounds.{FitsRow, HasTruth}

@@ -9,9 +9,9 @@ use Rattle.table_core.specs.declared.cell.Cell.{Cell}
 use Rattle.table_core.specs.declared.schema.Column.{Column}
 use Rattle.agg_groups.specs.Meaning.{meaning, overflow}
 use Rattle.top_rows.specs.Rows.{RowQuery, Numbered, rows_meaning}
-use Rattle.query_meaning.specs.Texts.{texts}
-use Rattle.query_meaning.proofs.Groups.{same_meaning, same_overflow, readable_results}
-use Rattle.query_meaning.proofs.Firsts.{same_first_rows, readable_rows as answer_rows}
+use Rattle.sql_bind.specs.Texts.{texts}
+use Rattle.sql_bind.proofs.Groups.{same_meaning, same_overflow, readable_results}
+use Rattle.sql_bind.proofs.Firsts.{same_first_rows, readable_rows as answer_rows}
 use Rattle.sql_text.specs.Grammar.{QueryTree}
 use Rattle.sql_bind.specs.declared.plan.Plan.{Plan}
 use Rattle.sql_bind.specs.declared.refusal.BindRefusal.{BindRefusal}
@@ -20,7 +20,7 @@ use Rattle.sql_bind.specs.Bounds.{FitsRow, HasTruth, IsBound}
 use Rattle.sql_bind.specs.Meaning.{MeansQuery, numbered, matches, matches_query}
 use Rattle.sql_bind.specs.Causes.{Judges}
 use Rattle.sql_bind.specs.Refusals.{refusal_of}
-use Rattle.query_meaning.proofs.Keys.{rises_at}
+use Rattle.sql_bind.proofs.Keys.{rises_at}
 use Rattle.sql_bind.proofs.Rows.{has_truth}
 use Rattle.sql_bind.proofs.Sound.{sound_where}
 use Rattle.sql_bind.proofs.Matching.{matching-map, matching_are, numbered-map, numbered_are}

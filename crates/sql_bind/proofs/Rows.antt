@@ -12,8 +12,8 @@ use Rattle.filter_zones.specs.declared.cond.Bound.{Bound}
 use Rattle.filter_zones.specs.declared.cond.Cond.{Cond}
 use Rattle.filter_zones.specs.declared.cond.Cond.TheVariants as cond
 use Rattle.filter_zones.specs.Truth.{is_null, cell_at, comparison, null_test, two_valued, is_met, truth_of, least, greatest, opposite}
-use Rattle.query_meaning.specs.Texts.{dict_at}
-use Rattle.query_meaning.proofs.Stand as values
+use Rattle.sql_bind.specs.Texts.{dict_at}
+use Rattle.sql_bind.proofs.Stand as values
 use Rattle.sql_text.specs.declared.condition.Literal.{Literal}
 use Rattle.sql_text.specs.Grammar.{Tree, Compare, NullTest, Both, Either, Negated}
 use Rattle.sql_bind.specs.Names.{kind_at}

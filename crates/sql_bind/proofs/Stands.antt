@@ -8,7 +8,7 @@ use Rattle.table_core.specs.declared.schema.Kind.{Kind}
 use Rattle.table_core.specs.declared.schema.Kind.TheVariants as kind
 use Rattle.filter_zones.specs.declared.cond.Bound.{Bound}
 use Rattle.filter_zones.specs.declared.cond.Bound.TheVariants as bound
-use Rattle.query_meaning.proofs.Stand.{codes_stand}
+use Rattle.sql_bind.proofs.Stand.{codes_stand}
 use Rattle.sql_text.specs.declared.condition.Literal.{Literal}
 use Rattle.sql_text.specs.declared.condition.Literal.TheVariants as literal
 use Rattle.sql_bind.specs.declared.places.Use.TheVariants as use_

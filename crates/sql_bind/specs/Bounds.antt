@@ -15,7 +15,7 @@ use Rattle.filter_zones.specs.Truth.{order_of, truth_of, Fits, is_null}
 use Rattle.sql_text.specs.declared.condition.Literal.{Literal}
 use Rattle.sql_text.specs.declared.condition.Literal.TheVariants as literal
 use Rattle.sql_text.specs.Grammar.{Tree, Compare, NullTest, Both, Either, Negated}
-use Rattle.query_meaning.specs.Texts.{dict_at}
+use Rattle.sql_bind.specs.Texts.{dict_at}
 use Rattle.sql_bind.specs.Names.{column_of, kind_at}
 use Rattle.sql_bind.specs.Places.{literal_use}
 use Rattle.sql_bind.specs.Refusals.{misuses}

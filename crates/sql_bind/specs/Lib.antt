@@ -8,3 +8,5 @@ pub mod Bounds
 pub mod Reads
 pub mod Meaning
 pub mod Statements
+pub mod Texts
+pub mod Laws

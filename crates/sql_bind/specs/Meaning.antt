@@ -7,13 +7,13 @@ use Rattle.filter_zones.specs.Truth.{truth_of}
 use Rattle.filter_zones.specs.declared.cond.Cond.{Cond}
 use Rattle.filter_zones.specs.declared.truth.Truth.{Truth}
 use Rattle.filter_zones.specs.declared.truth.Truth.TheVariants.{False, Unknown, True}
-use Rattle.answer_text.specs.Answer.{values_of, AreCellsOf}
+use Rattle.table_core.specs.Answer.{values_of, AreCellsOf}
 use Rattle.agg_groups.specs.Cells.{codes}
 use Rattle.agg_groups.specs.Meaning.{meaning, overflow}
 use Rattle.agg_groups.specs.Text as groups_text
 use Rattle.top_rows.specs.Text as rows_text
 use Rattle.top_rows.specs.Rows.{RowQuery, Numbered, rows_meaning}
-use Rattle.query_meaning.specs.Texts.{texts}
+use Rattle.sql_bind.specs.Texts.{texts}
 use Rattle.sql_text.specs.Grammar.{Tree, QueryTree}
 use Rattle.sql_bind.specs.declared.plan.Plan.{Plan}
 use Rattle.sql_bind.specs.Truth.{truth_over}

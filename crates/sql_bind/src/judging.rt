@@ -88,7 +88,8 @@ pub fn refuse_names(
     columns: &[Column],
     places: &[Place<'_>],
 ) -> Result<(), BindRefusal>
-    ensures { Judges result (option_map BindRefusal.UnknownColumn (spec.first_wrong Wrong.Name columns.now (map place_seen places.now))) }
+    ensures { Judges result (option_map BindRefusal.UnknownColumn
+        (spec.first_wrong Wrong.Name columns.now (map place_seen places.now))) }
 {
     match first_wrong(Wrong::Name, columns, places) {
         Some(name) => Err(BindRefusal::unknown_column(alloc, name)),
@@ -102,7 +103,8 @@ pub fn refuse_kinds(
     columns: &[Column],
     places: &[Place<'_>],
 ) -> Result<(), BindRefusal>
-    ensures { Judges result (option_map BindRefusal.WrongKind (spec.first_wrong Wrong.Kind columns.now (map place_seen places.now))) }
+    ensures { Judges result (option_map BindRefusal.WrongKind
+        (spec.first_wrong Wrong.Kind columns.now (map place_seen places.now))) }
 {
     match first_wrong(Wrong::Kind, columns, places) {
         Some(name) => Err(BindRefusal::wrong_kind(alloc, name)),
@@ -158,7 +160,8 @@ pub fn refuse_plain(
     limit: Option<u32>,
 ) -> Result<(), BindRefusal>
     requires { length columns.now ≤ 16 }
-    ensures { Judges result (option_map BindRefusal.NotGrouped (spec.not_grouped columns.now keys.now items.now limit)) }
+    ensures { Judges result (option_map BindRefusal.NotGrouped
+        (spec.not_grouped columns.now keys.now items.now limit)) }
 {
     if limit.is_some() {
         return Ok(());

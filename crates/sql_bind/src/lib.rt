@@ -8,6 +8,7 @@ mod bounds;
 mod conditions;
 mod items;
 mod judging;
+mod laws;
 mod names;
 mod naming;
 mod places;
@@ -18,6 +19,7 @@ mod statement;
 mod tests;
 
 pub use binding::bind;
+pub use laws::{one_meaning, readable_answers};
 pub use plan::Plan;
 pub use refusal::BindRefusal;
 pub use statement::{StatementRefusal, one_cause, plan_of};

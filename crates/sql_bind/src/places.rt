@@ -28,7 +28,8 @@ pub struct Place<'q> {
 }
 
 fn add<'q>(places: &mut Vec<Place<'q>>, name: &'q Bytes, used: Use) -> Result<(), AllocError>
-    ensures { OnOk result (map spec.place_seen places.new.items ≡ map spec.place_seen places.old.items ++ (name.now, used) ∷ []) }
+    ensures { OnOk result (map spec.place_seen places.new.items ≡ map spec.place_seen places.old.items
+        ++ (name.now, used) ∷ []) }
 {
     places.push(Place {
         name: name.as_slice(),
@@ -38,7 +39,8 @@ fn add<'q>(places: &mut Vec<Place<'q>>, name: &'q Bytes, used: Use) -> Result<()
 }
 
 fn add_item<'q>(places: &mut Vec<Place<'q>>, item: &'q QItem) -> Result<(), AllocError>
-    ensures { OnOk result (map spec.place_seen places.new.items ≡ map spec.place_seen places.old.items ++ spec.item_places item.now) }
+    ensures { OnOk result (map spec.place_seen places.new.items ≡ map spec.place_seen places.old.items
+        ++ spec.item_places item.now) }
 {
     match item {
         QItem::CountAll => Ok(()),
@@ -59,7 +61,8 @@ fn literal_use(literal: &Literal) -> Use
 }
 
 fn add_cond<'q>(places: &mut Vec<Place<'q>>, cond: &'q QCond) -> Result<(), AllocError>
-    ensures { OnOk result (map spec.place_seen places.new.items ≡ map spec.place_seen places.old.items ++ spec.cond_places (tree_of cond.now)) }
+    ensures { OnOk result (map spec.place_seen places.new.items ≡ map spec.place_seen places.old.items
+        ++ spec.cond_places (tree_of cond.now)) }
 {
     match cond {
         QCond::Compare {
@@ -77,7 +80,8 @@ fn add_cond<'q>(places: &mut Vec<Place<'q>>, cond: &'q QCond) -> Result<(), Allo
 }
 
 fn add_items<'q>(places: &mut Vec<Place<'q>>, items: &'q [QItem]) -> Result<(), AllocError>
-    ensures { OnOk result (map spec.place_seen places.new.items ≡ map spec.place_seen places.old.items ++ flat_map spec.item_places items.entry.now) }
+    ensures { OnOk result (map spec.place_seen places.new.items ≡ map spec.place_seen places.old.items
+        ++ flat_map spec.item_places items.entry.now) }
 {
     let mut left = items;
     while let [item, rest @ ..] = left {
@@ -88,7 +92,8 @@ fn add_items<'q>(places: &mut Vec<Place<'q>>, items: &'q [QItem]) -> Result<(), 
 }
 
 fn add_where<'q>(places: &mut Vec<Place<'q>>, cond: &'q Option<QCond>) -> Result<(), AllocError>
-    ensures { OnOk result (map spec.place_seen places.new.items ≡ map spec.place_seen places.old.items ++ spec.where_places (cond_seen cond.now)) }
+    ensures { OnOk result (map spec.place_seen places.new.items ≡ map spec.place_seen places.old.items
+        ++ spec.where_places (cond_seen cond.now)) }
 {
     match cond {
         Some(cond) => add_cond(places, cond),
@@ -97,7 +102,8 @@ fn add_where<'q>(places: &mut Vec<Place<'q>>, cond: &'q Option<QCond>) -> Result
 }
 
 fn add_keys<'q>(places: &mut Vec<Place<'q>>, keys: &'q [Bytes]) -> Result<(), AllocError>
-    ensures { OnOk result (map spec.place_seen places.new.items ≡ map spec.place_seen places.old.items ++ map spec.key_place keys.entry.now) }
+    ensures { OnOk result (map spec.place_seen places.new.items ≡ map spec.place_seen places.old.items
+        ++ map spec.key_place keys.entry.now) }
 {
     let mut left = keys;
     while let [key, rest @ ..] = left {
@@ -108,7 +114,8 @@ fn add_keys<'q>(places: &mut Vec<Place<'q>>, keys: &'q [Bytes]) -> Result<(), Al
 }
 
 fn add_orders<'q>(places: &mut Vec<Place<'q>>, orders: &'q [QOrder]) -> Result<(), AllocError>
-    ensures { OnOk result (map spec.place_seen places.new.items ≡ map spec.place_seen places.old.items ++ map spec.order_place orders.entry.now) }
+    ensures { OnOk result (map spec.place_seen places.new.items ≡ map spec.place_seen places.old.items
+        ++ map spec.order_place orders.entry.now) }
 {
     let mut left = orders;
     while let [order, rest @ ..] = left {

@@ -40,7 +40,8 @@ fn schema(alloc: Global) -> Result<Schema, Fail> {
 
 // Whether the text may stand at the end of the dictionary.
 fn can_follow(dict: &Dict, text: &[u8]) -> bool
-    ensures { OnTrue result (0 < length dict.now → is_gt (text_cmp (slice_index_or dict.now (length dict.now - 1) []) text.now) ≡ false) }
+    ensures { OnTrue result (0 < length dict.now
+        → is_gt (text_cmp (slice_index_or dict.now (length dict.now - 1) []) text.now) ≡ false) }
 {
     let len = dict.len();
     if len == 0 {

@@ -23,7 +23,8 @@ fn null_at<'a, 'b>(
     negated: bool,
     words: &'a [Word<'b>],
 ) -> Result<(QCond, &'a [Word<'b>]), TextRefusal>
-    ensures { Gives (λ x. (tree_of x.0, tokens_of x.1.now)) result (spec.null_at (name_of is_quoted spelling.now) negated (tokens_of words.now)) }
+    ensures { Gives (λ x. (tree_of x.0, tokens_of x.1.now)) result
+        (spec.null_at (name_of is_quoted spelling.now) negated (tokens_of words.now)) }
 {
     let Some(rest) = after_key(Keyword::Null, words) else {
         return Err(TextRefusal::Syntax);
@@ -38,7 +39,8 @@ fn is_at<'a, 'b>(
     spelling: &[u8],
     words: &'a [Word<'b>],
 ) -> Result<(QCond, &'a [Word<'b>]), TextRefusal>
-    ensures { Gives (λ x. (tree_of x.0, tokens_of x.1.now)) result (spec.is_at (name_of is_quoted spelling.now) (tokens_of words.now)) }
+    ensures { Gives (λ x. (tree_of x.0, tokens_of x.1.now)) result
+        (spec.is_at (name_of is_quoted spelling.now) (tokens_of words.now)) }
 {
     match after_key(Keyword::Not, words) {
         Some(rest) => null_at(alloc, is_quoted, spelling, true, rest),
@@ -53,7 +55,8 @@ fn leaf_at<'a, 'b>(
     spelling: &[u8],
     words: &'a [Word<'b>],
 ) -> Result<(QCond, &'a [Word<'b>]), TextRefusal>
-    ensures { Gives (λ x. (tree_of x.0, tokens_of x.1.now)) result (spec.leaf_at (name_of is_quoted spelling.now) (tokens_of words.now)) }
+    ensures { Gives (λ x. (tree_of x.0, tokens_of x.1.now)) result
+        (spec.leaf_at (name_of is_quoted spelling.now) (tokens_of words.now)) }
 {
     if let [Word::Compares(op), rest @ ..] = words {
         let (value, rest) = literal_at(alloc, rest)?;
@@ -71,7 +74,8 @@ fn close_at<'a, 'b>(
     tree: QCond,
     words: &'a [Word<'b>],
 ) -> Result<(QCond, &'a [Word<'b>]), TextRefusal>
-    ensures { Gives (λ x. (tree_of x.0, tokens_of x.1.now)) result (spec.close_at (tree_of tree) (tokens_of words.now)) }
+    ensures { Gives (λ x. (tree_of x.0, tokens_of x.1.now)) result
+        (spec.close_at (tree_of tree) (tokens_of words.now)) }
 {
     match after_sign(Sign::Close, words) {
         Some(rest) => Ok((tree, rest)),
@@ -119,7 +123,8 @@ fn or_tail_at<'a, 'b>(
     left: QCond,
     words: &'a [Word<'b>],
 ) -> Result<(QCond, &'a [Word<'b>]), TextRefusal>
-    ensures { Gives (λ x. (tree_of x.0, tokens_of x.1.now)) result (spec.or_tail_at depth (tree_of left) (tokens_of words.now)) }
+    ensures { Gives (λ x. (tree_of x.0, tokens_of x.1.now)) result
+        (spec.or_tail_at depth (tree_of left) (tokens_of words.now)) }
 {
     if depth == 0 {
         return Err(TextRefusal::Syntax);
@@ -156,7 +161,8 @@ fn and_tail_at<'a, 'b>(
     left: QCond,
     words: &'a [Word<'b>],
 ) -> Result<(QCond, &'a [Word<'b>]), TextRefusal>
-    ensures { Gives (λ x. (tree_of x.0, tokens_of x.1.now)) result (spec.and_tail_at depth (tree_of left) (tokens_of words.now)) }
+    ensures { Gives (λ x. (tree_of x.0, tokens_of x.1.now)) result
+        (spec.and_tail_at depth (tree_of left) (tokens_of words.now)) }
 {
     if depth == 0 {
         return Err(TextRefusal::Syntax);

@@ -89,7 +89,8 @@ fn limit_of(digits: &[u8]) -> Option<u32>
 
 /// The query, where it passes no limit.
 fn within_limits(parts: Parsed<'_>) -> Result<Query, TextRefusal>
-    ensures ok { IfOk result (λ q. (query_of q ≡ parsed_of parts.entry) × (has_too_many (parsed_of parts.entry) ≡ false)) }
+    ensures ok { IfOk result (λ q. (query_of q ≡ parsed_of parts.entry)
+        × (has_too_many (parsed_of parts.entry) ≡ false)) }
     ensures err { IfErr result (λ e. (e ≡ TooManyItems) × (has_too_many (parsed_of parts.entry) ≡ true)) }
 {
     let Parsed {
@@ -176,5 +177,6 @@ pub fn read_query(alloc: Global, bytes: &[u8]) -> Result<Query, TextRefusal>
 /// A text is one query at most, and a text that is a query is refused for want of memory alone.
 pub fn one_query()
     ensures same { (bytes : List ℕ) (p q : QueryTree) → HasQuery bytes p → HasQuery bytes q → p ≡ q }
-    ensures read { (bytes : List ℕ) (q : QueryTree) (e : TextRefusal) → HasQuery bytes q → IsRefused bytes e → e ≡ Memory }
+    ensures read { (bytes : List ℕ) (q : QueryTree) (e : TextRefusal) → HasQuery bytes q → IsRefused bytes e → e
+        ≡ Memory }
 {}

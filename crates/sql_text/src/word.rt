@@ -110,7 +110,8 @@ pub fn words_of<'b>(
     mut tokens: &[Token],
 ) -> Result<Vec<Word<'b>>, TextRefusal>
     requires { spec.StandIn bytes.now tokens.now }
-    ensures { spec.Makes (λ words. spec.tokens_of words.items) (map (spec.meaning_in bytes.now) tokens.entry.now) result }
+    ensures { spec.Makes (λ words. spec.tokens_of words.items) (map (spec.meaning_in bytes.now) tokens.entry.now)
+        result }
 {
     let mut words = Vec::new(alloc);
     while let [token, rest @ ..] = tokens {

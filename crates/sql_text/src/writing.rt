@@ -60,7 +60,8 @@ fn write_literal(out: &mut Bytes, literal: &Literal) -> Result<(), Memory>
 
 fn write_compare(out: &mut Bytes, column: &Bytes, op: Op, value: &Literal) -> Result<(), Memory>
     requires { spec.HasFewPlaces value.now }
-    ensures { OnOk result (out.new ≡ out.old ++ (spec.name_text column.now ++ (spec.op_text op ++ spec.literal_text value.now))) }
+    ensures { OnOk result (out.new ≡ out.old ++
+        (spec.name_text column.now ++ (spec.op_text op ++ spec.literal_text value.now))) }
 {
     write_name(out, column.as_slice())?;
     out.append(op_text(op))?;

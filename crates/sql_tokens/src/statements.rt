@@ -95,7 +95,8 @@ fn start_of(bytes: &[u8]) -> usize
 
 fn spans_from(alloc: Global, bytes: &[u8], start: usize) -> Result<Vec<Span>, AllocError>
     requires { (length bytes.now < 2 ^ 32) × (start ≤ length bytes.now) }
-    ensures { IfOk result (λ spans. spans.items ≡ spec.statements start start true (spec.marks Plain (drop start bytes.now))) }
+    ensures { IfOk result (λ spans. spans.items
+        ≡ spec.statements start start true (spec.marks Plain (drop start bytes.now))) }
 {
     let mut spans = Vec::new(alloc);
     let (mut from, mut at, mut is_empty, mut mode) = (start, start, true, Mode::Plain);

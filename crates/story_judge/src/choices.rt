@@ -32,7 +32,8 @@ fn ratio_at_most(a: (u64, u64), b: (u64, u64)) -> bool
 
 fn load_ratio(s: &Setting, entries: &[Entry], q: u32, c: u32) -> (u64, u64)
     requires { IsSmall s.now }
-    ensures num { result.0 ≡ 1024 * starved_overlap s.now (past entries.now) q c + overlap s.now (past entries.now) q c }
+    ensures num { result.0 ≡ 1024 * starved_overlap s.now (past entries.now) q c + overlap s.now (past entries.now) q
+        c }
     ensures den { result.1 ≡ missing_for s.now (past entries.now) q c }
 {
     let num = 1024 * starved_overlap(s, entries, q, c) as u64 + overlap(s, entries, q, c) as u64;
@@ -125,7 +126,8 @@ fn start_of(cursor: &[u64], q: u32) -> u64
 /// How far x has waited, with what is taken off the other's rank.
 fn rank_beside(s: &Setting, entries: &[Entry], x: u32, other: u32) -> u128
     requires { IsSmall s.now }
-    ensures { result ≡ waiting s.now (past entries.now) x + running s.now (past entries.now) * needed s.now (past entries.now) other }
+    ensures { result ≡ waiting s.now (past entries.now) x + running s.now (past entries.now) * needed s.now
+        (past entries.now) other }
 {
     waiting(s, entries, x) as u128
         + times(running(s, entries) as u64, needed(s, entries, other) as u64)
@@ -196,7 +198,8 @@ fn victim_at_most(s: &Setting, entries: &[Entry], cursor: &[u64], a: u32, b: u32
 fn is_closer(s: &Setting, entries: &[Entry], load: &Option<Load>, y: u32, c: u32) -> bool
     requires small { IsSmall s.now }
     requires load { load.now ≡ underway s.now (past entries.now) }
-    ensures { result ≡ (is_victim s.now (past entries.now) y && nat_lt (close s.now (past entries.now) y) (close s.now (past entries.now) c)) }
+    ensures { result ≡ (is_victim s.now (past entries.now) y && nat_lt (close s.now (past entries.now) y)
+        (close s.now (past entries.now) c)) }
 {
     is_victim(s, entries, load, y) && close(s, entries, y) < close(s, entries, c)
 }
@@ -205,7 +208,8 @@ fn is_closer(s: &Setting, entries: &[Entry], load: &Option<Load>, y: u32, c: u32
 fn has_closer(s: &Setting, entries: &[Entry], load: &Option<Load>, c: u32) -> bool
     requires small { IsSmall s.now }
     requires load { load.now ≡ underway s.now (past entries.now) }
-    ensures { result ≡ any_below (λ y. is_victim s.now (past entries.now) y && nat_lt (close s.now (past entries.now) y) (close s.now (past entries.now) c)) s.now.chunks }
+    ensures { result ≡ any_below (λ y. is_victim s.now (past entries.now) y && nat_lt
+        (close s.now (past entries.now) y) (close s.now (past entries.now) c)) s.now.chunks }
 {
     let mut found = false;
     for y in 0..s.chunks {
@@ -245,7 +249,8 @@ fn beats_query(
 ) -> bool
     requires small { IsSmall s.now }
     requires load { load.now ≡ underway s.now (past entries.now) }
-    ensures { result ≡ (is_trigger s.now (past entries.now) r && not (query_at_most s.now.policy cursor.now s.now (past entries.now) r q)) }
+    ensures { result ≡ (is_trigger s.now (past entries.now) r && not
+        (query_at_most s.now.policy cursor.now s.now (past entries.now) r q)) }
 {
     is_trigger(s, entries, load, r) && !query_at_most(s, entries, cursor, r, q)
 }
@@ -259,7 +264,8 @@ fn has_better_query(
 ) -> bool
     requires small { IsSmall s.now }
     requires load { load.now ≡ underway s.now (past entries.now) }
-    ensures { result ≡ list_any (λ n. is_trigger s.now (past entries.now) n.query && not (query_at_most s.now.policy cursor.now s.now (past entries.now) n.query q)) s.now.needs }
+    ensures { result ≡ list_any (λ n. is_trigger s.now (past entries.now) n.query && not
+        (query_at_most s.now.policy cursor.now s.now (past entries.now) n.query q)) s.now.needs }
 {
     s.needs
         .iter()
@@ -283,7 +289,8 @@ fn is_best_query(
 fn beats_load(s: &Setting, entries: &[Entry], cursor: &[u64], q: u32, y: u32, c: u32) -> bool
     requires small { IsSmall s.now }
     requires some { 0 < s.now.chunks }
-    ensures { result ≡ (is_target s.now (past entries.now) q y && not (load_at_most s.now.policy cursor.now s.now (past entries.now) q y c)) }
+    ensures { result ≡ (is_target s.now (past entries.now) q y && not
+        (load_at_most s.now.policy cursor.now s.now (past entries.now) q y c)) }
 {
     is_target(s, entries, q, y) && !load_at_most(s, entries, cursor, q, y, c)
 }
@@ -291,7 +298,8 @@ fn beats_load(s: &Setting, entries: &[Entry], cursor: &[u64], q: u32, y: u32, c:
 #[tactic(auto, using(crate::proofs::Below::any_below_more))]
 fn has_better_load(s: &Setting, entries: &[Entry], cursor: &[u64], q: u32, c: u32) -> bool
     requires { IsSmall s.now }
-    ensures { result ≡ any_below (λ y. is_target s.now (past entries.now) q y && not (load_at_most s.now.policy cursor.now s.now (past entries.now) q y c)) s.now.chunks }
+    ensures { result ≡ any_below (λ y. is_target s.now (past entries.now) q y && not
+        (load_at_most s.now.policy cursor.now s.now (past entries.now) q y c)) s.now.chunks }
 {
     let mut found = false;
     for y in 0..s.chunks {
@@ -310,7 +318,8 @@ fn is_best_load(s: &Setting, entries: &[Entry], cursor: &[u64], q: u32, c: u32) 
 fn beats_delivery(s: &Setting, entries: &[Entry], cursor: &[u64], q: u32, y: u32, c: u32) -> bool
     requires small { IsSmall s.now }
     requires some { 0 < s.now.chunks }
-    ensures { result ≡ (is_ready s.now (past entries.now) q y && not (delivery_at_most s.now.policy cursor.now s.now (past entries.now) q y c)) }
+    ensures { result ≡ (is_ready s.now (past entries.now) q y && not
+        (delivery_at_most s.now.policy cursor.now s.now (past entries.now) q y c)) }
 {
     is_ready(s, entries, q, y) && !delivery_at_most(s, entries, cursor, q, y, c)
 }
@@ -318,7 +327,8 @@ fn beats_delivery(s: &Setting, entries: &[Entry], cursor: &[u64], q: u32, y: u32
 #[tactic(auto, using(crate::proofs::Below::any_below_more))]
 fn has_better_delivery(s: &Setting, entries: &[Entry], cursor: &[u64], q: u32, c: u32) -> bool
     requires { IsSmall s.now }
-    ensures { result ≡ any_below (λ y. is_ready s.now (past entries.now) q y && not (delivery_at_most s.now.policy cursor.now s.now (past entries.now) q y c)) s.now.chunks }
+    ensures { result ≡ any_below (λ y. is_ready s.now (past entries.now) q y && not
+        (delivery_at_most s.now.policy cursor.now s.now (past entries.now) q y c)) s.now.chunks }
 {
     let mut found = false;
     for y in 0..s.chunks {
@@ -345,7 +355,8 @@ fn beats_victim(
     requires small { IsSmall s.now }
     requires load { load.now ≡ underway s.now (past entries.now) }
     requires some { 0 < s.now.chunks }
-    ensures { result ≡ (is_victim_of s.now.policy s.now (past entries.now) y && not (victim_at_most s.now.policy cursor.now s.now (past entries.now) y c)) }
+    ensures { result ≡ (is_victim_of s.now.policy s.now (past entries.now) y && not
+        (victim_at_most s.now.policy cursor.now s.now (past entries.now) y c)) }
 {
     is_victim_of(s, entries, load, y) && !victim_at_most(s, entries, cursor, y, c)
 }
@@ -360,7 +371,8 @@ fn has_better_victim(
 ) -> bool
     requires small { IsSmall s.now }
     requires load { load.now ≡ underway s.now (past entries.now) }
-    ensures { result ≡ any_below (λ y. is_victim_of s.now.policy s.now (past entries.now) y && not (victim_at_most s.now.policy cursor.now s.now (past entries.now) y c)) s.now.chunks }
+    ensures { result ≡ any_below (λ y. is_victim_of s.now.policy s.now (past entries.now) y && not
+        (victim_at_most s.now.policy cursor.now s.now (past entries.now) y c)) s.now.chunks }
 {
     let mut found = false;
     for y in 0..s.chunks {
@@ -393,7 +405,8 @@ fn chooses_plan(
 ) -> bool
     requires small { IsSmall s.now }
     requires load { load.now ≡ underway s.now (past entries.now) }
-    ensures { result ≡ (is_best_query cursor.now s.now (past entries.now) q && is_best_load cursor.now s.now (past entries.now) q c) }
+    ensures { result ≡ (is_best_query cursor.now s.now (past entries.now) q && is_best_load cursor.now s.now
+        (past entries.now) q c) }
 {
     is_best_query(s, entries, load, cursor, q) && is_best_load(s, entries, cursor, q, c)
 }

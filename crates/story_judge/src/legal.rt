@@ -53,7 +53,8 @@ pub fn may_come(
     entry: &Entry,
 ) -> Result<bool, AllocError>
     requires { IsSmall s.now }
-    ensures { IfOk result (λ b. IsTrue b ↔ (Allowed s.now (past entries.now) entry.now × Chosen s.now (past entries.now) entry.now)) }
+    ensures { IfOk result (λ b. IsTrue b ↔ (Allowed s.now (past entries.now) entry.now
+        × Chosen s.now (past entries.now) entry.now)) }
 {
     let may = followed(alloc, s, entries, entry)?;
     Ok(may)

@@ -136,7 +136,8 @@ pub fn interested(s: &Setting, entries: &[Entry], c: u32) -> u32
 
 fn is_close(s: &Setting, entries: &[Entry], q: u32, c: u32) -> bool
     requires { IsSmall s.now }
-    ensures { result ≡ (is_active (past entries.now) q && is_available s.now (past entries.now) q c && nat_le (available s.now (past entries.now) q) 2) }
+    ensures { result ≡ (is_active (past entries.now) q && is_available s.now (past entries.now) q c && nat_le
+        (available s.now (past entries.now) q) 2) }
 {
     is_active(entries, q) && is_available(s, entries, q, c) && available(s, entries, q) <= 2
 }
@@ -173,14 +174,16 @@ pub fn cached(s: &Setting, entries: &[Entry], c: u32) -> u32
 }
 
 fn overlaps(s: &Setting, entries: &[Entry], q: u32, r: u32, c: u32) -> bool
-    ensures { result ≡ (is_active (past entries.now) r && needs_chunk s.now (past entries.now) r c && shares s.now q r) }
+    ensures { result ≡ (is_active (past entries.now) r && needs_chunk s.now (past entries.now) r c && shares s.now q
+        r) }
 {
     is_active(entries, r) && needs_chunk(s, entries, r, c) && shares(s, q, r)
 }
 
 fn starved_overlaps(s: &Setting, entries: &[Entry], q: u32, r: u32, c: u32) -> bool
     requires { IsSmall s.now }
-    ensures { result ≡ (is_starved s.now (past entries.now) r && needs_chunk s.now (past entries.now) r c && shares s.now q r) }
+    ensures { result ≡ (is_starved s.now (past entries.now) r && needs_chunk s.now (past entries.now) r c && shares
+        s.now q r) }
 {
     is_starved(s, entries, r) && needs_chunk(s, entries, r, c) && shares(s, q, r)
 }

@@ -2,3 +2,4 @@ pub mod Cutting
 pub mod Members
 pub mod Rising
 pub mod Rows
+pub mod Lists

@@ -5,3 +5,5 @@ pub mod Sets
 pub mod Table
 pub mod Texts
 pub mod Value
+pub mod Lists
+pub mod Answer

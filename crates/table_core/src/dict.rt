@@ -74,7 +74,8 @@ impl Dict {
     ///
     /// For want of memory, or of codes, the texts stay as they were.
     pub fn push(&mut self, text: &[u8]) -> Result<u32, AllocError>
-        requires { 0 < length self.old → is_gt (text_cmp (slice_index_or self.old (length self.old - 1) []) text.now) ≡ false }
+        requires { 0 < length self.old → is_gt (text_cmp (slice_index_or self.old (length self.old - 1) []) text.now)
+            ≡ false }
         ensures ok { IfOk result (λ code. Added self.old text.now self.new code) }
         ensures err { OnErr result (self.new ≡ self.old) }
         ensures rises { IsDict self.new }

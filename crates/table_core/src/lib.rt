@@ -1,6 +1,7 @@
 //! What a table is: typed cells in rows, the columns they stand in, and the words that all crates above share.
 #![tactic(auto)]
 
+mod answer;
 mod bytes;
 mod cell;
 mod chunk;
@@ -18,6 +19,7 @@ mod texts;
 mod value_text;
 mod words;
 
+pub use answer::text_of_answer;
 pub use bytes::Bytes;
 pub use cell::{Cell, cell_order};
 pub use chunk::{chunk_count, chunk_span};

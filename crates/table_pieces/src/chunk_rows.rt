@@ -8,7 +8,10 @@ ghost use Rattle.table_core.specs.declared.cell.Cell.{Cell};
 ///
 /// Chunk `c` begins with row `c * per`, and has the rows up to its end.
 pub fn rows_by_chunk()
-    ensures joined { (rows : List (List Cell)) (per : ℕ) → 1 ≤ per → flat_map (chunk rows per) (range_with_len 0 (chunk_count (length rows) per)) ≡ rows }
-    ensures len { (rows : List (List Cell)) (per c : ℕ) → length (chunk rows per c) ≡ chunk_end (length rows) per c - c * per }
-    ensures row { (rows : List (List Cell)) (per c i : ℕ) → i < length (chunk rows per c) → slice_index_or (chunk rows per c) i [] ≡ slice_index_or rows (c * per + i) [] }
+    ensures joined { (rows : List (List Cell)) (per : ℕ) → 1 ≤ per
+        → flat_map (chunk rows per) (range_with_len 0 (chunk_count (length rows) per)) ≡ rows }
+    ensures len { (rows : List (List Cell)) (per c : ℕ) → length (chunk rows per c)
+        ≡ chunk_end (length rows) per c - c * per }
+    ensures row { (rows : List (List Cell)) (per c i : ℕ) → i < length (chunk rows per c)
+        → slice_index_or (chunk rows per c) i [] ≡ slice_index_or rows (c * per + i) [] }
 {}

@@ -21,10 +21,13 @@ fn bytes_of_piece(alloc: Global, shape: &Shape, table: &Table, piece: u32) -> Re
     requires table { IsTableOf shape.now table.now }
     requires there { piece < pieces shape.now }
     ensures bytes { IfOk result (λ b. b ≡ piece_bytes shape.now table.now.rows piece) }
-    ensures len { OnOk result (length (piece_bytes shape.now table.now.rows piece) ≡ 8 * words_in (piece_at shape.now piece)) }
+    ensures len { OnOk result (length (piece_bytes shape.now table.now.rows piece)
+        ≡ 8 * words_in (piece_at shape.now piece)) }
     ensures words { OnOk result (ReadsBack shape.now table.now.rows piece) }
-    ensures back { OnOk result (GivesBack shape.now table.now.rows piece (word_of (piece_bytes shape.now table.now.rows piece))) }
-    ensures sound { OnOk result (let q = piece_at shape.now piece in NoneBroken shape.now q (word_of (piece_bytes shape.now table.now.rows piece)) (words_in q)) }
+    ensures back { OnOk result (GivesBack shape.now table.now.rows piece
+        (word_of (piece_bytes shape.now table.now.rows piece))) }
+    ensures sound { OnOk result (let q = piece_at shape.now piece in NoneBroken shape.now q
+        (word_of (piece_bytes shape.now table.now.rows piece)) (words_in q)) }
 {
     let words = encode(alloc, shape, table, piece)?;
     words_to_bytes(alloc, words.as_slice())
@@ -43,12 +46,14 @@ pub fn put_pieces<D: Depot>(
 ) -> Result<(), BatchRefusal>
     requires shape { IsShape shape.now }
     requires table { IsTableOf shape.now table.now }
-    ensures stored { OnOk result (ArePut shape.now table.now.rows (pieces shape.now) (pieces shape.now) (D.held depot.old) (D.held depot.new)) }
+    ensures stored { OnOk result (ArePut shape.now table.now.rows (pieces shape.now) (pieces shape.now)
+        (D.held depot.old) (D.held depot.new)) }
     ensures len { OnOk result (AreLong shape.now table.now.rows (pieces shape.now)) }
     ensures words { OnOk result (ReadBack shape.now table.now.rows (pieces shape.now)) }
     ensures back { OnOk result (GiveBack shape.now table.now.rows (pieces shape.now)) }
     ensures sound { OnOk result (AreSound shape.now table.now.rows (pieces shape.now)) }
-    ensures refused { IfErr result (λ r. IsPutRefusal shape.now table.now.rows (D.held depot.old) (D.held depot.new) (D.faults depot.old) (D.faults depot.new) r) }
+    ensures refused { IfErr result (λ r. IsPutRefusal shape.now table.now.rows (D.held depot.old) (D.held depot.new)
+        (D.faults depot.old) (D.faults depot.new) r) }
     ensures gets { D.gets depot.new ≡ D.gets depot.old }
     ensures later { D.faults depot.old ≤ D.faults depot.new }
 {

@@ -23,7 +23,8 @@ fn zones_of_chunk(shape: &Shape, table: &Table, chunk: u32) -> ChunkZones
     requires there { chunk < chunks shape.now }
     ensures zones { result ≡ zones_in shape.now table.now.rows chunk }
     ensures covers { All (CoversRow result.zones) (chunk_of table.now.rows shape.now.per chunk) }
-    ensures fits { (c : Cond) → All (FitsRow c) (chunk_of table.now.rows shape.now.per chunk) → FitsZones c result.zones }
+    ensures fits { (c : Cond) → All (FitsRow c) (chunk_of table.now.rows shape.now.per chunk)
+        → FitsZones c result.zones }
 {
     let (from, to) = chunk_span(shape.rows, shape.per, chunk);
     let cells = table.rows(from as usize, to as usize);
@@ -45,9 +46,12 @@ pub fn zones_of_chunks(
     ensures zones { IfOk result (λ zones. zones.items ≡ chunk_zones shape.now table.now.rows) }
     ensures count { IfOk result (λ zones. length zones.items ≡ chunks shape.now) }
     ensures covers { IfOk result (λ zones. CoverChunks shape.now table.now.rows zones.items) }
-    ensures fits { IfOk result (λ zones. (c : Cond) → All (FitsRow c) table.now.rows → All (λ chunk. FitsZones c chunk.zones) zones.items) }
-    ensures outside { IfOk result (λ zones. (c : Cond) → All (FitsRow c) table.now.rows → NoMatchOutside shape.now table.now.rows c (needed (Some c) zones.items)) }
-    ensures passing { IfOk result (λ zones. (cond : Option Cond) (passes : List Cell → Bool) → IfSome cond (λ c. All (FitsRow c) table.now.rows) → PassesOnly passes cond
+    ensures fits { IfOk result (λ zones. (c : Cond) → All (FitsRow c) table.now.rows
+        → All (λ chunk. FitsZones c chunk.zones) zones.items) }
+    ensures outside { IfOk result (λ zones. (c : Cond) → All (FitsRow c) table.now.rows
+        → NoMatchOutside shape.now table.now.rows c (needed (Some c) zones.items)) }
+    ensures passing { IfOk result (λ zones. (cond : Option Cond) (passes : List Cell → Bool)
+        → IfSome cond (λ c. All (FitsRow c) table.now.rows) → PassesOnly passes cond
         → HaveAllThatPass shape.now table.now.rows passes (needed cond zones.items)) }
 {
     let mut zones = Vec::new(alloc);

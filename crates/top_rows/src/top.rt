@@ -4,7 +4,7 @@ ghost use Rattle.std.specs.Bool.{OnTrue, OnFalse};
 ghost use Rattle.table_core.specs.declared.cell.Cell.{Cell};
 ghost use Rattle.agg_groups.specs.Cells.{codes};
 ghost use Rattle.agg_groups.specs.Meaning.{cell};
-ghost use Rattle.answer_text.specs.Lists.{lists};
+ghost use Rattle.table_core.specs.Lists.{lists};
 ghost use Rattle.top_rows.specs.Rows.{Numbered, AreApart, AreDistinct, has_number, insert_row, rows_meaning};
 ghost use Rattle.top_rows.specs.Standing.{AreKeyed, numbered};
 ghost use Rattle.top_rows.specs.Top.{IsBehind, Kept, Stands, StandsInSomeOrder};
@@ -44,7 +44,8 @@ impl Model for TopRows {
 fn is_behind(rows: &Ranked, order: &[Order], limit: u32, number: u32, row: &[Cell]) -> bool
     requires keyed { AreKeyed order.now rows.now.entries }
     requires few { length rows.now.entries ≤ limit }
-    ensures behind { OnTrue result (take limit (insert_row codes order.now (number, row.now) (numbered rows.now.entries)) ≡ numbered rows.now.entries) }
+    ensures behind { OnTrue result (take limit
+        (insert_row codes order.now (number, row.now) (numbered rows.now.entries)) ≡ numbered rows.now.entries) }
     ensures among { OnFalse result (IsBehind limit order.now (numbered rows.now.entries) (number, row.now) → ⊥) }
 {
     standing_order();
@@ -66,7 +67,8 @@ fn put(
     row: &[Cell],
 ) -> Result<(), Memory>
     requires keyed { AreKeyed order.now rows.old.entries }
-    ensures ok { OnOk result (has_number (numbered rows.old.entries) number ≡ false → numbered rows.new.entries ≡ insert_row codes order.now (number, row.now) (numbered rows.old.entries)) }
+    ensures ok { OnOk result (has_number (numbered rows.old.entries) number ≡ false → numbered rows.new.entries
+        ≡ insert_row codes order.now (number, row.now) (numbered rows.old.entries)) }
     ensures keyed { OnOk result (AreKeyed order.now rows.new.entries) }
     ensures few { OnOk result (length rows.new.entries ≤ length rows.old.entries + 1) }
     ensures err { OnErr result (rows.new.entries ≡ rows.old.entries) }
@@ -99,7 +101,8 @@ fn add_to(
 ) -> Result<(), Memory>
     requires keyed { AreKeyed order.now rows.old.entries }
     requires few { length rows.old.entries ≤ limit }
-    ensures ok { OnOk result (has_number (numbered rows.old.entries) number ≡ false → numbered rows.new.entries ≡ take limit (insert_row codes order.now (number, row.now) (numbered rows.old.entries))) }
+    ensures ok { OnOk result (has_number (numbered rows.old.entries) number ≡ false → numbered rows.new.entries
+        ≡ take limit (insert_row codes order.now (number, row.now) (numbered rows.old.entries))) }
     ensures free { IsBehind limit order.now (numbered rows.old.entries) (number, row.now) → IsOk result }
     ensures keyed { AreKeyed order.now rows.new.entries }
     ensures few { length rows.new.entries ≤ limit }
@@ -115,7 +118,8 @@ fn add_to(
 
 // Adds the rows of a map, one after another. After want of memory some of them may have been added.
 fn absorb(top: &mut TopRows, rows: &Ranked) -> Result<(), Memory>
-    ensures ok { OnOk result ((before : List (Numbered Cell)) → Stands top.old before → AreDistinct (before ++ numbered rows.now.entries) → Stands top.new (before ++ numbered rows.now.entries)) }
+    ensures ok { OnOk result ((before : List (Numbered Cell)) → Stands top.old before
+        → AreDistinct (before ++ numbered rows.now.entries) → Stands top.new (before ++ numbered rows.now.entries)) }
     ensures plan { top.new.plan ≡ top.old.plan }
 {
     for (standing, row) in rows {
@@ -133,7 +137,8 @@ fn values_of(alloc: Global, columns: &[u32], row: &[Cell]) -> Result<Vec<Cell>, 
 
 // The values of the named columns of each row.
 fn answer(alloc: Global, columns: &[u32], rows: &Ranked) -> Result<Vec<Vec<Cell>>, Memory>
-    ensures { IfOk result (λ answer. lists answer.items ≡ map (λ (r : Numbered Cell). map (cell codes r.1) columns.now) (numbered rows.now.entries)) }
+    ensures { IfOk result (λ answer. lists answer.items
+        ≡ map (λ (r : Numbered Cell). map (cell codes r.1) columns.now) (numbered rows.now.entries)) }
 {
     let mut answer = Vec::with_capacity(alloc, rows.len())?;
     for (_, row) in rows {
@@ -167,7 +172,8 @@ impl TopRows {
     /// A row that can't be among the first ones costs one comparison and takes no memory, so it is never refused.
     /// For want of memory the first rows stay as they were.
     pub fn add(&mut self, number: u32, row: &[Cell]) -> Result<(), Memory>
-        ensures ok { OnOk result ((rows : List (Numbered Cell)) → Stands self.old rows → has_number rows number ≡ false → Stands self.new (rows ++ (number, row.now) ∷ [])) }
+        ensures ok { OnOk result ((rows : List (Numbered Cell)) → Stands self.old rows → has_number rows number
+            ≡ false → Stands self.new (rows ++ (number, row.now) ∷ [])) }
         ensures free { IsBehind self.old.plan.limit self.old.plan.order self.old.rows (number, row.now) → IsOk result }
         ensures plan { self.new.plan ≡ self.old.plan }
         ensures err { OnErr result (self.new ≡ self.old) }
@@ -202,7 +208,8 @@ impl TopRows {
     // First rows of their own that stand for the rows of two.
     fn united(&self, other: &TopRows) -> Result<TopRows, Memory>
         requires { other.now.plan ≡ self.now.plan }
-        ensures ok { IfOk result (λ t. (rows more : List (Numbered Cell)) → Stands self.now rows → Stands other.now more → AreApart rows more → Stands t (rows ++ more)) }
+        ensures ok { IfOk result (λ t. (rows more : List (Numbered Cell)) → Stands self.now rows
+            → Stands other.now more → AreApart rows more → Stands t (rows ++ more)) }
         ensures plan { IfOk result (λ t. t.plan ≡ self.now.plan) }
     {
         let mut both = self.empty()?;
@@ -216,7 +223,8 @@ impl TopRows {
     /// For want of memory the first rows stay as they were, and the others come back.
     pub fn merge(&mut self, other: TopRows) -> Result<(), (TopRows, Memory)>
         requires { other.plan ≡ self.old.plan }
-        ensures ok { OnOk result ((rows more : List (Numbered Cell)) → Stands self.old rows → Stands other more → AreApart rows more → Stands self.new (rows ++ more)) }
+        ensures ok { OnOk result ((rows more : List (Numbered Cell)) → Stands self.old rows → Stands other more
+            → AreApart rows more → Stands self.new (rows ++ more)) }
         ensures plan { self.new.plan ≡ self.old.plan }
         ensures err { OnErr result (self.new ≡ self.old) }
         ensures back { IfErr result (λ e. e.0 ≡ other) }
@@ -234,7 +242,8 @@ impl TopRows {
     ///
     /// After want of memory the rows are gone.
     pub fn finish(self) -> Result<Picked, Memory>
-        ensures { IfOk result (λ picked. (rows : List (Numbered Cell)) → StandsInSomeOrder self rows → picked ≡ rows_meaning codes self.plan rows) }
+        ensures { IfOk result (λ picked. (rows : List (Numbered Cell)) → StandsInSomeOrder self rows → picked
+            ≡ rows_meaning codes self.plan rows) }
     {
         let alloc = *self.columns.allocator();
         let rows = answer(alloc, &self.columns, &self.rows)?;

@@ -42,7 +42,8 @@ fn fits_column(kind: Kind, dict: &Dict, cell: Cell) -> bool
 }
 
 fn fits_row(columns: &[Column], dicts: &[Dict], row: &[Cell]) -> bool
-    ensures { OnTrue result ((x : ℕ) → x < length columns.now → FitsColumn (kind_of columns.now x) (slice_index_or dicts.now x []) (slice_index_or row.now x Null)) }
+    ensures { OnTrue result ((x : ℕ) → x < length columns.now
+        → FitsColumn (kind_of columns.now x) (slice_index_or dicts.now x []) (slice_index_or row.now x Null)) }
 {
     if row.len() != columns.len() || dicts.len() != columns.len() {
         return false;
@@ -76,7 +77,8 @@ pub(crate) fn are_whole_rows(width: usize, cells: &[Cell]) -> bool
 
 // Whether the text may stand at the end of the dictionary.
 pub(crate) fn can_follow(dict: &Dict, text: &[u8]) -> bool
-    ensures { OnTrue result (0 < length dict.now → is_gt (text_cmp (slice_index_or dict.now (length dict.now - 1) []) text.now) ≡ false) }
+    ensures { OnTrue result (0 < length dict.now
+        → is_gt (text_cmp (slice_index_or dict.now (length dict.now - 1) []) text.now) ≡ false) }
 {
     let len = dict.len();
     if len == 0 {

@@ -3,9 +3,9 @@ use Rattle.table_core.specs.declared.cell.Cell.{Cell}
 use Rattle.agg_groups.specs.declared.running.Running.{Running}
 use Rattle.agg_groups.specs.Running.{HasRoom, joins}
 use Rattle.agg_groups.specs.Groups.{Group}
-use Rattle.answer_text.specs.Lists.{lists}
+use Rattle.table_core.specs.Lists.{lists}
 use Rattle.agg_groups.specs.Table.{AreBelow, HasRoomAt, Rising, Puts, names, at, base, seen, plain_places, values_at}
-use Rattle.answer_text.proofs.Lists.{length-lists}
+use Rattle.table_core.proofs.Lists.{length-lists}
 use Rattle.agg_groups.proofs.Places.{Entry}
 use Rattle.agg_groups.proofs.Seen.{names-seen, sound_wider}
 use Rattle.agg_groups.proofs.Merge.{absorb, absorb_all, IsLeft, left_head, left_step, joined_at, all_left}

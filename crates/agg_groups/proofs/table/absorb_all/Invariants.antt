@@ -1,6 +1,6 @@
 use Rattle.std.proofs.Common.{◌≡◌, ◌+◌, List, length}
 use Rattle.table_core.specs.declared.cell.Cell.{Cell}
-use Rattle.answer_text.specs.Lists.{lists}
+use Rattle.table_core.specs.Lists.{lists}
 use Rattle.agg_groups.specs.Table.{AreBelow, AreSound, IsPlaced, Rising, names, at, seen, plain_places}
 use Rattle.agg_groups.proofs.Merge.{absorb, IsLeft}
 use Rattle.agg_groups.proofs.table.absorb_all.Given as goal

@@ -1,7 +1,7 @@
 use Rattle.std.proofs.Common.{◌≡◌, ◌∙◌, sym, ap, subst, List, length, rules, None}
 use Rattle.agg_groups.specs.Meaning.{or_else}
 use Rattle.agg_groups.specs.Running.{over_shown}
-use Rattle.answer_text.specs.Lists.{lists}
+use Rattle.table_core.specs.Lists.{lists}
 use Rattle.agg_groups.specs.Table.{AreBelow, first_over, seen, plain_places, values_at}
 use Rattle.agg_groups.proofs.Places.{Entry}
 use Rattle.agg_groups.proofs.Shows.{is_none}

@@ -5,8 +5,8 @@ use Rattle.std.specs.Vec.{with_items}
 use Rattle.std.proofs.lemmas.List.{with_items_is, map-set}
 use Rattle.agg_groups.specs.declared.running.Running.{Running}
 use Rattle.agg_groups.specs.Running.{joins}
-use Rattle.answer_text.specs.Lists.{lists}
-use Rattle.answer_text.proofs.Lists.{lists_at}
+use Rattle.table_core.specs.Lists.{lists}
+use Rattle.table_core.proofs.Lists.{lists_at}
 use Rattle.agg_groups.proofs.table.join_at.Goals as goal
 
 pub returns : goal.returns

@@ -1,9 +1,9 @@
 use Rattle.std.proofs.Common.{◌≡◌, ◌∙◌, ◌+◌, ◌++◌, ◌∷◌, [], sym, ap, subst, length, length-append, ℕ, List, arith}
 use Rattle.std.specs.Prelude.{Some, if◌then◌else◌}
-use Rattle.answer_text.specs.Lists.{lists}
+use Rattle.table_core.specs.Lists.{lists}
 use Rattle.agg_groups.specs.Table.{plain_places, place_at, AreBelow}
 use Rattle.agg_groups.proofs.Order.{same_key}
-use Rattle.answer_text.proofs.Lists.{length-lists, lists-push}
+use Rattle.table_core.proofs.Lists.{length-lists, lists-push}
 use Rattle.agg_groups.proofs.Places.{Entry, inserted, rising, below_insert, inserted_apart}
 use Rattle.agg_groups.proofs.table.put_start.Goals as goal
 

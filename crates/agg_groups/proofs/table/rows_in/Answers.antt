@@ -1,9 +1,9 @@
 use Rattle.std.proofs.Common.{◌≡◌, ◌∙◌, ◌∷◌, ◌++◌, sym, ap, subst, List, length, rules, arith, All}
 use Rattle.agg_groups.specs.declared.running.Running.{Running}
 use Rattle.agg_groups.specs.Running.{all_shown, FitsCell}
-use Rattle.answer_text.specs.Lists.{lists}
+use Rattle.table_core.specs.Lists.{lists}
 use Rattle.agg_groups.specs.Table.{AreBelow, AllFit, result_rows, seen, plain_places, values_at}
-use Rattle.answer_text.proofs.Lists.{length-lists}
+use Rattle.table_core.proofs.Lists.{length-lists}
 use Rattle.agg_groups.proofs.Places.{Entry}
 use Rattle.agg_groups.proofs.Shows.{rows_push}
 use Rattle.agg_groups.proofs.table.rows_in.Goals as goal

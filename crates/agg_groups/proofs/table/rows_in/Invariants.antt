@@ -1,5 +1,5 @@
 use Rattle.std.proofs.Common.{◌≡◌, ◌++◌, length}
-use Rattle.answer_text.specs.Lists.{lists}
+use Rattle.table_core.specs.Lists.{lists}
 use Rattle.agg_groups.specs.Table.{AreBelow, AllFit, result_rows, seen, plain_places}
 use Rattle.agg_groups.proofs.table.rows_in.Given as goal
 

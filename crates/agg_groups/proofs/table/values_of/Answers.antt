@@ -2,7 +2,7 @@ use Rattle.std.proofs.Common.{◌∙◌, sym, ap}
 use Rattle.std.specs.Prelude.{Vec}
 use Rattle.std.specs.Global.{Global}
 use Rattle.agg_groups.specs.declared.running.Running.{Running}
-use Rattle.answer_text.proofs.Lists.{lists_at}
+use Rattle.table_core.proofs.Lists.{lists_at}
 use Rattle.agg_groups.proofs.table.values_of.Goals as goal
 
 pub returns : goal.returns

@@ -1,5 +1,5 @@
 use Rattle.std.proofs.Common.{◌≡◌, ◌+◌, ◌-◌, ◌++◌, ◌∷◌, List, [], drop, length, take, arith, ap, sym, subst, length-append}
-use Rattle.query_answers.specs.declared.answer.Answer.{Answer}
+use Rattle.query_gather.specs.declared.answer.Answer.{Answer}
 use Rattle.batch_run.specs.Answering.{AnswersSome, AreAllJoinable, Came}
 use Rattle.batch_run.proofs.Results.{answers_more, may_join, next_joinable}
 use Rattle.batch_run.proofs.answering.answer_all.Goals as goal

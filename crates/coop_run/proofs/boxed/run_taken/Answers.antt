@@ -1,6 +1,6 @@
 use Rattle.std.proofs.Common.{Err, inl, inr, refl}
-use Rattle.run_texts.specs.declared.stop.Stop.TheVariants as stop
-use Rattle.batch_inputs.specs.Asked.{asked_of}
+use Rattle.run_output.specs.declared.stop.Stop.TheVariants as stop
+use Rattle.run_inputs.specs.Asked.{asked_of}
 use Rattle.command_words.specs.declared.call.Call.TheVariants.{RunBoxed}
 use Rattle.coop_run.proofs.ByJob.{are-of-each, none-left, stops-job}
 use Rattle.coop_run.proofs.Jobs.{alone-job, compared-job, first_taken, missing-job, none_taken, refused-job}

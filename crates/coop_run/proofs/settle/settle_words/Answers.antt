@@ -1,7 +1,7 @@
 use Rattle.std.proofs.Common.{Err, ap, refl}
-use Rattle.batch_inputs.specs.Asked.{asked_of}
+use Rattle.run_inputs.specs.Asked.{asked_of}
 use Rattle.command_words.specs.declared.call.Call.TheVariants.{Run}
-use Rattle.batch_answers.specs.Answering.{story_in, taken_in}
+use Rattle.run_decision.specs.Answering.{story_in, taken_in}
 use Rattle.coop_run.proofs.Words.{refused-words}
 use Rattle.coop_run.proofs.settle.settle_words.Goals as goal
 

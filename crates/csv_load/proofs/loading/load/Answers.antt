@@ -1,5 +1,5 @@
 use Rattle.std.proofs.Common.{◌≡◌, arith, ap, length}
-use Rattle.csv_rows.specs.Rows.{table_records}
+use Rattle.csv_load.specs.Rows.{table_records}
 use Rattle.csv_load.proofs.Assembled.{columns-few, loaded, table-whole, typed-count, typed-few}
 use Rattle.csv_load.proofs.Rowwise.{rest-none}
 use Rattle.csv_load.proofs.loading.load.Goals as goal

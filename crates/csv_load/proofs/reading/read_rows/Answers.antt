@@ -1,9 +1,9 @@
 use Rattle.std.proofs.Common.{◌+◌, ◌≤◌, ◌∙◌, ◌∷◌, List, ℕ, length, arith, sym, ap, refl}
 use Rattle.std.proofs.lemmas.List.Elements.{All-rest}
 use Rattle.csv.specs.Records.{fields_of}
-use Rattle.csv_rows.specs.Rows.{table_records}
-use Rattle.csv_rows.proofs.Left.{table-short}
-use Rattle.csv_rows.proofs.Judging.{fits-row, first-judged, next-judged}
+use Rattle.csv_load.specs.Rows.{table_records}
+use Rattle.csv_load.proofs.Left.{table-short}
+use Rattle.csv_load.proofs.Judging.{fits-row, first-judged, next-judged}
 use Rattle.csv_load.proofs.Rowwise.{so_far-none, so_far-more, rest-none}
 use Rattle.csv_load.proofs.reading.read_rows.Goals as goal
 

@@ -1,7 +1,7 @@
 use Rattle.std.proofs.Common.{◌≡◌, ◌+◌, ◌≤◌, length}
 use Rattle.std.specs.Prelude.{All}
-use Rattle.csv_rows.specs.Rows.{table_records}
-use Rattle.csv_rows.specs.Judged.{refusal_of, first_bad_row}
+use Rattle.csv_load.specs.Rows.{table_records}
+use Rattle.csv_load.specs.Judged.{refusal_of, first_bad_row}
 use Rattle.table_core.specs.declared.limits.TheConstants.{MOST_ROWS}
 use Rattle.csv_load.proofs.Rowwise.{SoFar}
 use Rattle.csv_load.proofs.reading.read_rows.Given as goal

@@ -4,7 +4,7 @@ use Rattle.table_core.specs.Chunk.{chunk}
 use Rattle.table_core.specs.declared.cell.Cell.{Cell}
 use Rattle.piece_format.specs.Shape.{TableShape, rows_in}
 use Rattle.top_rows.specs.Rows.{Numbered}
-use Rattle.query_answers.specs.Partial.{IsNew, Stands, matching}
+use Rattle.query_gather.specs.Partial.{IsNew, Stands, matching}
 use Rattle.cscan.specs.declared.given.Given.{Given}
 use Rattle.cscan.specs.Rows.{FitColumns, HasCellsOf}
 use Rattle.cscan.specs.Scans.{IsOut}

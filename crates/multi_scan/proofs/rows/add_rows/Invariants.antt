@@ -1,6 +1,6 @@
 use Rattle.std.proofs.Common.{◌≡◌, ◌≤◌, ◌+◌, ℕ, List, false, length}
 use Rattle.scan_story.specs.Counting.{has}
-use Rattle.query_answers.specs.Partial.{FitsPlan, row_count}
+use Rattle.query_gather.specs.Partial.{FitsPlan, row_count}
 use Rattle.multi_scan.specs.Gathered.{Gathered}
 use Rattle.multi_scan.proofs.Gathering.{GatheredFirst}
 use Rattle.multi_scan.proofs.rows.add_rows.Given as goal

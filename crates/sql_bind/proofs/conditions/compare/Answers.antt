@@ -3,7 +3,7 @@ use Rattle.std.proofs.lemmas.List.{get_or_default}
 use Rattle.table_core.specs.declared.schema.Column.{Column}
 use Rattle.table_core.specs.declared.schema.Kind.{Kind}
 use Rattle.table_core.specs.declared.schema.Kind.TheVariants as kind
-use Rattle.query_meaning.specs.Texts.{dict_at}
+use Rattle.sql_bind.specs.Texts.{dict_at}
 use Rattle.sql_bind.specs.Names.{column_of, kind_at}
 use Rattle.sql_bind.specs.Bounds.{IsBoundOf}
 use Rattle.sql_bind.proofs.conditions.compare.Goals as goal

@@ -1,6 +1,6 @@
 use Rattle.std.proofs.Common.{◌≡◌, ◌∙◌, ◌++◌, ◌∷◌, List, map, sym, ap, rules}
 use Rattle.table_core.specs.declared.cell.Cell.{Cell}
-use Rattle.answer_text.specs.Lists.{lists}
+use Rattle.table_core.specs.Lists.{lists}
 use Rattle.agg_groups.specs.Cells.{codes}
 use Rattle.agg_groups.specs.Meaning.{cell}
 use Rattle.agg_groups.proofs.Shows.{rows_push}

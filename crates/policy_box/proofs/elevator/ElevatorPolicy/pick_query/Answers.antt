@@ -1,8 +1,8 @@
 use Rattle.std.proofs.Common.{◌≡◌, ◌∙◌, ◌∷◌, [], ap, ℕ, List, arith}
 use Rattle.scan_story.specs.Policies.{reach}
 use Rattle.scan_story.specs.MayFollow.{is_trigger}
-use Rattle.policy_picks.specs.Rated.{lowest_below}
-use Rattle.policy_picks.proofs.Leading.{lowest_is, trigger_inside}
+use Rattle.relevance.specs.Rated.{lowest_below}
+use Rattle.relevance.proofs.Leading.{lowest_is, trigger_inside}
 use Rattle.policy_box.proofs.Elevators.{query_picked}
 use Rattle.policy_box.proofs.elevator.ElevatorPolicy.pick_query.Goals as goal
 

@@ -4,7 +4,7 @@ use Rattle.scan_story.specs.Views.{History}
 use Rattle.scan_story.specs.Policies.{reach}
 use Rattle.scan_story.specs.MayFollow.{is_trigger}
 use Rattle.interest_book.specs.Stands.{Stands}
-use Rattle.policy_picks.specs.Rated.{lowest_below}
+use Rattle.relevance.specs.Rated.{lowest_below}
 use Rattle.policy_box.proofs.elevator.ElevatorPolicy.pick_query.Given as goal
 
 abbrev pub invariant-loop-q : goal.invariant-loop-q

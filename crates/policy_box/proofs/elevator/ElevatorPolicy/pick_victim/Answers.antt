@@ -1,9 +1,9 @@
 use Rattle.std.proofs.Common.{◌≡◌, refl, arith}
 use Rattle.scan_story.specs.Numbers.{close}
 use Rattle.scan_story.specs.Policies.{dist_from}
-use Rattle.policy_picks.specs.Around.{far_from}
-use Rattle.policy_picks.proofs.Rounds.{far_is_dist}
-use Rattle.policy_picks.proofs.Leading.{fittest_is}
+use Rattle.relevance.specs.Around.{far_from}
+use Rattle.relevance.proofs.Rounds.{far_is_dist}
+use Rattle.relevance.proofs.Leading.{fittest_is}
 use Rattle.policy_box.proofs.Elevators.{victim_picked}
 use Rattle.policy_box.proofs.elevator.ElevatorPolicy.pick_victim.Goals as goal
 

@@ -4,8 +4,8 @@ use Rattle.scan_story.specs.Views.{History}
 use Rattle.scan_story.specs.Numbers.{close}
 use Rattle.scan_story.specs.MayFollow.{is_victim}
 use Rattle.interest_book.specs.Stands.{Stands}
-use Rattle.policy_picks.specs.Around.{far_from}
-use Rattle.policy_picks.specs.Victims.{fittest_below}
+use Rattle.relevance.specs.Around.{far_from}
+use Rattle.relevance.specs.Victims.{fittest_below}
 use Rattle.policy_box.proofs.elevator.ElevatorPolicy.pick_victim.Given as goal
 
 abbrev pub invariant-loop-c : goal.invariant-loop-c

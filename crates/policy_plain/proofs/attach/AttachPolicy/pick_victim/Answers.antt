@@ -1,6 +1,6 @@
 use Rattle.std.proofs.Common.{◌≡◌, refl, arith}
 use Rattle.scan_story.specs.Numbers.{close, interested}
-use Rattle.policy_picks.proofs.Leading.{fittest_is}
+use Rattle.relevance.proofs.Leading.{fittest_is}
 use Rattle.policy_plain.specs.Starts.{cursor_of}
 use Rattle.policy_plain.proofs.Picking.{attach_victim}
 use Rattle.policy_plain.proofs.attach.AttachPolicy.pick_victim.Goals as goal

@@ -4,7 +4,7 @@ use Rattle.scan_story.specs.Views.{History}
 use Rattle.scan_story.specs.Numbers.{close, interested}
 use Rattle.scan_story.specs.MayFollow.{is_victim}
 use Rattle.interest_book.specs.Stands.{Stands}
-use Rattle.policy_picks.specs.Victims.{fittest_below}
+use Rattle.relevance.specs.Victims.{fittest_below}
 use Rattle.policy_plain.proofs.attach.AttachPolicy.pick_victim.Given as goal
 
 abbrev pub invariant-loop-c : goal.invariant-loop-c

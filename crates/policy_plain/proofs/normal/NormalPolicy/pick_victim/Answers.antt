@@ -2,7 +2,7 @@ use Rattle.std.proofs.Common.{◌≡◌, ◌<◌, ℕ, List, refl, sym, subst, a
 use Rattle.std.specs.List.{All}
 use Rattle.scan_story.specs.Numbers.{close}
 use Rattle.scan_story.specs.Policies.{place_in}
-use Rattle.policy_picks.proofs.Leading.{fittest_is}
+use Rattle.relevance.proofs.Leading.{fittest_is}
 use Rattle.policy_plain.proofs.Picking.{normal_victim}
 use Rattle.policy_plain.proofs.Using.{uses_small}
 use Rattle.policy_plain.proofs.normal.NormalPolicy.pick_victim.Goals as goal

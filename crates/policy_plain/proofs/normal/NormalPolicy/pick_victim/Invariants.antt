@@ -5,7 +5,7 @@ use Rattle.scan_story.specs.Numbers.{close}
 use Rattle.scan_story.specs.MayFollow.{is_victim}
 use Rattle.scan_story.specs.Policies.{place_in}
 use Rattle.interest_book.specs.Stands.{Stands}
-use Rattle.policy_picks.specs.Victims.{fittest_below}
+use Rattle.relevance.specs.Victims.{fittest_below}
 use Rattle.policy_plain.proofs.normal.NormalPolicy.pick_victim.Given as goal
 
 abbrev pub invariant-loop-c : goal.invariant-loop-c

@@ -1,7 +1,0 @@
-use Rattle.std.proofs.Common.{map, take}
-use Rattle.batch_inputs.specs.Statements.{part}
-use Rattle.batch_texts.specs.Outcomes.{ComeTo}
-use Rattle.batch_inputs.proofs.batch.outcomes_of.Given as goal
-
-abbrev pub invariant-loop-span : goal.invariant-loop-span
-invariant-loop-span l = ComeTo l.schema l.dicts (map (part l.text) (take l.span-index l.spans)) l.outcomes.items

@@ -1,7 +1,0 @@
-use Rattle.command_words.specs.Views.{request_view}
-use Rattle.batch_inputs.proofs.Deciding.{told-ends}
-use Rattle.batch_inputs.proofs.reading.inputs_of.Goals as goal
-
-pub returns-clause-told : goal.returns-clause-told
-returns-clause-told g c files held =
-    told-ends (request_view c.args.request.now) (g.F.Shelf.held c.args.shelf.now) _ _ c.drop_texts.result files held c.drop_texts.ensures.read

@@ -1,5 +1,0 @@
-pub mod Outcomes
-pub mod Printed
-pub mod Causes
-pub mod Answers
-pub mod Output

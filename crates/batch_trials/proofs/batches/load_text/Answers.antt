@@ -1,4 +1,0 @@
-use Rattle.batch_trials.proofs.batches.load_text.Goals as goal
-
-pub returns : goal.returns
-returns g c = (_, c.in-Ok.ensures.loaded)

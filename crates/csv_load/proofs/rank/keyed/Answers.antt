@@ -1,0 +1,12 @@
+use Rattle.std.proofs.Common.{arith, refl}
+use Rattle.csv_load.proofs.Keys.{keyed-none, keyed-push}
+use Rattle.csv_load.proofs.rank.keyed.Goals as goal
+
+pub loop-place-init : goal.loop-place-init
+loop-place-init c = rw c.in_ok-order.ensures.items (keyed-none c.args.names.now)
+
+pub loop-place-preserved : goal.loop-place-preserved
+loop-place-preserved c =
+    rw c.in_ok-push.ensures.items
+    (keyed-push c.args.names.now c.loop-place.place c.loop-place.order.items (c.get-text.result, c.loop-place.place) c.loop-place.invariant
+    (omega (arith, c.len-place-end.ensures)) c.get-text.ensures (λ e. omega (arith, e)) refl)

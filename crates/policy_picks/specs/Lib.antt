@@ -1,4 +1,0 @@
-pub mod Around
-pub mod Least
-pub mod Rated
-pub mod Victims

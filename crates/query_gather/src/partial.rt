@@ -1,0 +1,188 @@
+// What a query's scan gathers.
+ghost use Rattle.std.specs.Prelude.{◌≡◌, ◌≤◌, ◌+◌, ◌++◌, ℕ, List, [], ◌∷◌, length, false, All, OnOk, OnErr, IfOk, IsOk};
+ghost use Rattle.table_core.specs.declared.cell.Cell.{Cell};
+ghost use Rattle.agg_groups.specs.Groups as grouped;
+ghost use Rattle.top_rows.specs.Rows.{Numbered, AreApart};
+ghost use Rattle.top_rows.specs.Top as first;
+ghost use Rattle.sql_bind.specs.declared.plan.Plan.{Plan};
+ghost use Rattle.scan_story.specs.declared.cause.Cause.TheVariants as cause;
+ghost use Rattle.query_gather.specs.Answer.{IsAnswerOver, StopsFor};
+ghost use Rattle.query_gather.specs.Partial as spec;
+ghost use Rattle.sql_bind.specs.Meaning as meaning;
+
+use crate::answer::Answer;
+use agg_groups::{FinishFault, Groups};
+use filter_zones::{Cond, Truth, truth_of};
+use scan_story::Cause;
+use sql_bind::Plan;
+use std::alloc::Global;
+use table_core::{Cell, Memory};
+use top_rows::TopRows;
+
+/// What a query's scan gathers of the rows that match: their groups, or the first of them.
+///
+/// It stands for a list of numbered rows where its groups or first rows do. A row's number is its place in the table,
+/// counted from 0.
+#[derive(Drop)]
+pub enum Partial {
+    /// The groups of a query without a limit.
+    Groups(Groups),
+    /// The first rows of a query with one.
+    Top(TopRows),
+}
+
+// Whether a row matches: the condition is true of it, or there is none.
+fn matches(cond: &Option<Cond>, row: &[Cell]) -> bool
+    requires { spec.FitsCond cond.now row.now }
+    ensures { result ≡ meaning.matches cond.now row.now }
+{
+    match cond {
+        Some(cond) => truth_of(cond, row) == Truth::True,
+        None => true,
+    }
+}
+
+// Adds the rows of other groups behind. After want of memory the others are gone.
+fn join_groups(groups: &mut Groups, other: Groups) -> Result<(), Memory>
+    requires items { other.items ≡ groups.old.items }
+    requires keys { other.keys ≡ groups.old.keys }
+    requires few { groups.old.rows + other.rows ≤ 2097152 }
+    ensures ok { OnOk result ((rows more : List (List Cell)) → grouped.Stands groups.old rows
+        → grouped.Stands other more → grouped.Stands groups.new (rows ++ more)) }
+    ensures count { OnOk result (groups.new.rows ≡ groups.old.rows + other.rows) }
+    ensures items { groups.new.items ≡ groups.old.items }
+    ensures keys { groups.new.keys ≡ groups.old.keys }
+{
+    match groups.merge(other) {
+        Ok(()) => Ok(()),
+        Err((_, memory)) => Err(memory),
+    }
+}
+
+// Adds the rows of other first rows. After want of memory the others are gone.
+fn join_top(top: &mut TopRows, other: TopRows) -> Result<(), Memory>
+    requires { other.plan ≡ top.old.plan }
+    ensures ok { OnOk result ((rows more : List (Numbered Cell)) → first.Stands top.old rows → first.Stands other more
+        → AreApart rows more → first.Stands top.new (rows ++ more)) }
+    ensures plan { top.new.plan ≡ top.old.plan }
+{
+    match top.merge(other) {
+        Ok(()) => Ok(()),
+        Err((_, memory)) => Err(memory),
+    }
+}
+
+impl Partial {
+    /// What is gathered of no rows.
+    pub fn of(alloc: Global, plan: &Plan) -> Result<Self, Memory>
+        ensures plan { IfOk result (λ p. spec.FitsPlan plan.now p) }
+        ensures stands { IfOk result (λ p. spec.Stands p []) }
+        ensures count { IfOk result (λ p. spec.row_count p ≡ 0) }
+    {
+        match &plan.rows {
+            Some(rows) => Ok(Partial::Top(TopRows::new(alloc, rows.copy(alloc)?)?)),
+            None => {
+                let items = Vec::from_slice(alloc, &plan.items)?;
+                let keys = Vec::from_slice(alloc, &plan.keys)?;
+                Ok(Partial::Groups(Groups::new(alloc, items, keys)?))
+            }
+        }
+    }
+
+    // Adds a row that matches.
+    fn add_matching(&mut self, number: u32, row: &[Cell]) -> Result<(), Memory>
+        requires width { spec.HasPlaces self.old (length row.now) }
+        requires few { spec.row_count self.old ≤ 2097151 }
+        ensures ok { OnOk result ((rows : List (Numbered Cell)) → spec.Stands self.old rows
+            → spec.IsNew self.old rows number → spec.Stands self.new (rows ++ (number, row.now) ∷ [])) }
+        ensures alike { spec.IsAlike self.old self.new }
+        ensures count { spec.row_count self.new ≤ spec.row_count self.old + 1 }
+        ensures err { OnErr result (self.new ≡ self.old) }
+    {
+        match self {
+            Partial::Groups(groups) => groups.add_row(row),
+            Partial::Top(top) => top.add(number, row),
+        }
+    }
+
+    /// Adds a row, by its number, where the plan's condition is true of it, and else nothing.
+    ///
+    /// A row of which it isn't true takes no memory. For want of memory what is gathered stays as it was.
+    pub fn add_row(&mut self, plan: &Plan, number: u32, row: &[Cell]) -> Result<(), Memory>
+        requires cond { spec.FitsCond plan.now.cond row.now }
+        requires width { spec.FitsWidth plan.now (length row.now) }
+        requires plan { spec.FitsPlan plan.now self.old }
+        requires few { spec.row_count self.old ≤ 2097151 }
+        ensures ok { OnOk result ((rows : List (Numbered Cell)) → spec.Stands self.old rows
+            → spec.IsNew self.old rows number
+            → spec.Stands self.new (rows ++ spec.matching plan.now ((number, row.now) ∷ []))) }
+        ensures plan { (p : Plan) → spec.FitsPlan p self.old → spec.FitsPlan p self.new }
+        ensures count { spec.row_count self.new ≤ spec.row_count self.old + 1 }
+        // A row that doesn't match is never refused.
+        ensures free { meaning.matches plan.now.cond row.now ≡ false → IsOk result }
+        ensures err { OnErr result (self.new ≡ self.old) }
+    {
+        if !matches(&plan.cond, row) {
+            return Ok(());
+        }
+        self.add_matching(number, row)
+    }
+
+    /// The answer: what the plan means over each list of rows that is gathered.
+    ///
+    /// A query without a limit is answered its result rows, or the first sum that overflows, and one with a limit its rows.
+    /// For want of memory it is stopped.
+    pub fn finish(self) -> Answer
+        ensures answer { (p : Plan) (rows : List (Numbered Cell)) → spec.FitsPlan p self → spec.Stands self rows
+            → IsAnswerOver p rows result }
+        ensures stops { StopsFor cause.Memory result }
+    {
+        match self {
+            Partial::Groups(groups) => match groups.finish() {
+                Ok(rows) => Answer::Rows(rows),
+                Err(FinishFault::SumOverflow { item, total }) => Answer::Overflow { item, total },
+                Err(FinishFault::Memory) => Answer::Stopped(Cause::Memory),
+            },
+            Partial::Top(top) => match top.finish() {
+                Ok(picked) => Answer::Picked(picked),
+                Err(Memory) => Answer::Stopped(Cause::Memory),
+            },
+        }
+    }
+
+    // Adds what another one gathered, behind its own. After want of memory the other is gone.
+    fn merge(&mut self, other: Partial) -> Result<(), Memory>
+        requires alike { spec.IsAlike self.old other }
+        requires few { spec.row_count self.old + spec.row_count other ≤ 2097152 }
+        ensures ok { OnOk result ((rows more : List (Numbered Cell)) → spec.Stands self.old rows
+            → spec.Stands other more → spec.MayJoin self.old rows more → spec.Stands self.new (rows ++ more)) }
+        ensures alike { spec.IsAlike self.old self.new }
+        ensures count { OnOk result (spec.row_count self.new ≡ spec.row_count self.old + spec.row_count other) }
+    {
+        match (self, other) {
+            (Partial::Groups(groups), Partial::Groups(other)) => join_groups(groups, other),
+            (Partial::Top(top), Partial::Top(other)) => join_top(top, other),
+            _ => unreachable!(),
+        }
+    }
+}
+
+/// Joins what parts of a query gathered, in order.
+///
+/// After want of memory all of them are gone.
+pub fn join_parts(first: Partial, rest: Vec<Partial>) -> Result<Partial, Memory>
+    requires alike { All (spec.IsAlike first) rest.items }
+    requires few { spec.row_count first + spec.rows_of_all rest.items ≤ 2097152 }
+    ensures stands { IfOk result (λ whole. (rows : List (Numbered Cell)) (lists : List (List (Numbered Cell)))
+        → spec.Stands first rows → spec.StandForEach rest.items lists
+        → spec.MayJoinAll first rows lists → spec.Stands whole (rows ++ spec.joined lists)) }
+    ensures plan { IfOk result (λ whole. (p : Plan) → spec.FitsPlan p first → spec.FitsPlan p whole) }
+{
+    let mut whole = first;
+    let mut rest = rest;
+    while !rest.is_empty() {
+        let part = rest.remove(0);
+        whole.merge(part)?;
+    }
+    Ok(whole)
+}

@@ -1,7 +1,0 @@
-pub mod Stand
-pub mod Maps
-pub mod Keys
-pub mod KeyLists
-pub mod Answers
-pub mod Groups
-pub mod Firsts

@@ -1,5 +1,0 @@
-use Rattle.query_parts.proofs.Dealt.{all_dealt}
-use Rattle.query_parts.proofs.laws.all_are_dealt.Goals as goal
-
-pub returns : goal.returns
-returns c needed parts rise some = all_dealt needed parts some rise

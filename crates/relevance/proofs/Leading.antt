@@ -1,0 +1,186 @@
+-- The best by whole numbers, and the fittest victim.
+use Rattle.std.proofs.Common.{◌≡◌, ◌≤◌, ◌<◌, ◌==◌, ◌&&◌, ◌||◌, not, ◌⊎◌, ℕ, Bool, true, false, Option, None, Some, is_none, is_some, nat_lt, refl, sym, ◌∙◌, ap, subst, arith, inl, inr}
+use Rattle.std.proofs.lemmas.Bool.{cases_Bool}
+use Rattle.std.proofs.lemmas.Bool.Decides.{nat_tests}
+use Rattle.scan_story.specs.declared.setting.Setting.{Setting}
+use Rattle.scan_story.specs.Views.{History}
+use Rattle.scan_story.specs.Counting.{any_below}
+use Rattle.scan_story.specs.Setting.{IsSetting, need_of}
+use Rattle.scan_story.specs.Loads.{underway}
+use Rattle.scan_story.specs.Numbers.{close, is_starved}
+use Rattle.scan_story.specs.MayFollow.{is_target, is_trigger, is_victim}
+use Rattle.scan_story.specs.Policies.{IsLeast, is_least_close}
+use Rattle.chunk_interest.proofs.Below.{true_false, none_at, none_from}
+use Rattle.chunk_interest.proofs.Kept.{and_first, victim_inside}
+use Rattle.chunk_interest.proofs.Needs.{need_small}
+use Rattle.relevance.proofs.Choosing.{IsOrder, IsBestBelow, best_is}
+use Rattle.relevance.specs.declared.rated.Rated.{Rated}
+use Rattle.relevance.specs.Rated.{rated, by_of, is_below, is_above, lowest_below, highest_below, number_in}
+use Rattle.relevance.specs.declared.victim.Victim.{Victim}
+use Rattle.relevance.specs.declared.victim.Fitness.{Fitness}
+use Rattle.relevance.specs.Victims.{victim, fitness_of, is_fitter, PicksFittest, fittest_below, chunk_in}
+use Rattle.relevance.specs.Least.{PicksLeast, PicksGreatest}
+
+below_order : (test : ℕ → Bool) (f : ℕ → ℕ) → IsOrder is_below (λ a b. b ≤ a) test f
+below_order test f = record {
+  wins = λ a b e. below a b e;
+  loses = λ a b e. not_below a b e;
+  strict = λ a b e most. strictly a b e most;
+  same = λ a. itself a;
+  through = λ x y z t xy yz. on (f x) (f y) (f z) xy yz;
+}
+  where
+    below : (a b : ℕ) → nat_lt a b ≡ true → a ≤ b
+    below a b e = grind (arith, nat_tests)
+
+    not_below : (a b : ℕ) → nat_lt a b ≡ false → b ≤ a
+    not_below a b e = grind (arith, nat_tests)
+
+    strictly : (a b : ℕ) → nat_lt a b ≡ true → b ≤ a → ⊥
+    strictly a b e most = grind (arith, nat_tests)
+
+    itself : (a : ℕ) → a ≤ a
+    itself a = omega arith
+
+    on : (a b c : ℕ) → b ≤ a → c ≤ b → c ≤ a
+    on a b c x y = omega (arith, x, y)
+
+above_order : (test : ℕ → Bool) (f : ℕ → ℕ) → IsOrder is_above (λ a b. a ≤ b) test f
+above_order test f = record {
+  wins = λ a b e. above a b e;
+  loses = λ a b e. not_above a b e;
+  strict = λ a b e most. strictly a b e most;
+  same = λ a. itself a;
+  through = λ x y z t xy yz. on (f x) (f y) (f z) xy yz;
+}
+  where
+    above : (a b : ℕ) → nat_lt b a ≡ true → b ≤ a
+    above a b e = grind (arith, nat_tests)
+
+    not_above : (a b : ℕ) → nat_lt b a ≡ false → a ≤ b
+    not_above a b e = grind (arith, nat_tests)
+
+    strictly : (a b : ℕ) → nat_lt b a ≡ true → a ≤ b → ⊥
+    strictly a b e most = grind (arith, nat_tests)
+
+    itself : (a : ℕ) → a ≤ a
+    itself a = omega arith
+
+    on : (a b c : ℕ) → a ≤ b → b ≤ c → a ≤ c
+    on a b c x y = omega (arith, x, y)
+
+none_of : (test : ℕ → Bool) (n : ℕ) → ((y : ℕ) → test y ≡ true → y < n) → ((y : ℕ) → y < n → test y ≡ false) → (y : ℕ) → test y ≡ false
+none_of test n bound none y = elim (cases_Bool (test y)) [
+  | inl so ↦ none y (bound y so)
+  | inr not ↦ not
+]
+
+pub lowest_is : (test : ℕ → Bool) (f : ℕ → ℕ) (n : ℕ) (best : Option Rated) (r : Option ℕ) → ((y : ℕ) → test y ≡ true → y < n) → best ≡ lowest_below test f n → r ≡ number_in best → PicksLeast test f r
+lowest_is test f n best r bound is e =
+    subst (PicksLeast test f) (sym (e ∙ ap number_in is)) (from (lowest_below test f n) (best_is rated (λ b. b.number) by_of (λ x k. refl) (λ x k. refl) is_below (λ a b. b ≤ a) test f (below_order test f) n))
+  where
+    from : (o : Option Rated) → IsBestBelow (λ b. b.number) by_of is_below (λ a b. b ≤ a) test f n o → PicksLeast test f (number_in o)
+    from None none = none_of test n bound none
+    from (Some b) found = record { candidate = found.0; best = λ y t. found.2 y (bound y t) t }
+
+pub highest_is : (test : ℕ → Bool) (f : ℕ → ℕ) (n : ℕ) (best : Option Rated) (r : Option ℕ) → ((y : ℕ) → test y ≡ true → y < n) → best ≡ highest_below test f n → r ≡ number_in best → PicksGreatest test f r
+highest_is test f n best r bound is e =
+    subst (PicksGreatest test f) (sym (e ∙ ap number_in is)) (from (highest_below test f n) (best_is rated (λ b. b.number) by_of (λ x k. refl) (λ x k. refl) is_above (λ a b. a ≤ b) test f (above_order test f) n))
+  where
+    from : (o : Option Rated) → IsBestBelow (λ b. b.number) by_of is_above (λ a b. a ≤ b) test f n o → PicksGreatest test f (number_in o)
+    from None none = none_of test n bound none
+    from (Some b) found = record { candidate = found.0; best = λ y t. found.2 y (bound y t) t }
+
+pub trigger_inside : (s : Setting) (h : History) (q : ℕ) → IsSetting s → is_trigger s h q ≡ true → q < 257
+trigger_inside s h q ok e =
+    let most = (need_small s q ok (front (is_some (need_of s q)) (is_none (underway s h)) (is_starved s h q) (any_below (is_target s h q) s.chunks) e)).1 in
+    omega (arith, most)
+  where
+    front : (a b d f : Bool) → (a && b && d && f) ≡ true → a ≡ true
+    front true b d f e = refl
+    front false b d f e = absurd (true_false false e refl)
+
+-- The fittest victim
+
+-- b is as fit as a, or fitter
+abbrev pub IsAsFit : Fitness → Fitness → Type 0
+IsAsFit a b = (b.close < a.close) ⊎ ((b.close ≡ a.close) × (b.key ≤ a.key))
+
+fit_order : (test : ℕ → Bool) (fitness : ℕ → Fitness) → IsOrder is_fitter IsAsFit test fitness
+fit_order test fitness = record {
+  wins = λ a b e. fitter a.close a.key b.close b.key e;
+  loses = λ a b e. not_fitter a.close a.key b.close b.key e;
+  strict = λ a b e most. strictly a.close a.key b.close b.key e most;
+  same = λ a. inr (refl, itself a.key);
+  through = λ x y z t xy yz. on (fitness x) (fitness y) (fitness z) xy yz;
+}
+  where
+    fitter : (c k d l : ℕ) → (nat_lt c d || (c == d && nat_lt k l)) ≡ true → (c < d) ⊎ ((c ≡ d) × (k ≤ l))
+    fitter c k d l e = grind (arith, nat_tests)
+
+    not_fitter : (c k d l : ℕ) → (nat_lt c d || (c == d && nat_lt k l)) ≡ false → (d < c) ⊎ ((d ≡ c) × (l ≤ k))
+    not_fitter c k d l e = grind (arith, nat_tests)
+
+    strictly : (c k d l : ℕ) → (nat_lt c d || (c == d && nat_lt k l)) ≡ true → (d < c) ⊎ ((d ≡ c) × (l ≤ k)) → ⊥
+    strictly c k d l e (inl lt) = grind (arith, nat_tests)
+    strictly c k d l e (inr f) = let same = f.0 in let most = f.1 in grind (arith, nat_tests)
+
+    itself : (a : ℕ) → a ≤ a
+    itself a = omega arith
+
+    on : (a b c : Fitness) → IsAsFit a b → IsAsFit b c → IsAsFit a c
+    on a b c (inl x) (inl y) = inl (omega (arith, x, y))
+    on a b c (inl x) (inr y) = inl (let e = y.0 in omega (arith, x, e))
+    on a b c (inr x) (inl y) = inl (let e = x.0 in omega (arith, e, y))
+    on a b c (inr x) (inr y) = inr (y.0 ∙ x.0, let k = x.1 in let l = y.1 in omega (arith, k, l))
+
+-- the fittest is one of least close, and of those of least key
+least_close : (s : Setting) (h : History) (key : ℕ → ℕ) (x : ℕ) → is_victim s h x ≡ true
+    → ((y : ℕ) → is_victim s h y ≡ true → (close s h x < close s h y) ⊎ ((close s h x ≡ close s h y) × (key x ≤ key y))) → IsLeast (is_least_close s h) key x
+least_close s h key x so fit = record {
+  candidate = both (is_victim s h x) (any_below (closer x) s.chunks) so (none_from (closer x) s.chunks (λ y lt. beaten (is_victim s h y) (close s h y) (close s h x) (λ t. at_least (close s h x) (close s h y) (key x) (key y) (fit y t))));
+  best = λ y t. let v = and_first (is_victim s h y) (not (any_below (closer y) s.chunks)) t in
+      in_keys (close s h x) (close s h y) (key x) (key y) (not_closer (is_victim s h x) (close s h x) (close s h y) so (none_at (closer y) s.chunks x (second (is_victim s h y) (any_below (closer y) s.chunks) t) (victim_inside s h x so))) (fit y v);
+}
+  where
+    closer : ℕ → ℕ → Bool
+    closer c y = is_victim s h y && nat_lt (close s h y) (close s h c)
+
+    both : (a b : Bool) → a ≡ true → b ≡ false → (a && not b) ≡ true
+    both a b x y = rw (x, y) refl
+
+    second : (a b : Bool) → (a && not b) ≡ true → b ≡ false
+    second true false e = refl
+    second true true e = absurd (true_false false e refl)
+    second false b e = absurd (true_false false e refl)
+
+    beaten : (v : Bool) (m n : ℕ) → (v ≡ true → n ≤ m) → (v && nat_lt m n) ≡ false
+    beaten false m n f = refl
+    beaten true m n f = let le = f refl in grind (arith, nat_tests)
+
+    at_least : (m n k l : ℕ) → (m < n) ⊎ ((m ≡ n) × (k ≤ l)) → m ≤ n
+    at_least m n k l (inl lt) = omega (arith, lt)
+    at_least m n k l (inr e) = let same = e.0 in omega (arith, same)
+
+    not_closer : (v : Bool) (m n : ℕ) → v ≡ true → (v && nat_lt m n) ≡ false → n ≤ m
+    not_closer true m n so e = grind (arith, nat_tests)
+    not_closer false m n so e = absurd (true_false false so refl)
+
+    in_keys : (m n k l : ℕ) → n ≤ m → (m < n) ⊎ ((m ≡ n) × (k ≤ l)) → k ≤ l
+    in_keys m n k l le (inl lt) = absurd (omega (arith, le, lt))
+    in_keys m n k l le (inr e) = e.1
+
+pub fittest_is : (s : Setting) (h : History) (fitness : ℕ → Fitness) (key : ℕ → ℕ) (n : ℕ) (best : Option Victim) (r : Option ℕ) → n ≡ s.chunks
+    → ((c : ℕ) → (fitness c).close ≡ close s h c) → ((c : ℕ) → c < s.chunks → (fitness c).key ≡ key c)
+    → best ≡ fittest_below (is_victim s h) fitness n → r ≡ chunk_in best → PicksFittest s h key r
+fittest_is s h fitness key n best r all closeness keys is e =
+    subst (PicksFittest s h key) (sym (e ∙ (ap chunk_in is ∙ ap (λ (k : ℕ). chunk_in (fittest_below (is_victim s h) fitness k)) all)))
+    (from (fittest_below (is_victim s h) fitness s.chunks) (best_is victim (λ b. b.chunk) fitness_of (λ x k. refl) (λ x k. refl) is_fitter IsAsFit (is_victim s h) fitness (fit_order (is_victim s h) fitness) s.chunks))
+  where
+    by_key : (x y : ℕ) → x < s.chunks → y < s.chunks → IsAsFit (fitness y) (fitness x) → (close s h x < close s h y) ⊎ ((close s h x ≡ close s h y) × (key x ≤ key y))
+    by_key x y xs ys (inl lt) = inl (let a = closeness x in let b = closeness y in omega (arith, lt, a, b))
+    by_key x y xs ys (inr f) = inr (sym (closeness x) ∙ (f.0 ∙ closeness y), let k = f.1 in let a = keys x xs in let b = keys y ys in omega (arith, k, a, b))
+
+    from : (o : Option Victim) → IsBestBelow (λ b. b.chunk) fitness_of is_fitter IsAsFit (is_victim s h) fitness s.chunks o → PicksFittest s h key (chunk_in o)
+    from None none = none_of (is_victim s h) s.chunks (λ z t. victim_inside s h z t) none
+    from (Some b) found = least_close s h key b.chunk found.0 (λ y t. by_key b.chunk y (victim_inside s h b.chunk found.0) (victim_inside s h y t) (found.2 y (victim_inside s h y t) t))

@@ -1,0 +1,19 @@
+use Rattle.std.proofs.Common.{sym, ◌∙◌}
+use Rattle.scan_story.specs.MayFollow.{is_ready}
+use Rattle.interest_book.proofs.Inside.{ready_inside}
+use Rattle.relevance.proofs.Rounds.{none_on, none_around, nearest}
+use Rattle.relevance.proofs.around.first_to_deliver.Goals as goal
+
+pub loop-far-preserved : goal.loop-far-preserved
+loop-far-preserved c = λ s h st.
+    none_on s c.args.start (is_ready s h c.args.q) c.chunks-chunks.result c.loop-far.far c.chunk_at-c.result (ready_inside s h c.args.q) (c.chunks-chunks.ensures.number s h st) c.chunk_at-c.ensures.value
+    (sym (c.is_ready.ensures s h st) ∙ c.if-is_ready.false) (c.loop-far.invariant s h st)
+
+pub returns-then-is_ready-clause-nearest : goal.returns-then-is_ready-clause-nearest
+returns-then-is_ready-clause-nearest c = λ s h st.
+    nearest s c.args.start (is_ready s h c.args.q) c.chunks-chunks.result c.loop-far.far c.chunk_at-c.result (c.chunks-chunks.ensures.number s h st) c.loop-far-test.true c.chunk_at-c.ensures.value
+    (sym (c.is_ready.ensures s h st) ∙ c.if-is_ready.true) (c.loop-far.invariant s h st)
+
+pub returns-clause-nearest : goal.returns-clause-nearest
+returns-clause-nearest c = λ s h st.
+    none_around s c.args.start (is_ready s h c.args.q) c.chunks-chunks.result c.loop-far.far (ready_inside s h c.args.q) (c.chunks-chunks.ensures.number s h st) c.loop-far-test.false (c.loop-far.invariant s h st)

@@ -1,0 +1,17 @@
+//! What a run is given: from the words of the command line and a shelf to a loaded table and a batch of statements,
+//! each with its plan or its refusal; or why the run stops. docs/COMMAND_LINE.md is the manual.
+#![tactic(auto)]
+
+mod batch;
+mod frames;
+mod inputs;
+mod reading;
+mod request;
+mod table;
+#[cfg(test)]
+mod tests;
+
+pub use inputs::{Inputs, ReadTexts};
+pub use reading::{inputs_again, inputs_of, one_batch, read_inputs};
+pub use request::request_in;
+pub use run_output::Outcome;

@@ -1,0 +1,93 @@
+// The table that the words name.
+ghost use Rattle.std.specs.Prelude.{◌≡◌, ◌≢◌, ◌≤◌, ◌⊎◌, All, IfErr, IfOk, Some, length};
+ghost use Rattle.run_inputs.specs.Ending.{IsOfTable, IsTextRead, SourceFails};
+ghost use Rattle.run_inputs.specs.Order.{load_stop, long_table};
+ghost use Rattle.run_inputs.specs.Sources.{HasFewRows, source_of_table, table_source};
+ghost use Rattle.command_words.specs.Views.{table_view};
+ghost use Rattle.csv_load.specs.Loaded.{IsLoaded};
+ghost use Rattle.csv_load.specs.Judged.{refusal_of};
+ghost use Rattle.csv_load.specs.Rows.{table_records};
+ghost use Rattle.run_output.specs.declared.stop.Stop.TheVariants as stop;
+ghost use Rattle.table_core.specs.Value.{places_of};
+
+use command_words::Table;
+use coop_outside::{Bytes, ReadFault, Shelf, read_all};
+use csv_load::{LoadRefusal, Loaded, load};
+use generated_texts::table_text;
+use run_output::Stop;
+use std::alloc::Global;
+use std::hash::RandomState;
+
+const TABLE_LIMIT: u64 = 268435456;
+
+/// What a word names as a table.
+pub(crate) fn table_named<'a>(word: &'a str) -> Table<'a>
+    ensures source { table_source word.now ≡ source_of_table (table_view result) }
+    ensures small { HasFewRows (table_view result) }
+{
+    match Table::named(word) {
+        Some(table) => table,
+        None => Table::File(word),
+    }
+}
+
+/// The text of a table: it is generated, or read from the shelf.
+pub(crate) fn table_bytes<F: Shelf>(
+    alloc: Global,
+    table: Table<'_>,
+    shelf: &mut F,
+) -> Result<Bytes, Stop>
+    requires small { HasFewRows (table_view table) }
+    ensures read { IsTextRead (F.held shelf.old) (source_of_table (table_view table.entry)) stop.TableFault long_table
+        (F.faults shelf.old) (F.faults shelf.new) result }
+    ensures of_table { IfErr result IsOfTable }
+    ensures cause { IfErr result (λ s. s ≡ stop.TableFault
+        → SourceFails (F.held shelf.old) (source_of_table (table_view table.entry)) (F.faults shelf.old)
+        (F.faults shelf.new)) }
+    ensures within { IfOk result (λ b. length b ≤ 268435456) }
+    ensures held { F.held shelf.new ≡ F.held shelf.old }
+    ensures later { F.faults shelf.old ≤ F.faults shelf.new }
+{
+    match table {
+        Table::Generated { seed, rows } => match table_text(alloc, seed, rows) {
+            Ok(text) => Ok(Bytes::new(text)),
+            Err(_) => Err(Stop::Memory),
+        },
+        Table::File(name) => match read_all(alloc, shelf, name, TABLE_LIMIT) {
+            Ok(text) => Ok(text),
+            Err(ReadFault::Fault) => Err(Stop::TableFault),
+            Err(ReadFault::TooLong { limit: _ }) => Err(Stop::TableTooLong),
+            Err(ReadFault::Memory) => Err(Stop::Memory),
+        },
+    }
+}
+
+fn stop_of(refusal: LoadRefusal) -> Stop
+    ensures stop { load_stop (Some refusal) ≡ Some result }
+    ensures of_table { IsOfTable result × (result ≢ stop.TableFault) }
+{
+    match refusal {
+        LoadRefusal::NoHeader => Stop::NoHeader,
+        LoadRefusal::TooManyColumns { columns } => Stop::Columns { columns },
+        LoadRefusal::LongName { column } => Stop::LongName { column },
+        LoadRefusal::TwiceNamed { first, second } => Stop::TwiceNamed { first, second },
+        LoadRefusal::Ragged { row, fields } => Stop::Ragged { row, fields },
+        LoadRefusal::TooManyRows => Stop::TooManyRows,
+        LoadRefusal::Memory => Stop::Memory,
+    }
+}
+
+/// The table of a text.
+pub(crate) fn load_table(alloc: Global, keys: RandomState, text: &[u8]) -> Result<Loaded, Stop>
+    requires small { length text.now ≤ 268435456 }
+    ensures loaded { IfOk result (λ l. IsLoaded (table_records text.now) l.table l.dicts.items) }
+    ensures places { IfOk result (λ l. All (λ c. places_of c.kind ≤ 9) l.table.columns) }
+    ensures refused { IfErr result (λ s. (load_stop (refusal_of (table_records text.now)) ≡ Some s)
+        ⊎ (s ≡ stop.Memory)) }
+    ensures of_table { IfErr result (λ s. IsOfTable s × (s ≢ stop.TableFault)) }
+{
+    match load(alloc, keys, text) {
+        Ok(loaded) => Ok(loaded),
+        Err(refusal) => Err(stop_of(refusal)),
+    }
+}

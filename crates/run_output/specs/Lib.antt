@@ -1,0 +1,8 @@
+pub mod Outcomes
+pub mod Printed
+pub mod Causes
+pub mod Answers
+pub mod Output
+pub mod Stops
+pub mod Refusals
+pub mod Counts

@@ -1,0 +1,28 @@
+//! The whole text of a run's output, and its status, from what each statement of the batch comes to.
+//!
+//! `docs/ANSWERS.md` has its words.
+#![tactic(auto)]
+
+mod causes;
+mod laws;
+mod outcome;
+mod output;
+mod refused;
+mod statement;
+mod stop;
+mod stop_line;
+mod summary;
+#[cfg(test)]
+mod tests;
+#[cfg(test)]
+mod tests_of_lines;
+mod totals;
+
+pub use laws::{names_columns, one_output, output_alone};
+pub use outcome::Outcome;
+pub use output::{output_text, status_of};
+pub use refused::{Refused, write_refusal};
+pub use stop::Stop;
+pub use stop_line::StopLine;
+pub use summary::{write_policy_line, write_summary};
+pub use totals::Totals;

@@ -1,0 +1,189 @@
+// What no contract says: that the lines have the words that people expect, and that calls succeed with ample memory.
+ghost use Rattle.run_output.specs.Refusals.{HasFewPlaces};
+
+use crate::{Refused, Stop, write_policy_line, write_refusal, write_summary};
+use std::alloc::{AllocError, Global};
+use std::process::Abort;
+use std::test::Fail;
+use table_core::Bytes;
+
+fn bytes_of(alloc: Global, text: &[u8]) -> Result<Bytes, AllocError> {
+    Ok(Bytes::new(Vec::from_slice(alloc, text)?))
+}
+
+#[test]
+fn each_stop_has_its_status_and_its_line(rt: HostRuntime) {
+    for (stop, status, line) in [
+        (Stop::Usage, 2, b"stopped 2: usage\n".as_slice()),
+        (Stop::TableTooLong, 3, b"stopped 3: table text too long\n"),
+        (Stop::NoHeader, 3, b"stopped 3: no header\n"),
+        (Stop::Columns { columns: 17 }, 3, b"stopped 3: 17 columns\n"),
+        (
+            Stop::LongName { column: 1 },
+            3,
+            b"stopped 3: name of column 1 too long\n",
+        ),
+        (
+            Stop::TwiceNamed {
+                first: 0,
+                second: 1,
+            },
+            3,
+            b"stopped 3: columns 0 and 1 have one name\n",
+        ),
+        (
+            Stop::TwiceNamed {
+                first: 4294967294,
+                second: 4294967295,
+            },
+            3,
+            b"stopped 3: columns 4294967294 and 4294967295 have one name\n",
+        ),
+        (
+            Stop::Ragged { row: 2, fields: 1 },
+            3,
+            b"stopped 3: row 2 has 1 fields\n",
+        ),
+        (Stop::TooManyRows, 3, b"stopped 3: too many rows\n"),
+        (
+            Stop::Chunks { chunks: 1025 },
+            3,
+            b"stopped 3: 1025 chunks\n",
+        ),
+        (Stop::TableFault, 4, b"stopped 4: table read fault\n"),
+        (Stop::BatchFault, 4, b"stopped 4: batch read fault\n"),
+        (
+            Stop::NotStored { piece: 0 },
+            5,
+            b"stopped 5: piece 0 not stored\n",
+        ),
+        (
+            Stop::FramesNeeded { frames: 12 },
+            8,
+            b"stopped 8: 12 frames needed\n",
+        ),
+        (
+            Stop::FrameWords {
+                words: 18446744073709551615,
+            },
+            8,
+            b"stopped 8: 18446744073709551615 words in frames\n",
+        ),
+        (Stop::BatchTooLong, 9, b"stopped 9: batch text too long\n"),
+        (
+            Stop::Statements { statements: 257 },
+            9,
+            b"stopped 9: 257 statements\n",
+        ),
+        (Stop::Scans { scans: 258 }, 9, b"stopped 9: 258 scans\n"),
+        (Stop::Memory, 7, b""),
+    ] {
+        assert_eq!(rt; stop.status(), status, "{stop:?}");
+        assert_eq!(rt; stop.line().as_slice(), line, "{stop:?}");
+    }
+}
+
+// Tests that the line of a refusal is this one, and that it stands behind what was written before.
+fn refuses(
+    rt: &impl Abort,
+    alloc: Global,
+    query: u32,
+    why: Refused,
+    line: &[u8],
+) -> Result<(), Fail>
+    requires { HasFewPlaces why }
+{
+    let mut out = bytes_of(alloc, b"before\n")?;
+    write_refusal(&mut out, query, &why)?;
+    assert_eq!(rt; &out.as_slice()[..7], b"before\n".as_slice());
+    assert_eq!(rt; &out.as_slice()[7..], line, "{why:?}");
+    Ok(())
+}
+
+#[test]
+fn each_refusal_has_its_line(rt: HostRuntime) -> Result<(), Fail> {
+    let alloc = rt.alloc();
+    refuses(&rt, alloc, 1, Refused::Syntax, b"refused 1: syntax\n")?;
+    refuses(
+        &rt,
+        alloc,
+        2,
+        Refused::TooNested,
+        b"refused 2: too nested\n",
+    )?;
+    refuses(
+        &rt,
+        alloc,
+        3,
+        Refused::TooManyItems,
+        b"refused 3: too many items\n",
+    )?;
+    refuses(
+        &rt,
+        alloc,
+        1,
+        Refused::ReadFault,
+        b"refused 1: read fault\n",
+    )?;
+    refuses(&rt, alloc, 256, Refused::Memory, b"refused 256: memory\n")?;
+    let last = Refused::DamagedPiece { piece: 4294967295 };
+    let line = b"refused 4294967295: damaged piece 4294967295\n";
+    refuses(&rt, alloc, 4294967295, last, line)
+}
+
+#[test]
+fn names_are_quoted(rt: HostRuntime) -> Result<(), Fail> {
+    let alloc = rt.alloc();
+    let table = Refused::UnknownTable(bytes_of(alloc, b"u")?);
+    refuses(&rt, alloc, 1, table, b"refused 1: unknown table 'u'\n")?;
+    let column = Refused::UnknownColumn(bytes_of(alloc, b"zz")?);
+    refuses(&rt, alloc, 2, column, b"refused 2: unknown column 'zz'\n")?;
+    let kind = Refused::WrongKind(bytes_of(alloc, b"dept")?);
+    refuses(&rt, alloc, 1, kind, b"refused 1: wrong kind 'dept'\n")?;
+    let plain = Refused::NotGrouped(bytes_of(alloc, b"it's\n'")?);
+    refuses(
+        &rt,
+        alloc,
+        3,
+        plain,
+        b"refused 3: not grouped 'it''s\n'''\n",
+    )
+}
+
+#[test]
+fn totals_have_their_places(rt: HostRuntime) -> Result<(), Fail> {
+    let alloc = rt.alloc();
+    let whole = Refused::SumOverflow {
+        item: 1,
+        total: 9223372036854775808,
+        places: 0,
+    };
+    let line = b"refused 1: sum overflow item 1 total 9223372036854775808\n";
+    refuses(&rt, alloc, 1, whole, line)?;
+    let money = Refused::SumOverflow {
+        item: 1,
+        total: 9223372036854775808,
+        places: 2,
+    };
+    let line = b"refused 1: sum overflow item 1 total 92233720368547758.08\n";
+    refuses(&rt, alloc, 1, money, line)?;
+    let below = Refused::SumOverflow {
+        item: 32,
+        total: -9223372036854775809,
+        places: 9,
+    };
+    let line = b"refused 256: sum overflow item 32 total -9223372036.854775809\n";
+    refuses(&rt, alloc, 256, below, line)
+}
+
+#[test]
+fn the_summary_and_the_line_of_a_policy(rt: HostRuntime) -> Result<(), Fail> {
+    let alloc = rt.alloc();
+    let mut out = bytes_of(alloc, b"")?;
+    write_summary(&mut out, 8, 7, 18446744073709551615, 200000)?;
+    write_policy_line(&mut out, "relevance", 9, 5, 13, 0)?;
+    let lines =
+        b"summary: 8 queries, 7 answered, 18446744073709551615 deliveries, 200000 rows\nrelevance: 9 reads, 5 evictions, 13 deliveries, 0 stops\n";
+    assert_eq!(rt; out.as_slice(), lines.as_slice());
+    Ok(())
+}

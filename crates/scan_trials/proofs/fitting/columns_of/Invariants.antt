@@ -1,5 +1,0 @@
-use Rattle.cscan.specs.Rows.{ReadsColumns}
-use Rattle.scan_trials.proofs.fitting.columns_of.Given as goal
-
-abbrev pub invariant-loop-x : goal.invariant-loop-x
-invariant-loop-x l = ReadsColumns l.s l.q l.columns

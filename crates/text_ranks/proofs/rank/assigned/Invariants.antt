@@ -1,6 +1,0 @@
-use Rattle.std.proofs.Common.{map}
-use Rattle.text_ranks.proofs.Assigning.{Assigned}
-use Rattle.text_ranks.proofs.rank.assigned.Given as goal
-
-abbrev pub invariant-loop-place : goal.invariant-loop-place
-invariant-loop-place l = Assigned l.names (map (λ p. p.0.now) l.order) (map (λ p. p.1) l.order) l.place l.dict l.codes.items

@@ -1,5 +1,0 @@
-use Rattle.text_ranks.specs.Ranks.{Keyed}
-use Rattle.text_ranks.proofs.rank.keyed.Given as goal
-
-abbrev pub invariant-loop-place : goal.invariant-loop-place
-invariant-loop-place l = Keyed l.names l.place l.order.items

@@ -1,0 +1,196 @@
+// A batch of texts.
+ghost use Rattle.std.specs.Prelude.{◌≡◌, ◌≤◌, ◌*◌, ◌^◌, All, IfOk, length, map};
+ghost use Rattle.std.specs.Bool.{OnTrue};
+ghost use Rattle.table_core.specs.Sets.{Rising};
+ghost use Rattle.table_core.specs.Value.{places_of};
+ghost use Rattle.piece_format.specs.Shape.{IsShape, frame_words as words_of, groups as groups_of};
+ghost use Rattle.table_pieces.specs.Shaping as spec;
+ghost use Rattle.batch_plan.specs.Setting.{AreOptions};
+ghost use Rattle.batch_run.specs.Tasks.{CanBeLoaded, IsPlanOfTable};
+
+use batch_run::{BatchEnd, BatchRefusal, Options, Task, run_batch};
+use coop_outside::Depot;
+use cscan::Gate;
+use csv_load::{Loaded, load};
+use piece_format::{Layout, Shape, frame_words, groups};
+use relevance::{Policy, Relevance};
+use sql_bind::{Plan, plan_of};
+use std::alloc::Global;
+use std::hash::RandomState;
+use std::process::Abort;
+use std::sync::Wait;
+use std::test::Fail;
+use std::thread::Threads;
+use table_core::{Dict, Schema, chunk_count, places_of_kind};
+use table_pieces::shape_of;
+
+pub(crate) const TABLE: &[u8] = b"id,dept,pay\n1,a,10\n2,b,20\n3,a,\n4,c,40\n5,b,-5\n";
+
+pub(crate) const COUNT: &[u8] = b"SELECT COUNT(*) FROM t";
+
+pub(crate) const SUM: &[u8] = b"SELECT SUM(pay) FROM t";
+
+// Options of one worker with the least frames, and two rows in a chunk.
+pub(crate) fn one_worker(layout: Layout) -> Options {
+    Options {
+        workers: 1,
+        frames: match layout {
+            Layout::Row => 4,
+            Layout::Column => 12,
+        },
+        per: 2,
+        layout,
+        parts: 1,
+    }
+}
+
+fn load_text(rt: &impl Abort, alloc: Global, keys: RandomState, text: &[u8]) -> Result<Loaded, Fail>
+    ensures { IfOk result (λ l. CanBeLoaded l.table l.dicts.items) }
+{
+    assert!(rt; text.len() <= 1000);
+    match load(alloc, keys, text) {
+        Ok(loaded) => Ok(loaded),
+        Err(_) => panic!(rt; "no table"),
+    }
+}
+
+fn can_bind(schema: &Schema, dicts: &[Dict]) -> bool
+    ensures few { OnTrue result (length schema.now ≤ 16) }
+    ensures places { OnTrue result (All (λ c. places_of c.kind ≤ 9) schema.now) }
+    ensures dicts { OnTrue result (length dicts.now ≡ length schema.now) }
+{
+    schema.len() <= 16
+        && dicts.len() == schema.len()
+        && schema
+            .columns()
+            .iter()
+            .all(|column| places_of_kind(column.kind) <= 9)
+}
+
+// The plan of a statement over a table.
+fn plan_for(rt: &impl Abort, alloc: Global, loaded: &Loaded, statement: &[u8]) -> Result<Plan, Fail>
+    ensures { IfOk result (λ p. IsPlanOfTable loaded.now.table.columns loaded.now.dicts.items p) }
+{
+    let schema = loaded.table.schema();
+    let dicts = loaded.dicts.as_slice();
+    assert!(rt; can_bind(schema, dicts));
+    assert!(rt; statement.len() <= 1000);
+    match plan_of(alloc, statement, schema, dicts) {
+        Ok(plan) => Ok(plan),
+        Err(_) => panic!(rt; "no plan"),
+    }
+}
+
+// The tasks of some statements, numbered from 1, each in so many parts.
+fn tasks_of(
+    rt: &impl Abort,
+    alloc: Global,
+    loaded: &Loaded,
+    statements: &[&[u8]],
+    parts: u32,
+) -> Result<Vec<Task>, Fail>
+    ensures plans { IfOk result (λ ts. All (λ t. IsPlanOfTable loaded.now.table.columns loaded.now.dicts.items t.plan)
+        ts.items) }
+    ensures numbers { IfOk result (λ ts. Rising 1 (map (λ t. t.query) ts.items) 257) }
+    ensures scans { IfOk result (λ ts. All (λ t. t.query * parts ≤ 256) ts.items) }
+{
+    assert!(rt; statements.len() <= 256);
+    assert!(rt; parts <= 32);
+    let mut tasks = Vec::new(alloc);
+    let mut query: u32 = 0;
+    for statement in statements {
+        query += 1;
+        assert!(rt; query * parts <= 256);
+        let plan = plan_for(rt, alloc, loaded, statement)?;
+        tasks.push(Task { query, plan })?;
+    }
+    Ok(tasks)
+}
+
+// Whether a batch over a table of this shape may run so.
+fn may_run(shape: &Shape, options: &Options) -> bool
+    requires { IsShape shape.now }
+    ensures options { OnTrue result (AreOptions (groups_of shape.now) options.now) }
+    ensures words { OnTrue result (options.now.frames * words_of shape.now ≤ 33554432) }
+{
+    let workers = options.workers;
+    if workers < 1 || workers > 32 || options.parts < 1 || options.parts > 32 {
+        return false;
+    }
+    (3 * workers + 1) * groups(shape) <= options.frames
+        && options.frames <= 33554432
+        && u64::from(options.frames) * u64::from(frame_words(shape)) <= 33554432
+}
+
+// The options are those of a batch over this table.
+fn expect_options(
+    rt: &impl Abort,
+    alloc: Global,
+    loaded: &Loaded,
+    options: &Options,
+) -> Result<(), Fail>
+    requires loaded { CanBeLoaded loaded.now.table loaded.now.dicts.items }
+    requires some { 1 ≤ options.now.per }
+    requires short { options.now.per ≤ 16384 }
+    requires limits { IsShape (spec.shape_of loaded.now.table loaded.now.dicts.items options.now.layout
+        options.now.per) }
+    ensures options { IfOk result (λ done. AreOptions
+        (groups_of (spec.shape_of loaded.now.table loaded.now.dicts.items options.now.layout options.now.per))
+        options.now) }
+    ensures words { IfOk result (λ done. options.now.frames * words_of
+        (spec.shape_of loaded.now.table loaded.now.dicts.items options.now.layout options.now.per) ≤ 33554432) }
+{
+    let dicts = loaded.dicts.as_slice();
+    let shape = shape_of(alloc, &loaded.table, dicts, options.layout, options.per)?;
+    assert!(rt; may_run(&shape, options));
+    Ok(())
+}
+
+// A batch that starts under relevance, or why it doesn't.
+pub(crate) fn run<R: Abort + Threads + Wait + Sync, D: Depot + Send, T: Gate + Sync>(
+    rt: &R,
+    alloc: Global,
+    keys: RandomState,
+    text: &[u8],
+    statements: &[&[u8]],
+    options: Options,
+    depot: D,
+    gate: &T,
+) -> Result<Result<BatchEnd<D>, BatchRefusal>, Fail>
+    requires { D.gets depot ≤ 2 ^ 63 }
+{
+    run_under(
+        rt, alloc, keys, text, statements, options, depot, Relevance, gate,
+    )
+}
+
+// The same under a policy.
+pub(crate) fn run_under<
+    R: Abort + Threads + Wait + Sync,
+    P: Policy,
+    D: Depot + Send,
+    T: Gate + Sync,
+>(
+    rt: &R,
+    alloc: Global,
+    keys: RandomState,
+    text: &[u8],
+    statements: &[&[u8]],
+    options: Options,
+    depot: D,
+    policy: P,
+    gate: &T,
+) -> Result<Result<BatchEnd<D>, BatchRefusal>, Fail>
+    requires { D.gets depot ≤ 2 ^ 63 }
+{
+    let loaded = load_text(rt, alloc, keys, text)?;
+    let tasks = tasks_of(rt, alloc, &loaded, statements, options.parts)?;
+    assert!(rt; options.per >= 1 && options.per <= 16384);
+    assert!(rt; loaded.table.len() <= 1000);
+    assert!(rt; chunk_count(loaded.table.len() as u32, options.per) <= 1024);
+    expect_options(rt, alloc, &loaded, &options)?;
+    match run_batch(rt, alloc, loaded, &tasks, &options, depot, policy, gate) {
+        Ok(end) => Ok(Ok(end)),
+        Err((_, refusal)) => Ok(Err(refusal)),
+    }
+}

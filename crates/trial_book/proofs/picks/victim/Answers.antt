@@ -1,0 +1,13 @@
+use Rattle.std.proofs.Common.{◌∙◌, ap, sym}
+use Rattle.scan_story.specs.Views.{past}
+use Rattle.trial_book.specs.Begun.{begins_some}
+use Rattle.trial_book.proofs.Listed.{none_begun}
+use Rattle.trial_book.proofs.picks.victim.Goals as goal
+
+pub pick_victim-requires : goal.pick_victim-requires
+pick_victim-requires c = record {
+  setting = c.args.s.now;
+  history = past c.args.entries.now;
+  stands = c.requires.stands;
+  none_begun = λ l u. none_begun l (ap begins_some (sym u ∙ sym c.in_ok-load.ensures) ∙ (sym c.has_begun.ensures ∙ c.if-has_begun.false));
+}

@@ -1,0 +1,217 @@
+ghost use Rattle.std.specs.Prelude.{◌≤◌, ◌<◌, IfOk};
+ghost use Rattle.scan_story.specs.Views.{past};
+ghost use Rattle.interest_book.specs.Stands.{Stands};
+ghost use Rattle.story_judge.specs.Small.{IsSmall};
+
+use super::*;
+use interest_book::Book;
+use rand_pcg::Pcg32;
+use relevance::{Ratio, keep_ratio, load_ratio, query_rank, use_ratio};
+use scan_story::{Entry, PolicyName, Setting, read_story};
+use std::alloc::{AllocError, Global};
+use std::process::Abort;
+use std::test::Fail;
+use story_judge::examples::{
+    columns, need, nine_chunks, one_count, setting, shorter, six_chunks, trigger_stops, two_counts,
+};
+use story_judge::stories::*;
+use trial_walks::{some_setting, walk};
+
+/// How many walks there are of a kind, and of how many steps.
+const WALKS: u64 = 2;
+
+const STEPS: u32 = 40;
+
+/// A setting of three chunks and four frames, in which these are the chunks of the first query.
+fn with_first(alloc: Global, workers: u32, chunks: &[u32]) -> Result<Setting, AllocError>
+    ensures { IfOk result IsSmall }
+{
+    let first = need(alloc, 1, 0, chunks, &[])?;
+    let second = need(alloc, 2, 0, &[2], &[])?;
+    setting(
+        alloc,
+        PolicyName::Relevance,
+        [3, workers, 4],
+        1,
+        first,
+        Some(second),
+    )
+}
+
+fn story<R: Abort>(rt: &R, alloc: Global, text: &str) -> Vec<Entry> {
+    assert!(rt; text.len() < 1073741824);
+    read_story(alloc, text.as_bytes()).expect(rt, "a story")
+}
+
+fn trial<R: Abort>(rt: &R, alloc: Global, s: &Setting, text: &str) -> Result<Trial, Fail>
+    requires { IsSmall s.now }
+{
+    let entries = story(rt, alloc, text);
+    Ok(try_story(alloc, s, entries.as_slice())?)
+}
+
+#[test]
+fn the_book_agrees_with_the_judge_after_each_entry(rt: HostRuntime) -> Result<(), Fail> {
+    let alloc = rt.alloc();
+    let s = one_count(alloc)?;
+    assert_eq!(rt; trial(&rt, alloc, &s, ONE_COUNT)?, Trial::Agrees);
+    let s = two_counts(alloc)?;
+    assert_eq!(rt; trial(&rt, alloc, &s, FAULT)?, Trial::Agrees);
+    let s = shorter(alloc, PolicyName::Relevance)?;
+    assert_eq!(rt; trial(&rt, alloc, &s, SHORTER)?, Trial::Agrees);
+    assert_eq!(rt; trial(&rt, alloc, &s, TWO_LOADED)?, Trial::Agrees);
+    let s = trigger_stops(alloc)?;
+    assert_eq!(rt; trial(&rt, alloc, &s, TRIGGER_STOPS)?, Trial::Agrees);
+    let s = columns(alloc)?;
+    assert_eq!(rt; trial(&rt, alloc, &s, COLUMNS)?, Trial::Agrees);
+    let s = nine_chunks(alloc)?;
+    assert_eq!(rt; trial(&rt, alloc, &s, FULL)?, Trial::Agrees);
+    Ok(())
+}
+
+#[test]
+fn so_it_does_under_each_policy(rt: HostRuntime) -> Result<(), Fail> {
+    let alloc = rt.alloc();
+    let s = six_chunks(alloc, PolicyName::Relevance)?;
+    assert_eq!(rt; trial(&rt, alloc, &s, SIX_RELEVANCE)?, Trial::Agrees);
+    let s = six_chunks(alloc, PolicyName::Elevator)?;
+    assert_eq!(rt; trial(&rt, alloc, &s, SIX_ELEVATOR)?, Trial::Agrees);
+    let s = six_chunks(alloc, PolicyName::Normal)?;
+    assert_eq!(rt; trial(&rt, alloc, &s, SIX_NORMAL)?, Trial::Agrees);
+    let s = six_chunks(alloc, PolicyName::Attach)?;
+    assert_eq!(rt; trial(&rt, alloc, &s, SIX_ATTACH)?, Trial::Agrees);
+    Ok(())
+}
+
+const POLICIES: [PolicyName; 4] = [
+    PolicyName::Relevance,
+    PolicyName::Elevator,
+    PolicyName::Normal,
+    PolicyName::Attach,
+];
+
+/// Walks at random under each policy, with so many workers and so many pieces a chunk: the book, which knows no
+/// policy, has each number as the judge has it.
+fn expect_walks<R: Abort>(rt: &R, alloc: Global, workers: u32, groups: u32) -> Result<(), Fail>
+    requires workers { (0 < workers) × (workers ≤ 32) }
+    requires groups { (0 < groups) × (groups ≤ 16) }
+{
+    for policy in POLICIES {
+        for seed in 0..WALKS {
+            let mut rng = Pcg32::new(seed, 11);
+            let s = some_setting(alloc, policy, 5, workers, groups, &mut rng)?;
+            let story = walk(alloc, &s, seed, STEPS)?;
+            assert_eq!(rt;
+                try_story(alloc, &s, story.as_slice())?,
+                Trial::Agrees,
+                "seed {seed}"
+            );
+        }
+    }
+    Ok(())
+}
+
+#[test]
+fn walks_over_rows(rt: HostRuntime) -> Result<(), Fail> {
+    expect_walks(&rt, rt.alloc(), 1, 1)?;
+    expect_walks(&rt, rt.alloc(), 2, 1)
+}
+
+#[test]
+fn walks_over_columns(rt: HostRuntime) -> Result<(), Fail> {
+    expect_walks(&rt, rt.alloc(), 1, 2)?;
+    expect_walks(&rt, rt.alloc(), 2, 3)
+}
+
+#[test]
+fn what_no_book_can_follow_is_told(rt: HostRuntime) -> Result<(), Fail> {
+    let alloc = rt.alloc();
+    // chunks that fall, a chunk that the table lacks, no worker
+    let s = with_first(alloc, 1, &[1, 0])?;
+    assert_eq!(rt; trial(&rt, alloc, &s, ONE_COUNT)?, Trial::Unfit);
+    let s = with_first(alloc, 1, &[0, 3])?;
+    assert_eq!(rt; trial(&rt, alloc, &s, ONE_COUNT)?, Trial::Unfit);
+    let s = with_first(alloc, 0, &[0])?;
+    assert_eq!(rt; trial(&rt, alloc, &s, ONE_COUNT)?, Trial::Unfit);
+    let s = six_chunks(alloc, PolicyName::Elevator)?;
+    assert_eq!(rt; trial(&rt, alloc, &s, SIX_ATTACH)?, Trial::Illegal(35));
+    Ok(())
+}
+
+/// The book of the text, in which its story is whole.
+fn book<R: Abort>(rt: &R, alloc: Global, s: &Setting, entries: &[Entry]) -> Result<Book, Fail>
+    requires { IsSmall s.now }
+    ensures { IfOk result (λ b. Stands b s.now (past entries.now)) }
+{
+    let book = played(alloc, s, entries)?;
+    Ok(book.expect(rt, "a book"))
+}
+
+fn ratio(num: u32, den: u32) -> Ratio {
+    Ratio { num, den }
+}
+
+#[test]
+fn ranks_and_load_ratios(rt: HostRuntime) -> Result<(), Fail> {
+    let alloc = rt.alloc();
+    let registers = "register 0 1\nregister 1 2\n";
+    let s = shorter(alloc, PolicyName::Relevance)?;
+    let entries = story(&rt, alloc, registers);
+    let b = book(&rt, alloc, &s, entries.as_slice())?;
+    assert_eq!(rt; (query_rank(&b, 1), query_rank(&b, 2)), (-5, -2));
+    assert_eq!(rt; load_ratio(&b, 1, 0), ratio(1025, 1));
+    assert_eq!(rt; load_ratio(&b, 1, 1), ratio(1025, 1));
+    assert_eq!(rt; load_ratio(&b, 1, 2), ratio(2050, 1));
+    assert_eq!(rt; load(&s, entries.as_slice(), &b, 1), Some(2));
+    let s = columns(alloc)?;
+    let entries = story(&rt, alloc, registers);
+    let b = book(&rt, alloc, &s, entries.as_slice())?;
+    assert_eq!(rt; (query_rank(&b, 1), query_rank(&b, 2)), (-3, -4));
+    assert_eq!(rt;
+        (load_ratio(&b, 1, 0), load_ratio(&b, 1, 1)),
+        (ratio(1025, 1), ratio(2050, 1))
+    );
+    assert_eq!(rt;
+        (load_ratio(&b, 2, 1), load_ratio(&b, 2, 2)),
+        (ratio(2050, 2), ratio(1025, 2))
+    );
+    // worker 0 has taken chunk 1
+    let begun = "register 0 1\nregister 1 2\nplan 0 1 1\nfill 0 0 2\nfilled 0 0 2\ndeliver 0 1 1\n";
+    let entries = story(&rt, alloc, begun);
+    let b = book(&rt, alloc, &s, entries.as_slice())?;
+    assert_eq!(rt; (query_rank(&b, 1), query_rank(&b, 2)), (-2, 0));
+    Ok(())
+}
+
+#[test]
+fn a_delivery_prefers_what_nobody_else_needs(rt: HostRuntime) -> Result<(), Fail> {
+    let alloc = rt.alloc();
+    let s = shorter(alloc, PolicyName::Relevance)?;
+    let entries = story(&rt, alloc, TWO_LOADED);
+    let b = book(&rt, alloc, &s, entries.as_slice())?;
+    assert_eq!(rt;
+        (use_ratio(&b, 1, 0), use_ratio(&b, 1, 2)),
+        (ratio(1, 1), ratio(1, 2))
+    );
+    assert_eq!(rt; delivery(&s, entries.as_slice(), &b, 1), Some(0));
+    Ok(())
+}
+
+#[test]
+fn the_victim_that_nobody_needs(rt: HostRuntime) -> Result<(), Fail> {
+    let alloc = rt.alloc();
+    let s = nine_chunks(alloc)?;
+    let entries = story(&rt, alloc, FULL);
+    let b = book(&rt, alloc, &s, entries.as_slice())?;
+    for c in [0, 1, 2] {
+        assert_eq!(rt; keep_ratio(&b, c), ratio(1, 1));
+    }
+    for c in [3, 4, 5] {
+        assert_eq!(rt; keep_ratio(&b, c), ratio(0, 1));
+    }
+    assert_eq!(rt; keep_ratio(&b, 6), ratio(1025, 1));
+    assert!(rt; b.is_held(5) && !b.is_victim(5));
+    // of the equal ones 3 and 4 the least
+    assert_eq!(rt; victim(alloc, &s, entries.as_slice(), &b)?, Some(3));
+    Ok(())
+}

@@ -1,0 +1,283 @@
+ghost use Rattle.std.specs.Prelude.{◌≡◌, ◌<◌, ◌≤◌};
+ghost use Rattle.story_judge.specs.Small.{IsSmall};
+
+use crate::bound::expect_bound;
+use crate::expected::expect_answers;
+use crate::script::play;
+use crate::walks::walk;
+use coop_outside::{Depot, MemDepot, SpoiltDepot};
+use policy_box::Elevator;
+use policy_plain::{Attach, Normal};
+use rand_pcg::Pcg32;
+use relevance::{Policy, Relevance};
+use scan_story::{Entry, PolicyName, Setting, Why, read_story};
+use std::alloc::Global;
+use std::process::Abort;
+use std::test::Fail;
+use story_judge::examples::{columns, one_count, shorter, six_chunks, trigger_stops, two_counts};
+use story_judge::stories::{
+    COLUMNS, FAULT, ONE_COUNT, SHORTER, SIX_ATTACH, SIX_ELEVATOR, SIX_NORMAL, SIX_RELEVANCE,
+    TRIGGER_STOPS,
+};
+use story_judge::{first_illegal, is_licensed, is_undisturbed, is_whole};
+use trial_walks::some_setting;
+
+/// No piece has this number.
+pub const NO_PIECE: u32 = 4294967295;
+
+/// A depot that has each piece of the setting, a word with its number. It fails at these gets, and gives the spoilt
+/// piece wrong.
+pub fn depot<R: Abort>(
+    rt: &R,
+    alloc: Global,
+    s: &Setting,
+    fail_gets: &[u64],
+    piece: u32,
+) -> Result<SpoiltDepot, Fail> {
+    let mut inner = MemDepot::new(alloc);
+    for p in 0..s.chunks.saturating_mul(s.groups) {
+        let word = (p as u64).to_le_bytes();
+        assert!(rt; inner.put(p, &word).is_ok());
+    }
+    inner.fail_gets = Vec::from_slice(alloc, fail_gets)?;
+    Ok(SpoiltDepot {
+        inner,
+        piece,
+        word: 0,
+        value: u64::MAX,
+    })
+}
+
+fn story<R: Abort>(rt: &R, alloc: Global, text: &str) -> Vec<Entry> {
+    assert!(rt; text.len() < 1073741824);
+    read_story(alloc, text.as_bytes()).expect(rt, "a story")
+}
+
+fn reads(story: &[Entry]) -> u64 {
+    let mut sum: u64 = 0;
+    for entry in story {
+        if let Entry::Filled { .. } | Entry::Failed { .. } = *entry {
+            sum = sum.saturating_add(1);
+        }
+    }
+    sum
+}
+
+/// The calls of the printed story make just that story, and so many entries more, which end a load that it leaves
+/// underway.
+fn expect_story<R: Abort, P: Policy>(
+    rt: &R,
+    alloc: Global,
+    s: &Setting,
+    policy: P,
+    text: &str,
+    fail_gets: &[u64],
+    more: usize,
+) -> Result<(), Fail> {
+    let printed = story(rt, alloc, text);
+    let depot = depot(rt, alloc, s, fail_gets, NO_PIECE)?;
+    let played = play(alloc, s, policy, depot, printed.as_slice())?;
+    let Some((made, _policy, depot)) = played else {
+        panic!(rt; "no story")
+    };
+    assert_eq!(rt; made.len(), printed.len().saturating_add(more));
+    for i in 0..printed.len() {
+        assert!(rt; i < made.len());
+        assert_eq!(rt; made[i], printed[i], "entry {i}");
+    }
+    assert_eq!(rt; depot.inner.gets, reads(made.as_slice()));
+    Ok(())
+}
+
+#[test]
+fn each_printed_story_is_made_by_its_calls(rt: HostRuntime) -> Result<(), Fail> {
+    let alloc = rt.alloc();
+    let s = one_count(alloc)?;
+    expect_story(&rt, alloc, &s, Relevance, ONE_COUNT, &[], 0)?;
+    let s = two_counts(alloc)?;
+    expect_story(&rt, alloc, &s, Relevance, FAULT, &[2], 0)?;
+    let s = six_chunks(alloc, PolicyName::Relevance)?;
+    expect_story(&rt, alloc, &s, Relevance, SIX_RELEVANCE, &[], 0)
+}
+
+#[test]
+fn so_are_those_of_the_other_policies(rt: HostRuntime) -> Result<(), Fail> {
+    let alloc = rt.alloc();
+    let s = six_chunks(alloc, PolicyName::Elevator)?;
+    expect_story(&rt, alloc, &s, Elevator::new(), SIX_ELEVATOR, &[], 0)?;
+    let s = six_chunks(alloc, PolicyName::Normal)?;
+    expect_story(&rt, alloc, &s, Normal::new(), SIX_NORMAL, &[], 0)?;
+    let s = six_chunks(alloc, PolicyName::Attach)?;
+    expect_story(&rt, alloc, &s, Attach::new(), SIX_ATTACH, &[], 0)
+}
+
+#[test]
+fn so_are_the_worked_turns(rt: HostRuntime) -> Result<(), Fail> {
+    let alloc = rt.alloc();
+    let s = shorter(alloc, PolicyName::Relevance)?;
+    expect_story(&rt, alloc, &s, Relevance, SHORTER, &[], 0)?;
+    let s = columns(alloc)?;
+    expect_story(&rt, alloc, &s, Relevance, COLUMNS, &[], 0)?;
+    let s = trigger_stops(alloc)?;
+    expect_story(&rt, alloc, &s, Relevance, TRIGGER_STOPS, &[2], 1)
+}
+
+/// How often walks met what they are to meet.
+#[derive(Clone, Copy, Debug)]
+struct Met {
+    entries: u64,
+    evictions: u64,
+    stops: u64,
+    faults: u64,
+    damages: u64,
+    ends: u64,
+}
+
+fn one_more(n: &mut u64) {
+    *n = n.saturating_add(1);
+}
+
+fn count(met: &mut Met, story: &[Entry]) {
+    for entry in story {
+        one_more(&mut met.entries);
+        match *entry {
+            Entry::Evict { .. } => one_more(&mut met.evictions),
+            Entry::Stop { .. } => one_more(&mut met.stops),
+            Entry::End { .. } => one_more(&mut met.ends),
+            Entry::Failed {
+                why: Why::Fault { .. },
+                ..
+            } => one_more(&mut met.faults),
+            Entry::Failed {
+                why: Why::Damage { .. },
+                ..
+            } => one_more(&mut met.damages),
+            _ => {}
+        }
+    }
+}
+
+/// The story is legal and whole, what is held stays, its faults fit the depot's counts, and its loads are paid for.
+fn expect_good<R: Abort>(
+    rt: &R,
+    alloc: Global,
+    s: &Setting,
+    story: &[Entry],
+    from: u64,
+    to: u64,
+) -> Result<(), Fail>
+    requires { IsSmall s.now }
+{
+    assert_eq!(rt; first_illegal(alloc, s, story)?, None);
+    assert!(rt; is_whole(alloc, s, story)?, "not whole");
+    assert!(rt; is_undisturbed(s, story));
+    assert!(rt; is_licensed(false, from, to, story));
+    expect_bound(rt, alloc, s, story)
+}
+
+/// One walk, over a depot that had 5 gets and 3 faults before. One in three walks meets a get that fails, and one in three
+/// a piece that is spoilt.
+fn expect_walk<R: Abort>(
+    rt: &R,
+    alloc: Global,
+    s: &Setting,
+    seed: u64,
+    met: &mut Met,
+) -> Result<(), Fail>
+    requires { IsSmall s.now }
+{
+    let fail_gets: &[u64] = if seed % 3 == 1 { &[12, 16] } else { &[] };
+    let spoilt = if seed % 3 == 2 { 3 } else { NO_PIECE };
+    let mut depot = depot(rt, alloc, s, fail_gets, spoilt)?;
+    depot.inner.gets = 5;
+    depot.inner.faults = 3;
+    let Some(walked) = walk(alloc, s, Relevance, depot, seed, STEPS)? else {
+        panic!(rt; "a load is left, seed {seed}")
+    };
+    let story = walked.story.as_slice();
+    expect_good(rt, alloc, s, story, 3, walked.depot.inner.faults)?;
+    expect_answers(rt, alloc, s, story, walked.said.as_slice())?;
+    assert_eq!(rt; walked.depot.inner.gets, reads(story).saturating_add(5));
+    count(met, story);
+    Ok(())
+}
+
+/// Of how many steps a walk is.
+const STEPS: u32 = 600;
+
+/// Walks over so many chunks, by so many workers, with so many pieces a chunk.
+fn expect_walks<R: Abort>(
+    rt: &R,
+    alloc: Global,
+    chunks: u32,
+    workers: u32,
+    groups: u32,
+    seeds: u64,
+) -> Result<Met, Fail>
+    requires workers { (0 < workers) × (workers ≤ 32) }
+    requires groups { (0 < groups) × (groups ≤ 16) }
+{
+    let mut met = Met {
+        entries: 0,
+        evictions: 0,
+        stops: 0,
+        faults: 0,
+        damages: 0,
+        ends: 0,
+    };
+    for seed in 0..seeds {
+        let mut rng = Pcg32::new(seed, 7);
+        let s = some_setting(
+            alloc,
+            PolicyName::Relevance,
+            chunks,
+            workers,
+            groups,
+            &mut rng,
+        )?;
+        expect_walk(rt, alloc, &s, seed, &mut met)?;
+    }
+    Ok(met)
+}
+
+/// Enough was met.
+fn expect_met<R: Abort>(rt: &R, met: Met) {
+    assert!(rt; met.faults > 0 && met.damages > 0, "{met:?}");
+    assert!(rt; met.evictions > 0 && met.stops > 0, "{met:?}");
+    assert!(rt; met.ends > 0 && met.entries > 150, "{met:?}");
+}
+
+#[test]
+fn walks_of_one_worker_over_rows(rt: HostRuntime) -> Result<(), Fail> {
+    let met = expect_walks(&rt, rt.alloc(), 7, 1, 1, 6)?;
+    expect_met(&rt, met);
+    Ok(())
+}
+
+#[test]
+fn walks_of_two_workers_over_rows(rt: HostRuntime) -> Result<(), Fail> {
+    let met = expect_walks(&rt, rt.alloc(), 9, 2, 1, 4)?;
+    expect_met(&rt, met);
+    Ok(())
+}
+
+#[test]
+fn walks_of_three_workers_over_rows(rt: HostRuntime) -> Result<(), Fail> {
+    let met = expect_walks(&rt, rt.alloc(), 12, 3, 1, 3)?;
+    expect_met(&rt, met);
+    Ok(())
+}
+
+#[test]
+fn walks_of_one_worker_over_columns(rt: HostRuntime) -> Result<(), Fail> {
+    let met = expect_walks(&rt, rt.alloc(), 6, 1, 2, 4)?;
+    expect_met(&rt, met);
+    Ok(())
+}
+
+#[test]
+fn walks_of_two_workers_over_columns(rt: HostRuntime) -> Result<(), Fail> {
+    let met = expect_walks(&rt, rt.alloc(), 9, 2, 2, 3)?;
+    expect_met(&rt, met);
+    Ok(())
+}

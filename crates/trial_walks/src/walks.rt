@@ -1,0 +1,54 @@
+ghost use Rattle.std.specs.Prelude.{IfOk, IfSome};
+ghost use Rattle.scan_story.specs.Views.{past};
+ghost use Rattle.scan_story.specs.MayFollow.{Allowed};
+ghost use Rattle.scan_story.specs.Legal.{Chosen, Legal};
+ghost use Rattle.story_judge.specs.Small.{IsSmall};
+
+use crate::moves::{proposal, roll};
+use rand_pcg::Pcg32;
+use scan_story::{Entry, Setting};
+use std::alloc::{AllocError, Global};
+use story_judge::{may_come, underway};
+
+/// An entry that may come next, of one kind that is drawn; `None` where no entry of that kind may come.
+fn next(
+    alloc: Global,
+    s: &Setting,
+    entries: &[Entry],
+    rng: &mut Pcg32,
+) -> Result<Option<Entry>, AllocError>
+    requires { IsSmall s.now }
+    ensures { IfOk result (λ o. IfSome o (λ e. Allowed s.now (past entries.now) e
+        × Chosen s.now (past entries.now) e)) }
+{
+    let drawn = roll(s, rng);
+    let load = underway(alloc, s, entries)?;
+    for i in 0..128u32 {
+        let Some(entry) = proposal(s, entries, &load, &drawn, i) else {
+            return Ok(None);
+        };
+        let may = may_come(alloc, s, entries, &entry)?;
+        if may {
+            return Ok(Some(entry));
+        }
+    }
+    Ok(None)
+}
+
+/// A legal story of the setting, drawn from the seed in so many steps. Each step adds one entry, or none where what was
+/// drawn may not come. The error is want of memory.
+#[tactic(auto, using(crate::proofs::Growth::legal_next))]
+pub fn walk(alloc: Global, s: &Setting, seed: u64, steps: u32) -> Result<Vec<Entry>, AllocError>
+    requires { IsSmall s.now }
+    ensures { IfOk result (λ story. Legal s.now (past story.items)) }
+{
+    let mut rng = Pcg32::new(seed, 54);
+    let mut story = Vec::new(alloc);
+    for step in 0..steps {
+        let found = next(alloc, s, story.as_slice(), &mut rng)?;
+        if let Some(entry) = found {
+            story.push(entry)?;
+        }
+    }
+    Ok(story)
+}
