@@ -7,14 +7,12 @@
 mod candidates;
 mod choices;
 mod cursors;
-pub mod examples;
 mod legal;
 mod licensed;
 mod loads;
 mod may;
 mod needs;
 mod numbers;
-pub mod stories;
 mod undisturbed;
 mod views;
 mod whole;
@@ -36,6 +34,3 @@ pub use views::{
     is_wholly_framed, needs_chunk, piece_in,
 };
 pub use whole::is_whole;
-
-#[cfg(test)]
-mod tests;

@@ -1,9 +1,8 @@
 // The worked answers, in both layouts, on one worker and more, in one part and more.
-use crate::batches::{COUNT, SUM, TABLE, one_worker, run};
+use crate::batches::{COUNT, SUM, ended, one_worker};
 use crate::wanted::{Wanted, is_wanted};
 use batch_run::Options;
 use coop_outside::{MemDepot, SpoiltDepot};
-use cscan::NoGate;
 use piece_format::Layout;
 use std::alloc::Global;
 use std::hash::RandomState;
@@ -12,13 +11,14 @@ use std::sync::Wait;
 use std::test::Fail;
 use std::thread::Threads;
 use table_core::Cell::{Code, Int, Null};
+use trial_stories::tables::TABLE_A;
 
 // Tables, statements and their answers.
-const ANSWERS: [(&[u8], &[u8], Wanted); 11] = [
-    (TABLE, COUNT, Wanted::Rows(&[&[Int(5)]])),
-    (TABLE, SUM, Wanted::Rows(&[&[Int(65)]])),
+const ANSWERS: [(&str, &[u8], Wanted); 11] = [
+    (TABLE_A, COUNT, Wanted::Rows(&[&[Int(5)]])),
+    (TABLE_A, SUM, Wanted::Rows(&[&[Int(65)]])),
     (
-        TABLE,
+        TABLE_A,
         b"SELECT dept, SUM(pay), COUNT(pay) FROM t GROUP BY dept",
         Wanted::Rows(&[
             &[Code(0), Int(10), Int(1)],
@@ -27,42 +27,42 @@ const ANSWERS: [(&[u8], &[u8], Wanted); 11] = [
         ]),
     ),
     (
-        TABLE,
+        TABLE_A,
         b"SELECT SUM(pay) FROM t WHERE id >= 4",
         Wanted::Rows(&[&[Int(35)]]),
     ),
     (
-        TABLE,
+        TABLE_A,
         b"SELECT COUNT(*), SUM(pay) FROM t WHERE id > 9",
         Wanted::Rows(&[&[Int(0), Null]]),
     ),
     (
-        TABLE,
+        TABLE_A,
         b"SELECT COUNT(*) FROM t WHERE NOT pay > 15",
         Wanted::Rows(&[&[Int(2)]]),
     ),
     (
-        TABLE,
+        TABLE_A,
         b"SELECT id, pay FROM t ORDER BY pay DESC, id LIMIT 3",
         Wanted::Picked(&[&[Int(4), Int(40)], &[Int(2), Int(20)], &[Int(1), Int(10)]]),
     ),
     (
-        b"id,dept,pay\n",
+        "id,dept,pay\n",
         b"SELECT dept, SUM(pay), COUNT(pay) FROM t GROUP BY dept",
         Wanted::Rows(&[]),
     ),
     (
-        b"v\n9223372036854775807\n1\n",
+        "v\n9223372036854775807\n1\n",
         b"SELECT SUM(v) FROM t",
         Wanted::Overflow(1, 9223372036854775808),
     ),
     (
-        b"v\n9223372036854775807\n1\n-1\n",
+        "v\n9223372036854775807\n1\n-1\n",
         b"SELECT SUM(v) FROM t",
         Wanted::Rows(&[&[Int(9223372036854775807)]]),
     ),
     (
-        b"g,v\n,1\nx,2\n,3\n",
+        "g,v\n,1\nx,2\n,3\n",
         b"SELECT g, SUM(v) FROM t GROUP BY g",
         Wanted::Rows(&[&[Null, Int(4)], &[Code(0), Int(2)]]),
     ),
@@ -88,9 +88,15 @@ fn expect_answers<R: Abort + Threads + Wait + Sync>(
                 parts,
             };
             let depot = MemDepot::new(alloc);
-            let Ok(end) = run(rt, alloc, keys, text, &[statement], options, depot, &NoGate)? else {
-                panic!(rt; "refused");
-            };
+            let end = ended(
+                rt,
+                alloc,
+                keys,
+                text.as_bytes(),
+                &[statement],
+                options,
+                depot,
+            )?;
             assert!(rt; end.answers.len() == 1);
             assert!(rt; is_wanted(&end.answers[0], wanted), "{workers}");
         }
@@ -120,19 +126,15 @@ fn answers_come_from_the_depot(rt: HostRuntime) -> Result<(), Fail> {
         value: 50,
     };
     let options = one_worker(Layout::Row);
-    let Ok(end) = run(
+    let end = ended(
         &rt,
         rt.alloc(),
         keys,
-        TABLE,
+        TABLE_A.as_bytes(),
         &[SUM],
         options,
         depot,
-        &NoGate,
-    )?
-    else {
-        panic!(rt; "refused");
-    };
+    )?;
     assert!(rt; end.answers.len() == 1);
     assert!(rt; is_wanted(&end.answers[0], Wanted::Rows(&[&[Int(105)]])));
     Ok(())

@@ -10,7 +10,7 @@ ghost use Rattle.batch_run.specs.Tasks.{CanBeLoaded, IsPlanOfTable};
 
 use batch_run::{BatchEnd, BatchRefusal, Options, Task, run_batch};
 use coop_outside::Depot;
-use cscan::Gate;
+use cscan::{Gate, NoGate};
 use csv_load::{Loaded, load};
 use piece_format::{Layout, Shape, frame_words, groups};
 use relevance::{Policy, Relevance};
@@ -24,11 +24,15 @@ use std::thread::Threads;
 use table_core::{Dict, Schema, chunk_count, places_of_kind};
 use table_pieces::shape_of;
 
-pub(crate) const TABLE: &[u8] = b"id,dept,pay\n1,a,10\n2,b,20\n3,a,\n4,c,40\n5,b,-5\n";
-
 pub(crate) const COUNT: &[u8] = b"SELECT COUNT(*) FROM t";
 
 pub(crate) const SUM: &[u8] = b"SELECT SUM(pay) FROM t";
+
+// The next number of a row of numbers.
+pub(crate) fn next(seed: u64) -> u64 {
+    seed.wrapping_mul(6364136223846793005)
+        .wrapping_add(1442695040888963407)
+}
 
 // Options of one worker with the least frames, and two rows in a chunk.
 pub(crate) fn one_worker(layout: Layout) -> Options {
@@ -164,7 +168,25 @@ pub(crate) fn run<R: Abort + Threads + Wait + Sync, D: Depot + Send, T: Gate + S
     )
 }
 
-// The same under a policy.
+// A batch that starts under relevance beside no gate, and its end.
+pub(crate) fn ended<R: Abort + Threads + Wait + Sync, D: Depot + Send>(
+    rt: &R,
+    alloc: Global,
+    keys: RandomState,
+    text: &[u8],
+    statements: &[&[u8]],
+    options: Options,
+    depot: D,
+) -> Result<BatchEnd<D>, Fail>
+    requires { D.gets depot ≤ 2 ^ 63 }
+{
+    match run(rt, alloc, keys, text, statements, options, depot, &NoGate)? {
+        Ok(end) => Ok(end),
+        Err(_) => panic!(rt; "refused"),
+    }
+}
+
+// The same as `run` under a policy.
 pub(crate) fn run_under<
     R: Abort + Threads + Wait + Sync,
     P: Policy,

@@ -1,5 +1,5 @@
 // Depots that fail, and one that spoils a word.
-use crate::batches::{COUNT, TABLE, one_worker, run};
+use crate::batches::{COUNT, ended, one_worker, run};
 use crate::wanted::{Wanted, are_taken, are_wanted};
 use batch_run::{BatchRefusal, Cause, Options};
 use coop_outside::{MemDepot, SpoiltDepot};
@@ -8,6 +8,7 @@ use piece_format::Layout;
 use std::hash::RandomState;
 use std::test::Fail;
 use table_core::Cell::Int;
+use trial_stories::tables::TABLE_A;
 
 const FIVE: Wanted = Wanted::Rows(&[&[Int(5)]]);
 
@@ -37,19 +38,15 @@ fn a_failing_get_stops_its_query_alone(rt: HostRuntime) -> Result<(), Fail> {
         let mut depot = MemDepot::new(rt.alloc());
         depot.fail_gets = Vec::from_slice(rt.alloc(), fails)?;
         let options = one_worker(Layout::Row);
-        let Ok(end) = run(
+        let end = ended(
             &rt,
             rt.alloc(),
             keys,
-            TABLE,
+            TABLE_A.as_bytes(),
             &[COUNT, COUNT],
             options,
             depot,
-            &NoGate,
-        )?
-        else {
-            panic!(rt; "refused");
-        };
+        )?;
         assert!(rt; are_wanted(&end.answers, wanted));
         assert_eq!(rt; end.depot.gets, gets);
     }
@@ -68,19 +65,15 @@ fn a_part_that_meets_a_fault_stops_its_query(rt: HostRuntime) -> Result<(), Fail
         layout: Layout::Row,
         parts: 2,
     };
-    let Ok(end) = run(
+    let end = ended(
         &rt,
         rt.alloc(),
         keys,
-        TABLE,
+        TABLE_A.as_bytes(),
         &[COUNT],
         options,
         depot,
-        &NoGate,
-    )?
-    else {
-        panic!(rt; "refused");
-    };
+    )?;
     assert!(rt; are_wanted(&end.answers, &[FIRST]));
     assert!(rt; are_taken(&end.taken, &[(1, 0, 0, &[0]), (1, 1, 0, &[1])]));
     assert_eq!(rt; end.depot.gets, 3);
@@ -98,19 +91,15 @@ fn a_damaged_piece_stops_its_query_alone(rt: HostRuntime) -> Result<(), Fail> {
     };
     let first = b"SELECT COUNT(*) FROM t WHERE id <= 2";
     let options = one_worker(Layout::Row);
-    let Ok(end) = run(
+    let end = ended(
         &rt,
         rt.alloc(),
         keys,
-        TABLE,
+        TABLE_A.as_bytes(),
         &[COUNT, first],
         options,
         depot,
-        &NoGate,
-    )?
-    else {
-        panic!(rt; "refused");
-    };
+    )?;
     let damage = Wanted::Stopped(Cause::Damage { piece: 1, word: 2 });
     assert!(rt; are_wanted(&end.answers, &[damage, Wanted::Rows(&[&[Int(2)]])]));
     Ok(())
@@ -127,7 +116,7 @@ fn a_failing_put_refuses_the_batch(rt: HostRuntime) -> Result<(), Fail> {
             &rt,
             rt.alloc(),
             keys,
-            TABLE,
+            TABLE_A.as_bytes(),
             &[COUNT],
             options,
             depot,

@@ -4,7 +4,7 @@ ghost use Rattle.std.specs.Prelude.{◌≤◌};
 ghost use Rattle.std.specs.Bool.{OnTrue};
 ghost use Rattle.story_judge.specs.Small as small;
 
-use crate::batches::run_under;
+use crate::batches::{next, run_under};
 use batch_run::{Answer, BatchEnd, Options};
 use coop_outside::MemDepot;
 use cscan::NoGate;
@@ -20,22 +20,9 @@ use std::process::Abort;
 use std::sync::Wait;
 use std::test::Fail;
 use std::thread::Threads;
-use story_judge::examples::first_cursor;
 use story_judge::{first_illegal, is_licensed, is_undisturbed, is_whole};
 use table_core::Cell;
-
-const POLICIES: [PolicyName; 4] = [
-    PolicyName::Relevance,
-    PolicyName::Elevator,
-    PolicyName::Normal,
-    PolicyName::Attach,
-];
-
-// The next number of a row of numbers.
-fn next(seed: u64) -> u64 {
-    seed.wrapping_mul(6364136223846793005)
-        .wrapping_add(1442695040888963407)
-}
+use trial_stories::{POLICIES, first_cursor};
 
 // A query over the rows from `first` to `last`, counted from 1: it counts them, or sums their second column.
 #[derive(Clone, Copy)]

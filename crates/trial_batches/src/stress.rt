@@ -2,10 +2,9 @@
 ghost use Rattle.std.specs.Prelude.{◌≡◌, ◌≤◌, IfOk, length};
 ghost use Rattle.story_judge.specs.Small.{IsSmall};
 
-use crate::batches::run;
+use crate::batches::{ended, next};
 use batch_run::{Answer, BatchEnd, Cause, Options};
 use coop_outside::MemDepot;
-use cscan::NoGate;
 use piece_format::Layout;
 use scan_story::{Need, PolicyName, Setting};
 use std::alloc::{AllocError, Global};
@@ -107,12 +106,6 @@ const QUERIES: [(&[u8], u32, u32); 16] = [
         16,
     ),
 ];
-
-// The next number of a row of numbers.
-fn next(seed: u64) -> u64 {
-    seed.wrapping_mul(6364136223846793005)
-        .wrapping_add(1442695040888963407)
-}
 
 // The numbers from one to another.
 fn numbers(alloc: Global, from: u32, to: u32) -> Result<LinkedList<u32>, AllocError> {
@@ -232,9 +225,7 @@ fn expect_round<R: Abort + Threads + Wait + Sync>(
     for (statement, _, _) in QUERIES {
         statements.push(statement)?;
     }
-    let Ok(end) = run(rt, alloc, keys, TABLE, &statements, options, depot, &NoGate)? else {
-        panic!(rt; "refused");
-    };
+    let end = ended(rt, alloc, keys, TABLE, &statements, options, depot)?;
     let s = setting_of(alloc, &options, groups)?;
     judge(rt, alloc, &s, &end, failing)
 }

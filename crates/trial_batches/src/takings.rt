@@ -1,14 +1,16 @@
 // Which chunks are taken by whom, and how many reads that takes.
-use crate::batches::{COUNT, TABLE, one_worker, run};
+use crate::batches::{COUNT, ended, one_worker};
 use crate::wanted::{Took, are_taken};
 use batch_run::Options;
 use coop_outside::MemDepot;
-use cscan::NoGate;
 use piece_format::Layout;
+use std::alloc::Global;
 use std::hash::RandomState;
+use std::process::Abort;
+use std::sync::Wait;
 use std::test::Fail;
-
-const SIX: &[u8] = b"v\n1\n2\n3\n4\n5\n6\n";
+use std::thread::Threads;
+use trial_stories::tables::{SIX_ROWS, TABLE_A};
 
 const DEPTS: &[u8] = b"SELECT dept, SUM(pay), COUNT(pay) FROM t GROUP BY dept";
 
@@ -32,94 +34,87 @@ const TAKEN: [(&[u8], &[Took], [u64; 2]); 4] = [
     ),
 ];
 
+// Of this batch so many gets are made, and the chunks are taken so.
+fn expect_taken<R: Abort + Threads + Wait + Sync>(
+    rt: &R,
+    alloc: Global,
+    keys: RandomState,
+    text: &str,
+    statements: &[&[u8]],
+    options: Options,
+    took: &[Took],
+    gets: u64,
+) -> Result<(), Fail> {
+    let depot = MemDepot::new(alloc);
+    let end = ended(rt, alloc, keys, text.as_bytes(), statements, options, depot)?;
+    assert!(rt; are_taken(&end.taken, took), "{options:?}");
+    assert_eq!(rt; end.depot.gets, gets, "{options:?}");
+    Ok(())
+}
+
 #[test]
 fn needed_chunks_alone_are_read_each_once(rt: HostRuntime) -> Result<(), Fail> {
-    for (statement, took, gets) in TAKEN {
-        for (layout, wanted) in [(Layout::Row, gets[0]), (Layout::Column, gets[1])] {
-            let keys = RandomState::new(&rt)?;
-            let depot = MemDepot::new(rt.alloc());
+    let keys = RandomState::new(&rt)?;
+    for (statement, took, [row, column]) in TAKEN {
+        for (layout, gets) in [(Layout::Row, row), (Layout::Column, column)] {
             let options = one_worker(layout);
-            let Ok(end) = run(
+            expect_taken(
                 &rt,
                 rt.alloc(),
                 keys,
-                TABLE,
+                TABLE_A,
                 &[statement],
                 options,
-                depot,
-                &NoGate,
-            )?
-            else {
-                panic!(rt; "refused");
-            };
-            assert!(rt; are_taken(&end.taken, took));
-            assert_eq!(rt; end.depot.gets, wanted);
+                took,
+                gets,
+            )?;
         }
     }
     Ok(())
 }
 
-#[test]
-fn two_counts_share_the_reads_of_six_chunks(rt: HostRuntime) -> Result<(), Fail> {
-    let keys = RandomState::new(&rt)?;
-    let depot = MemDepot::new(rt.alloc());
-    let options = Options {
-        workers: 1,
-        frames: 4,
-        per: 1,
-        layout: Layout::Row,
-        parts: 1,
-    };
-    let Ok(end) = run(
-        &rt,
-        rt.alloc(),
-        keys,
-        SIX,
+// A table, statements, workers, frames, the rows of a chunk, parts, the chunks that are taken, and the gets.
+const SHARED: [(&str, &[&[u8]], [u32; 4], &[Took], u64); 3] = [
+    // two counts share the reads of six chunks
+    (
+        SIX_ROWS,
         &[COUNT, COUNT],
-        options,
-        depot,
-        &NoGate,
-    )?
-    else {
-        panic!(rt; "refused");
-    };
-    let took: [Took; 2] = [
-        (1, 0, 0, &[0, 1, 2, 3, 4, 5]),
-        (2, 0, 0, &[2, 3, 4, 5, 0, 1]),
-    ];
-    assert!(rt; are_taken(&end.taken, &took));
-    assert_eq!(rt; end.depot.gets, 8);
-    Ok(())
-}
+        [1, 4, 1, 1],
+        &[
+            (1, 0, 0, &[0, 1, 2, 3, 4, 5]),
+            (2, 0, 0, &[2, 3, 4, 5, 0, 1]),
+        ],
+        8,
+    ),
+    // one query in two parts, on two workers and on one
+    (
+        TABLE_A,
+        &[DEPTS],
+        [2, 7, 2, 2],
+        &[(1, 0, 0, &[0, 2]), (1, 1, 1, &[1])],
+        3,
+    ),
+    (
+        TABLE_A,
+        &[DEPTS],
+        [1, 4, 2, 2],
+        &[(1, 0, 0, &[0, 2]), (1, 1, 0, &[1])],
+        3,
+    ),
+];
 
 #[test]
-fn one_query_in_two_parts(rt: HostRuntime) -> Result<(), Fail> {
-    for (workers, frames) in [(2, 7), (1, 4)] {
-        let keys = RandomState::new(&rt)?;
-        let depot = MemDepot::new(rt.alloc());
+fn queries_and_their_parts_share_chunks(rt: HostRuntime) -> Result<(), Fail> {
+    let keys = RandomState::new(&rt)?;
+    for (text, statements, [workers, frames, per, parts], took, gets) in SHARED {
         let options = Options {
             workers,
             frames,
-            per: 2,
+            per,
             layout: Layout::Row,
-            parts: 2,
+            parts,
         };
-        let Ok(end) = run(
-            &rt,
-            rt.alloc(),
-            keys,
-            TABLE,
-            &[DEPTS],
-            options,
-            depot,
-            &NoGate,
-        )?
-        else {
-            panic!(rt; "refused");
-        };
-        let took: [Took; 2] = [(1, 0, 0, &[0, 2]), (1, 1, workers - 1, &[1])];
-        assert!(rt; are_taken(&end.taken, &took));
-        assert_eq!(rt; end.depot.gets, 3);
+        expect_taken(&rt, rt.alloc(), keys, text, statements, options, took, gets)?;
     }
     Ok(())
 }

@@ -11,7 +11,7 @@ mod trial;
 pub use compare::agrees;
 pub use picks::{delivery, load, victim};
 pub use settings::{book_needs, book_of, has_numbers};
-pub use trial::{Trial, played, try_story};
+pub use trial::{Trial, note_next, played, try_story};
 
 #[cfg(test)]
 mod tests;

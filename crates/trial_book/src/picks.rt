@@ -1,4 +1,4 @@
-//! What the policy by relevance picks from a book of a list.
+//! What a policy picks from a book of a list.
 ghost use Rattle.std.specs.Prelude.{◌≡◌};
 ghost use Rattle.scan_story.specs.Views.{past};
 ghost use Rattle.story_judge.specs.Small.{IsSmall};
@@ -6,29 +6,41 @@ ghost use Rattle.interest_book.specs.Stands.{Stands};
 ghost use Rattle.trial_book.specs.Begun.{begins_some};
 
 use interest_book::{Book, Memory};
-use relevance::{Policy, Relevance};
+use relevance::Policy;
 use scan_story::{Entry, Load, Setting};
 use std::alloc::Global;
 use story_judge::{is_active, underway};
 
 /// The chunk to deliver to the query, where it is active and one is available.
-pub fn delivery(s: &Setting, entries: &[Entry], book: &Book, q: u32) -> Option<u32>
+pub fn delivery<P: Policy>(
+    policy: &mut P,
+    s: &Setting,
+    entries: &[Entry],
+    book: &Book,
+    q: u32,
+) -> Option<u32>
     requires { Stands book.now s.now (past entries.now) }
 {
     if !is_active(entries, q) {
         return None;
     }
-    Relevance.pick_delivery(book, q)
+    policy.pick_delivery(book, q)
 }
 
 /// The chunk to load for the query, where it is active and one is to be loaded.
-pub fn load(s: &Setting, entries: &[Entry], book: &Book, q: u32) -> Option<u32>
+pub fn load<P: Policy>(
+    policy: &mut P,
+    s: &Setting,
+    entries: &[Entry],
+    book: &Book,
+    q: u32,
+) -> Option<u32>
     requires { Stands book.now s.now (past entries.now) }
 {
     if !is_active(entries, q) {
         return None;
     }
-    Relevance.pick_load(book, q)
+    policy.pick_load(book, q)
 }
 
 fn has_begun(load: &Option<Load>) -> bool
@@ -41,8 +53,9 @@ fn has_begun(load: &Option<Load>) -> bool
 }
 
 /// The chunk to evict, where no fill is underway and there is one.
-pub fn victim(
+pub fn victim<P: Policy>(
     alloc: Global,
+    policy: &mut P,
     s: &Setting,
     entries: &[Entry],
     book: &Book,
@@ -54,5 +67,5 @@ pub fn victim(
     if has_begun(&load) {
         return Ok(None);
     }
-    Ok(Relevance.pick_victim(book))
+    Ok(policy.pick_victim(book))
 }

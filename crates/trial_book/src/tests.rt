@@ -6,15 +6,15 @@ ghost use Rattle.story_judge.specs.Small.{IsSmall};
 use super::*;
 use interest_book::Book;
 use rand_pcg::Pcg32;
-use relevance::{Ratio, keep_ratio, load_ratio, query_rank, use_ratio};
-use scan_story::{Entry, PolicyName, Setting, read_story};
+use relevance::{Ratio, Relevance, keep_ratio, load_ratio, query_rank, use_ratio};
+use scan_story::{Entry, PolicyName, Setting};
 use std::alloc::{AllocError, Global};
 use std::process::Abort;
 use std::test::Fail;
-use story_judge::examples::{
-    columns, need, nine_chunks, one_count, setting, shorter, six_chunks, trigger_stops, two_counts,
+use trial_stories::{
+    COUNTS, POLICIES, Printed, SIX, SIX_ATTACH, Scene, TO_EVICT, TURNS, TWO_TO_DELIVER, entries_of,
+    need, setting,
 };
-use story_judge::stories::*;
 use trial_walks::{some_setting, walk};
 
 /// How many walks there are of a kind, and of how many steps.
@@ -38,57 +38,33 @@ fn with_first(alloc: Global, workers: u32, chunks: &[u32]) -> Result<Setting, Al
     )
 }
 
-fn story<R: Abort>(rt: &R, alloc: Global, text: &str) -> Vec<Entry> {
-    assert!(rt; text.len() < 1073741824);
-    read_story(alloc, text.as_bytes()).expect(rt, "a story")
-}
-
-fn trial<R: Abort>(rt: &R, alloc: Global, s: &Setting, text: &str) -> Result<Trial, Fail>
-    requires { IsSmall s.now }
-{
-    let entries = story(rt, alloc, text);
-    Ok(try_story(alloc, s, entries.as_slice())?)
+/// The book agrees with the judge after each entry.
+fn expect_agrees<R: Abort>(rt: &R, alloc: Global, printed: &Printed) -> Result<(), Fail> {
+    let s = printed.setting(alloc)?;
+    let entries = printed.entries(alloc)?;
+    let trial = try_story(alloc, &s, &entries)?;
+    assert_eq!(rt; trial, Trial::Agrees, "{printed:?}");
+    Ok(())
 }
 
 #[test]
 fn the_book_agrees_with_the_judge_after_each_entry(rt: HostRuntime) -> Result<(), Fail> {
     let alloc = rt.alloc();
-    let s = one_count(alloc)?;
-    assert_eq!(rt; trial(&rt, alloc, &s, ONE_COUNT)?, Trial::Agrees);
-    let s = two_counts(alloc)?;
-    assert_eq!(rt; trial(&rt, alloc, &s, FAULT)?, Trial::Agrees);
-    let s = shorter(alloc, PolicyName::Relevance)?;
-    assert_eq!(rt; trial(&rt, alloc, &s, SHORTER)?, Trial::Agrees);
-    assert_eq!(rt; trial(&rt, alloc, &s, TWO_LOADED)?, Trial::Agrees);
-    let s = trigger_stops(alloc)?;
-    assert_eq!(rt; trial(&rt, alloc, &s, TRIGGER_STOPS)?, Trial::Agrees);
-    let s = columns(alloc)?;
-    assert_eq!(rt; trial(&rt, alloc, &s, COLUMNS)?, Trial::Agrees);
-    let s = nine_chunks(alloc)?;
-    assert_eq!(rt; trial(&rt, alloc, &s, FULL)?, Trial::Agrees);
+    for printed in COUNTS {
+        expect_agrees(&rt, alloc, &printed)?;
+    }
+    for printed in TURNS {
+        expect_agrees(&rt, alloc, &printed)?;
+    }
+    for printed in [TWO_TO_DELIVER, TO_EVICT] {
+        expect_agrees(&rt, alloc, &printed)?;
+    }
+    // so it does under each policy
+    for printed in SIX {
+        expect_agrees(&rt, alloc, &printed)?;
+    }
     Ok(())
 }
-
-#[test]
-fn so_it_does_under_each_policy(rt: HostRuntime) -> Result<(), Fail> {
-    let alloc = rt.alloc();
-    let s = six_chunks(alloc, PolicyName::Relevance)?;
-    assert_eq!(rt; trial(&rt, alloc, &s, SIX_RELEVANCE)?, Trial::Agrees);
-    let s = six_chunks(alloc, PolicyName::Elevator)?;
-    assert_eq!(rt; trial(&rt, alloc, &s, SIX_ELEVATOR)?, Trial::Agrees);
-    let s = six_chunks(alloc, PolicyName::Normal)?;
-    assert_eq!(rt; trial(&rt, alloc, &s, SIX_NORMAL)?, Trial::Agrees);
-    let s = six_chunks(alloc, PolicyName::Attach)?;
-    assert_eq!(rt; trial(&rt, alloc, &s, SIX_ATTACH)?, Trial::Agrees);
-    Ok(())
-}
-
-const POLICIES: [PolicyName; 4] = [
-    PolicyName::Relevance,
-    PolicyName::Elevator,
-    PolicyName::Normal,
-    PolicyName::Attach,
-];
 
 /// Walks at random under each policy, with so many workers and so many pieces a chunk: the book, which knows no
 /// policy, has each number as the judge has it.
@@ -126,15 +102,17 @@ fn walks_over_columns(rt: HostRuntime) -> Result<(), Fail> {
 #[test]
 fn what_no_book_can_follow_is_told(rt: HostRuntime) -> Result<(), Fail> {
     let alloc = rt.alloc();
+    let [one_count, _fault] = COUNTS;
+    let entries = one_count.entries(alloc)?;
     // chunks that fall, a chunk that the table lacks, no worker
-    let s = with_first(alloc, 1, &[1, 0])?;
-    assert_eq!(rt; trial(&rt, alloc, &s, ONE_COUNT)?, Trial::Unfit);
-    let s = with_first(alloc, 1, &[0, 3])?;
-    assert_eq!(rt; trial(&rt, alloc, &s, ONE_COUNT)?, Trial::Unfit);
-    let s = with_first(alloc, 0, &[0])?;
-    assert_eq!(rt; trial(&rt, alloc, &s, ONE_COUNT)?, Trial::Unfit);
-    let s = six_chunks(alloc, PolicyName::Elevator)?;
-    assert_eq!(rt; trial(&rt, alloc, &s, SIX_ATTACH)?, Trial::Illegal(35));
+    let cases: [(u32, &[u32]); 3] = [(1, &[1, 0]), (1, &[0, 3]), (0, &[0])];
+    for (workers, chunks) in cases {
+        let s = with_first(alloc, workers, chunks)?;
+        assert_eq!(rt; try_story(alloc, &s, &entries)?, Trial::Unfit, "{workers}");
+    }
+    let s = Scene::SixChunks.setting(alloc, PolicyName::Elevator)?;
+    let entries = SIX_ATTACH.entries(alloc)?;
+    assert_eq!(rt; try_story(alloc, &s, &entries)?, Trial::Illegal(35));
     Ok(())
 }
 
@@ -155,16 +133,17 @@ fn ratio(num: u32, den: u32) -> Ratio {
 fn ranks_and_load_ratios(rt: HostRuntime) -> Result<(), Fail> {
     let alloc = rt.alloc();
     let registers = "register 0 1\nregister 1 2\n";
-    let s = shorter(alloc, PolicyName::Relevance)?;
-    let entries = story(&rt, alloc, registers);
+    let s = Scene::Shorter.setting(alloc, PolicyName::Relevance)?;
+    let entries = entries_of(alloc, registers)?;
     let b = book(&rt, alloc, &s, entries.as_slice())?;
     assert_eq!(rt; (query_rank(&b, 1), query_rank(&b, 2)), (-5, -2));
     assert_eq!(rt; load_ratio(&b, 1, 0), ratio(1025, 1));
     assert_eq!(rt; load_ratio(&b, 1, 1), ratio(1025, 1));
     assert_eq!(rt; load_ratio(&b, 1, 2), ratio(2050, 1));
-    assert_eq!(rt; load(&s, entries.as_slice(), &b, 1), Some(2));
-    let s = columns(alloc)?;
-    let entries = story(&rt, alloc, registers);
+    let target = load(&mut Relevance, &s, &entries, &b, 1);
+    assert_eq!(rt; target, Some(2));
+    let s = Scene::Columns.setting(alloc, PolicyName::Relevance)?;
+    let entries = entries_of(alloc, registers)?;
     let b = book(&rt, alloc, &s, entries.as_slice())?;
     assert_eq!(rt; (query_rank(&b, 1), query_rank(&b, 2)), (-3, -4));
     assert_eq!(rt;
@@ -177,7 +156,7 @@ fn ranks_and_load_ratios(rt: HostRuntime) -> Result<(), Fail> {
     );
     // worker 0 has taken chunk 1
     let begun = "register 0 1\nregister 1 2\nplan 0 1 1\nfill 0 0 2\nfilled 0 0 2\ndeliver 0 1 1\n";
-    let entries = story(&rt, alloc, begun);
+    let entries = entries_of(alloc, begun)?;
     let b = book(&rt, alloc, &s, entries.as_slice())?;
     assert_eq!(rt; (query_rank(&b, 1), query_rank(&b, 2)), (-2, 0));
     Ok(())
@@ -186,22 +165,23 @@ fn ranks_and_load_ratios(rt: HostRuntime) -> Result<(), Fail> {
 #[test]
 fn a_delivery_prefers_what_nobody_else_needs(rt: HostRuntime) -> Result<(), Fail> {
     let alloc = rt.alloc();
-    let s = shorter(alloc, PolicyName::Relevance)?;
-    let entries = story(&rt, alloc, TWO_LOADED);
+    let s = TWO_TO_DELIVER.setting(alloc)?;
+    let entries = TWO_TO_DELIVER.entries(alloc)?;
     let b = book(&rt, alloc, &s, entries.as_slice())?;
     assert_eq!(rt;
         (use_ratio(&b, 1, 0), use_ratio(&b, 1, 2)),
         (ratio(1, 1), ratio(1, 2))
     );
-    assert_eq!(rt; delivery(&s, entries.as_slice(), &b, 1), Some(0));
+    let taken = delivery(&mut Relevance, &s, &entries, &b, 1);
+    assert_eq!(rt; taken, Some(0));
     Ok(())
 }
 
 #[test]
 fn the_victim_that_nobody_needs(rt: HostRuntime) -> Result<(), Fail> {
     let alloc = rt.alloc();
-    let s = nine_chunks(alloc)?;
-    let entries = story(&rt, alloc, FULL);
+    let s = TO_EVICT.setting(alloc)?;
+    let entries = TO_EVICT.entries(alloc)?;
     let b = book(&rt, alloc, &s, entries.as_slice())?;
     for c in [0, 1, 2] {
         assert_eq!(rt; keep_ratio(&b, c), ratio(1, 1));
@@ -212,6 +192,7 @@ fn the_victim_that_nobody_needs(rt: HostRuntime) -> Result<(), Fail> {
     assert_eq!(rt; keep_ratio(&b, 6), ratio(1025, 1));
     assert!(rt; b.is_held(5) && !b.is_victim(5));
     // of the equal ones 3 and 4 the least
-    assert_eq!(rt; victim(alloc, &s, entries.as_slice(), &b)?, Some(3));
+    let chosen = victim(alloc, &mut Relevance, &s, &entries, &b)?;
+    assert_eq!(rt; chosen, Some(3));
     Ok(())
 }

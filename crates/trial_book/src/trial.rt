@@ -24,8 +24,8 @@ pub enum Trial {
     Agrees,
 }
 
-// Notes the entry at the place, where it may come after those before it.
-fn note_next(
+/// Notes the entry at the place, where it may come after those before it.
+pub fn note_next(
     alloc: Global,
     s: &Setting,
     entries: &[Entry],

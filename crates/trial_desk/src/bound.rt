@@ -5,24 +5,8 @@ use scan_story::{Entry, Setting};
 use std::alloc::Global;
 use std::process::Abort;
 use std::test::Fail;
-use story_judge::{available, is_active, is_stopped, underway};
-
-/// What pays for loads: the deliveries, two for each stopped query, and what is available to the active ones, counted up
-/// to two for each.
-fn paid_by(s: &Setting, entries: &[Entry], deliveries: u64) -> u64
-    requires { IsSmall s.now }
-{
-    let mut sum = deliveries;
-    for n in s.needs.iter() {
-        if is_stopped(entries, n.query) {
-            sum = sum.saturating_add(2);
-        }
-        if is_active(entries, n.query) {
-            sum = sum.saturating_add(available(s, entries, n.query).min(2) as u64);
-        }
-    }
-    sum
-}
+use story_judge::underway;
+use trial_stories::paid_by;
 
 /// After each entry the loads so far are paid for.
 pub fn expect_bound<R: Abort>(

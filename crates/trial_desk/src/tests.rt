@@ -10,16 +10,12 @@ use policy_box::Elevator;
 use policy_plain::{Attach, Normal};
 use rand_pcg::Pcg32;
 use relevance::{Policy, Relevance};
-use scan_story::{Entry, PolicyName, Setting, Why, read_story};
+use scan_story::{Entry, PolicyName, Setting, Why};
 use std::alloc::Global;
 use std::process::Abort;
 use std::test::Fail;
-use story_judge::examples::{columns, one_count, shorter, six_chunks, trigger_stops, two_counts};
-use story_judge::stories::{
-    COLUMNS, FAULT, ONE_COUNT, SHORTER, SIX_ATTACH, SIX_ELEVATOR, SIX_NORMAL, SIX_RELEVANCE,
-    TRIGGER_STOPS,
-};
 use story_judge::{first_illegal, is_licensed, is_undisturbed, is_whole};
+use trial_stories::{COUNTS, Printed, SIX_ATTACH, SIX_ELEVATOR, SIX_NORMAL, SIX_RELEVANCE, TURNS};
 use trial_walks::some_setting;
 
 /// No piece has this number.
@@ -48,11 +44,6 @@ pub fn depot<R: Abort>(
     })
 }
 
-fn story<R: Abort>(rt: &R, alloc: Global, text: &str) -> Vec<Entry> {
-    assert!(rt; text.len() < 1073741824);
-    read_story(alloc, text.as_bytes()).expect(rt, "a story")
-}
-
 fn reads(story: &[Entry]) -> u64 {
     let mut sum: u64 = 0;
     for entry in story {
@@ -68,58 +59,48 @@ fn reads(story: &[Entry]) -> u64 {
 fn expect_story<R: Abort, P: Policy>(
     rt: &R,
     alloc: Global,
-    s: &Setting,
     policy: P,
-    text: &str,
-    fail_gets: &[u64],
+    printed: &Printed,
     more: usize,
 ) -> Result<(), Fail> {
-    let printed = story(rt, alloc, text);
-    let depot = depot(rt, alloc, s, fail_gets, NO_PIECE)?;
-    let played = play(alloc, s, policy, depot, printed.as_slice())?;
-    let Some((made, _policy, depot)) = played else {
-        panic!(rt; "no story")
+    let s = printed.setting(alloc)?;
+    let entries = printed.entries(alloc)?;
+    let depot = depot(rt, alloc, &s, printed.fail_gets, NO_PIECE)?;
+    let Some((made, _policy, depot)) = play(alloc, &s, policy, depot, &entries)? else {
+        panic!(rt; "no story: {printed:?}")
     };
-    assert_eq!(rt; made.len(), printed.len().saturating_add(more));
-    for i in 0..printed.len() {
+    assert_eq!(rt;
+        made.len(),
+        entries.len().saturating_add(more),
+        "{printed:?}"
+    );
+    for i in 0..entries.len() {
         assert!(rt; i < made.len());
-        assert_eq!(rt; made[i], printed[i], "entry {i}");
+        assert_eq!(rt; made[i], entries[i], "entry {i}: {printed:?}");
     }
-    assert_eq!(rt; depot.inner.gets, reads(made.as_slice()));
+    assert_eq!(rt; depot.inner.gets, reads(&made));
     Ok(())
 }
 
 #[test]
 fn each_printed_story_is_made_by_its_calls(rt: HostRuntime) -> Result<(), Fail> {
     let alloc = rt.alloc();
-    let s = one_count(alloc)?;
-    expect_story(&rt, alloc, &s, Relevance, ONE_COUNT, &[], 0)?;
-    let s = two_counts(alloc)?;
-    expect_story(&rt, alloc, &s, Relevance, FAULT, &[2], 0)?;
-    let s = six_chunks(alloc, PolicyName::Relevance)?;
-    expect_story(&rt, alloc, &s, Relevance, SIX_RELEVANCE, &[], 0)
-}
-
-#[test]
-fn so_are_those_of_the_other_policies(rt: HostRuntime) -> Result<(), Fail> {
-    let alloc = rt.alloc();
-    let s = six_chunks(alloc, PolicyName::Elevator)?;
-    expect_story(&rt, alloc, &s, Elevator::new(), SIX_ELEVATOR, &[], 0)?;
-    let s = six_chunks(alloc, PolicyName::Normal)?;
-    expect_story(&rt, alloc, &s, Normal::new(), SIX_NORMAL, &[], 0)?;
-    let s = six_chunks(alloc, PolicyName::Attach)?;
-    expect_story(&rt, alloc, &s, Attach::new(), SIX_ATTACH, &[], 0)
-}
-
-#[test]
-fn so_are_the_worked_turns(rt: HostRuntime) -> Result<(), Fail> {
-    let alloc = rt.alloc();
-    let s = shorter(alloc, PolicyName::Relevance)?;
-    expect_story(&rt, alloc, &s, Relevance, SHORTER, &[], 0)?;
-    let s = columns(alloc)?;
-    expect_story(&rt, alloc, &s, Relevance, COLUMNS, &[], 0)?;
-    let s = trigger_stops(alloc)?;
-    expect_story(&rt, alloc, &s, Relevance, TRIGGER_STOPS, &[2], 1)
+    let [one_count, fault] = COUNTS;
+    let [shorter, columns, trigger_stops] = TURNS;
+    for (printed, more) in [
+        (one_count, 0),
+        (fault, 0),
+        (SIX_RELEVANCE, 0),
+        (shorter, 0),
+        (columns, 0),
+        (trigger_stops, 1),
+    ] {
+        expect_story(&rt, alloc, Relevance, &printed, more)?;
+    }
+    // so are those of the other policies
+    expect_story(&rt, alloc, Elevator::new(), &SIX_ELEVATOR, 0)?;
+    expect_story(&rt, alloc, Normal::new(), &SIX_NORMAL, 0)?;
+    expect_story(&rt, alloc, Attach::new(), &SIX_ATTACH, 0)
 }
 
 /// How often walks met what they are to meet.
@@ -205,7 +186,7 @@ fn expect_walk<R: Abort>(
 /// Of how many steps a walk is.
 const STEPS: u32 = 600;
 
-/// Walks over so many chunks, by so many workers, with so many pieces a chunk.
+/// Walks over so many chunks, by so many workers, with so many pieces a chunk: enough is met in them.
 fn expect_walks<R: Abort>(
     rt: &R,
     alloc: Global,
@@ -213,7 +194,7 @@ fn expect_walks<R: Abort>(
     workers: u32,
     groups: u32,
     seeds: u64,
-) -> Result<Met, Fail>
+) -> Result<(), Fail>
     requires workers { (0 < workers) × (workers ≤ 32) }
     requires groups { (0 < groups) × (groups ≤ 16) }
 {
@@ -237,47 +218,23 @@ fn expect_walks<R: Abort>(
         )?;
         expect_walk(rt, alloc, &s, seed, &mut met)?;
     }
-    Ok(met)
-}
-
-/// Enough was met.
-fn expect_met<R: Abort>(rt: &R, met: Met) {
     assert!(rt; met.faults > 0 && met.damages > 0, "{met:?}");
     assert!(rt; met.evictions > 0 && met.stops > 0, "{met:?}");
     assert!(rt; met.ends > 0 && met.entries > 150, "{met:?}");
-}
-
-#[test]
-fn walks_of_one_worker_over_rows(rt: HostRuntime) -> Result<(), Fail> {
-    let met = expect_walks(&rt, rt.alloc(), 7, 1, 1, 6)?;
-    expect_met(&rt, met);
     Ok(())
 }
 
 #[test]
-fn walks_of_two_workers_over_rows(rt: HostRuntime) -> Result<(), Fail> {
-    let met = expect_walks(&rt, rt.alloc(), 9, 2, 1, 4)?;
-    expect_met(&rt, met);
-    Ok(())
+fn walks_over_rows(rt: HostRuntime) -> Result<(), Fail> {
+    let alloc = rt.alloc();
+    expect_walks(&rt, alloc, 7, 1, 1, 6)?;
+    expect_walks(&rt, alloc, 9, 2, 1, 4)?;
+    expect_walks(&rt, alloc, 12, 3, 1, 3)
 }
 
 #[test]
-fn walks_of_three_workers_over_rows(rt: HostRuntime) -> Result<(), Fail> {
-    let met = expect_walks(&rt, rt.alloc(), 12, 3, 1, 3)?;
-    expect_met(&rt, met);
-    Ok(())
-}
-
-#[test]
-fn walks_of_one_worker_over_columns(rt: HostRuntime) -> Result<(), Fail> {
-    let met = expect_walks(&rt, rt.alloc(), 6, 1, 2, 4)?;
-    expect_met(&rt, met);
-    Ok(())
-}
-
-#[test]
-fn walks_of_two_workers_over_columns(rt: HostRuntime) -> Result<(), Fail> {
-    let met = expect_walks(&rt, rt.alloc(), 9, 2, 2, 3)?;
-    expect_met(&rt, met);
-    Ok(())
+fn walks_over_columns(rt: HostRuntime) -> Result<(), Fail> {
+    let alloc = rt.alloc();
+    expect_walks(&rt, alloc, 6, 1, 2, 4)?;
+    expect_walks(&rt, alloc, 9, 2, 2, 3)
 }

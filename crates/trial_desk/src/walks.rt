@@ -8,12 +8,12 @@ use crate::rig::Rig;
 use crate::said::Said;
 use coop_outside::SpoiltDepot;
 use interest_book::Memory;
-use rand_core::Rng;
 use rand_pcg::Pcg32;
 use relevance::Policy;
 use scan_story::{Entry, Origin, Setting};
 use std::alloc::Global;
 use std::marker::Brand;
+use trial_walks::below;
 
 /// What becomes of a walk.
 #[derive(Drop)]
@@ -24,11 +24,6 @@ pub struct Walked<P> {
     pub said: Vec<Said>,
     pub policy: P,
     pub depot: SpoiltDepot,
-}
-
-fn below(rng: &mut Pcg32, n: u32) -> u32 {
-    let word = rng.next_u32();
-    if n == 0 { 0 } else { word % n }
 }
 
 // Registers the first query of the worker that wasn't yet.

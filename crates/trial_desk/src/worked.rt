@@ -4,11 +4,11 @@ use crate::said::Said;
 use crate::tests::{NO_PIECE, depot};
 use abm_policy::{Cause, Slots, Why};
 use relevance::Relevance;
-use scan_story::{PolicyName, Setting};
+use scan_story::PolicyName;
 use std::alloc::Global;
 use std::process::Abort;
 use std::test::Fail;
-use story_judge::examples::{columns, shorter, trigger_stops};
+use trial_stories::Scene;
 
 // What is to be answered. A slot is a frame and a piece, and there is no other one.
 #[derive(Clone, Copy, Debug)]
@@ -62,129 +62,179 @@ fn is_wanted(said: &Said, wanted: Wanted) -> bool {
     }
 }
 
-// A new desk under relevance answers each call as is wanted.
+// Calls, and what is answered to each.
+type Turns = &'static [(Call, Wanted)];
+
+// A new desk under relevance, of this scene, answers each call as is wanted.
 fn expect_turns<R: Abort>(
     rt: &R,
     alloc: Global,
-    s: &Setting,
+    scene: Scene,
     fail_gets: &[u64],
-    turns: &[(Call, Wanted)],
+    turns: Turns,
 ) -> Result<(), Fail> {
-    let depot = depot(rt, alloc, s, fail_gets, NO_PIECE)?;
+    let s = scene.setting(alloc, PolicyName::Relevance)?;
+    let depot = depot(rt, alloc, &s, fail_gets, NO_PIECE)?;
     let mut calls = Vec::new(alloc);
     for (call, _) in turns {
         calls.push(*call)?;
     }
-    let Some(said) = answers(alloc, s, Relevance, depot, calls.as_slice())? else {
-        panic!(rt; "a call may not come")
+    let Some(said) = answers(alloc, &s, Relevance, depot, calls.as_slice())? else {
+        panic!(rt; "a call may not come: {scene:?}")
     };
     for (one, (call, wanted)) in said.iter().zip(turns) {
-        assert!(rt; is_wanted(one, *wanted), "{call:?}: {one:?}");
+        assert!(rt; is_wanted(one, *wanted), "{scene:?}: {call:?}: {one:?}");
     }
     Ok(())
 }
 
-const FIRST: Call = Call::Register {
-    worker: 0,
-    query: 1,
-};
+const FIRST: (Call, Wanted) = (
+    Call::Register {
+        worker: 0,
+        query: 1,
+    },
+    Wanted::Registered,
+);
 
-const SECOND: Call = Call::Register {
-    worker: 1,
-    query: 2,
-};
+const SECOND: (Call, Wanted) = (
+    Call::Register {
+        worker: 1,
+        query: 2,
+    },
+    Wanted::Registered,
+);
 
 const TURN_0: Call = Call::Turn { worker: 0 };
 
 const TURN_1: Call = Call::Turn { worker: 1 };
 
-#[test]
-fn the_desk_loads_for_the_shorter_query(rt: HostRuntime) -> Result<(), Fail> {
-    let alloc = rt.alloc();
-    let s = shorter(alloc, PolicyName::Relevance)?;
-    let loads = Wanted::Loads {
-        trigger: 2,
-        chunk: 2,
-        slot: (0, 2),
-    };
-    let took = Wanted::Took {
-        chunk: 2,
-        slot: (0, 2),
-    };
-    let turns = [
-        (FIRST, Wanted::Registered),
-        (SECOND, Wanted::Registered),
-        (TURN_0, loads),
-        (TURN_1, Wanted::NotYet),
-        (Call::Close, Wanted::Filled),
-        (TURN_0, took),
-    ];
-    expect_turns(&rt, alloc, &s, &[], &turns)
-}
+const FILLED: (Call, Wanted) = (Call::Close, Wanted::Filled);
 
-#[test]
-fn a_trigger_stops_while_its_worker_holds_a_chunk(rt: HostRuntime) -> Result<(), Fail> {
-    let alloc = rt.alloc();
-    let s = trigger_stops(alloc)?;
-    let loads = |trigger: u32, chunk: u32| Wanted::Loads {
-        trigger,
-        chunk,
-        slot: (chunk, chunk),
-    };
-    let took = Wanted::Took {
-        chunk: 0,
-        slot: (0, 0),
-    };
-    let fault = Why::Fault {
+const FAILED: (Call, Wanted) = (
+    Call::Close,
+    Wanted::Failed(Why::Fault {
         before: 0,
         after: 1,
-    };
-    let read = Cause::Read {
-        before: 0,
-        after: 1,
-    };
-    let turns = [
-        (FIRST, Wanted::Registered),
-        (SECOND, Wanted::Registered),
-        (TURN_0, loads(1, 0)),
-        (Call::Close, Wanted::Filled),
-        (TURN_0, took),
-        (TURN_1, took),
-        (Call::Release { worker: 1 }, Wanted::Released),
-        (TURN_1, loads(1, 1)),
-        (Call::Close, Wanted::Failed(fault)),
-        (Call::Release { worker: 0 }, Wanted::Released),
-        (TURN_0, Wanted::Stopped(read)),
-        (TURN_1, loads(2, 1)),
-    ];
-    expect_turns(&rt, alloc, &s, &[2], &turns)
-}
+    }),
+);
+
+const STOPPED: Wanted = Wanted::Stopped(Cause::Read {
+    before: 0,
+    after: 1,
+});
+
+const TAKES_0: Wanted = Wanted::Took {
+    chunk: 0,
+    slot: (0, 0),
+};
+
+// The scenes of the worked turns, the gets that fail in them, and their turns.
+const WORKED: [(Scene, &[u64], Turns); 3] = [
+    // the desk loads for the shorter query
+    (
+        Scene::Shorter,
+        &[],
+        &[
+            FIRST,
+            SECOND,
+            (
+                TURN_0,
+                Wanted::Loads {
+                    trigger: 2,
+                    chunk: 2,
+                    slot: (0, 2),
+                },
+            ),
+            (TURN_1, Wanted::NotYet),
+            FILLED,
+            (
+                TURN_0,
+                Wanted::Took {
+                    chunk: 2,
+                    slot: (0, 2),
+                },
+            ),
+        ],
+    ),
+    // a trigger stops while its worker holds a chunk
+    (
+        Scene::TriggerStops,
+        &[2],
+        &[
+            FIRST,
+            SECOND,
+            (
+                TURN_0,
+                Wanted::Loads {
+                    trigger: 1,
+                    chunk: 0,
+                    slot: (0, 0),
+                },
+            ),
+            FILLED,
+            (TURN_0, TAKES_0),
+            (TURN_1, TAKES_0),
+            (Call::Release { worker: 1 }, Wanted::Released),
+            (
+                TURN_1,
+                Wanted::Loads {
+                    trigger: 1,
+                    chunk: 1,
+                    slot: (1, 1),
+                },
+            ),
+            FAILED,
+            (Call::Release { worker: 0 }, Wanted::Released),
+            (TURN_0, STOPPED),
+            (
+                TURN_1,
+                Wanted::Loads {
+                    trigger: 2,
+                    chunk: 1,
+                    slot: (1, 1),
+                },
+            ),
+        ],
+    ),
+    // the desk in the column layout
+    (
+        Scene::Columns,
+        &[],
+        &[
+            FIRST,
+            SECOND,
+            (
+                TURN_0,
+                Wanted::Loads {
+                    trigger: 1,
+                    chunk: 1,
+                    slot: (0, 2),
+                },
+            ),
+            FILLED,
+            (
+                TURN_0,
+                Wanted::Took {
+                    chunk: 1,
+                    slot: (0, 2),
+                },
+            ),
+            (
+                TURN_1,
+                Wanted::Loads {
+                    trigger: 2,
+                    chunk: 1,
+                    slot: (1, 3),
+                },
+            ),
+        ],
+    ),
+];
 
 #[test]
-fn the_desk_in_the_column_layout(rt: HostRuntime) -> Result<(), Fail> {
-    let alloc = rt.alloc();
-    let s = columns(alloc)?;
-    let first = Wanted::Loads {
-        trigger: 1,
-        chunk: 1,
-        slot: (0, 2),
-    };
-    let took = Wanted::Took {
-        chunk: 1,
-        slot: (0, 2),
-    };
-    let second = Wanted::Loads {
-        trigger: 2,
-        chunk: 1,
-        slot: (1, 3),
-    };
-    let turns = [
-        (FIRST, Wanted::Registered),
-        (SECOND, Wanted::Registered),
-        (TURN_0, first),
-        (Call::Close, Wanted::Filled),
-        (TURN_0, took),
-        (TURN_1, second),
-    ];
-    expect_turns(&rt, alloc, &s, &[], &turns)
+fn each_call_of_the_worked_turns_is_answered_as_is_wanted(rt: HostRuntime) -> Result<(), Fail> {
+    for (scene, fail_gets, turns) in WORKED {
+        expect_turns(&rt, rt.alloc(), scene, fail_gets, turns)?;
+    }
+    Ok(())
 }

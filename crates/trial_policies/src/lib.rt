@@ -10,6 +10,4 @@ pub use counted::Counted;
 pub use follow::{first_other, takes};
 
 #[cfg(test)]
-mod stories;
-#[cfg(test)]
 mod tests;

@@ -1,156 +1,50 @@
-ghost use Rattle.std.specs.Prelude.{◌≤◌, ◌<◌, IfOk};
+ghost use Rattle.std.specs.Prelude.{IfOk};
 ghost use Rattle.scan_story.specs.Views.{past};
 ghost use Rattle.interest_book.specs.Stands.{Stands};
 ghost use Rattle.story_judge.specs.Small.{IsSmall};
 
 use super::*;
-use crate::stories::*;
 use interest_book::Book;
 use policy_box::{Elevator, choose};
 use policy_plain::{Attach, Normal};
 use relevance::{Policy, Relevance};
-use scan_story::{Entry, Need, PolicyName, Setting, read_story};
-use std::alloc::{AllocError, Global};
-use std::collections::LinkedList;
+use scan_story::{Entry, PolicyName, Setting};
+use std::alloc::Global;
 use std::process::Abort;
 use std::test::Fail;
 use trial_book::played;
+use trial_stories::{
+    Printed, SIX_ATTACH, SIX_ELEVATOR, SIX_NORMAL, SIX_RELEVANCE, Scene, entries_of,
+};
 
-fn need(
-    alloc: Global,
-    query: u32,
-    worker: u32,
-    chunks: &[u32],
-    columns: &[u32],
-) -> Result<Need, AllocError> {
-    let chunks = chunks.iter().copied().collect(alloc)?;
-    let columns = columns.iter().copied().collect(alloc)?;
-    Ok(Need {
-        query,
-        worker,
-        chunks,
-        columns,
-    })
-}
-
-fn first_cursor(alloc: Global, policy: PolicyName) -> Result<LinkedList<u32>, AllocError> {
-    let cursor: &[u32] = match policy {
-        PolicyName::Relevance | PolicyName::Normal => &[],
-        PolicyName::Elevator => &[0],
-        PolicyName::Attach => &[0; 257],
-    };
-    cursor.iter().copied().collect(alloc)
-}
-
-/// A setting of two queries; `numbers` are chunks, workers and frames.
-fn setting(
-    alloc: Global,
-    policy: PolicyName,
-    numbers: [u32; 3],
-    groups: u32,
-    first: Need,
-    second: Need,
-) -> Result<Setting, AllocError>
-    requires some { 0 < groups }
-    requires few { groups ≤ 16 }
-    ensures { IfOk result IsSmall }
-{
-    let mut needs = LinkedList::new(alloc);
-    needs.push_back(first)?;
-    needs.push_back(second)?;
-    let cursor = first_cursor(alloc, policy)?;
-    let [chunks, workers, frames] = numbers;
-    Ok(Setting {
-        needs,
-        chunks,
-        workers,
-        frames,
-        groups,
-        policy,
-        cursor,
-    })
-}
-
-fn six_chunks(alloc: Global, policy: PolicyName) -> Result<Setting, AllocError>
-    ensures { IfOk result IsSmall }
-{
-    let first = need(alloc, 1, 0, &[0, 1, 2, 3, 4, 5], &[])?;
-    let second = need(alloc, 2, 0, &[0, 1, 2, 3, 4, 5], &[])?;
-    setting(alloc, policy, [6, 1, 4], 1, first, second)
-}
-
-/// The story of six chunks that goes on in this way.
-fn story<R: Abort>(rt: &R, alloc: Global, second: &str) -> Result<Vec<Entry>, Fail> {
-    let text = format!(in alloc; "{FIRST}{second}")?;
-    assert!(rt; text.len() < 1073741824);
-    Ok(read_story(alloc, text.as_bytes()).expect(rt, "a story"))
-}
-
-/// Where the policy first picks something else than the story of the named policy takes.
-fn parting<R: Abort, P: Policy>(
-    rt: &R,
-    alloc: Global,
-    policy: P,
-    name: PolicyName,
-    second: &str,
-) -> Result<Option<usize>, Fail> {
+/// Where the policy first picks something else than the printed story takes.
+fn parting<P: Policy>(alloc: Global, policy: P, printed: &Printed) -> Result<Option<usize>, Fail> {
     let mut policy = policy;
-    let s = six_chunks(alloc, name)?;
-    let entries = story(rt, alloc, second)?;
-    Ok(first_other(alloc, &mut policy, &s, entries.as_slice())?)
+    let s = printed.setting(alloc)?;
+    let entries = printed.entries(alloc)?;
+    Ok(first_other(alloc, &mut policy, &s, &entries)?)
 }
 
 #[test]
-fn each_policy_takes_its_own_story(rt: HostRuntime) -> Result<(), Fail> {
+fn each_policy_takes_its_own_story_and_parts_from_another_s(rt: HostRuntime) -> Result<(), Fail> {
     let alloc = rt.alloc();
-    let by = PolicyName::Relevance;
-    assert_eq!(rt; parting(&rt, alloc, Relevance, by, SECOND_RELEVANCE)?, None);
-    let by = PolicyName::Elevator;
-    assert_eq!(rt;
-        parting(&rt, alloc, Elevator::new(), by, SECOND_ELEVATOR)?,
-        None
-    );
-    let by = PolicyName::Normal;
-    assert_eq!(rt;
-        parting(&rt, alloc, Normal::new(), by, SECOND_NORMAL)?,
-        None
-    );
-    let by = PolicyName::Attach;
-    assert_eq!(rt;
-        parting(&rt, alloc, Attach::new(), by, SECOND_ATTACH)?,
-        None
-    );
-    Ok(())
-}
-
-#[test]
-fn and_parts_from_another_s(rt: HostRuntime) -> Result<(), Fail> {
-    let alloc = rt.alloc();
-    // the second query begins where the first one is
-    let by = PolicyName::Attach;
-    assert_eq!(rt;
-        parting(&rt, alloc, Elevator::new(), by, SECOND_ATTACH)?,
-        Some(35)
-    );
-    assert_eq!(rt;
-        parting(&rt, alloc, Normal::new(), by, SECOND_ATTACH)?,
-        Some(35)
-    );
-    let by = PolicyName::Normal;
-    assert_eq!(rt;
-        parting(&rt, alloc, Attach::new(), by, SECOND_NORMAL)?,
-        Some(35)
-    );
-    // the last victim
-    let by = PolicyName::Relevance;
-    assert_eq!(rt;
-        parting(&rt, alloc, Elevator::new(), by, SECOND_RELEVANCE)?,
-        Some(50)
-    );
-    assert_eq!(rt;
-        parting(&rt, alloc, Normal::new(), by, SECOND_RELEVANCE)?,
-        Some(50)
-    );
+    // attach begins the second query elsewhere than the others, and relevance has another last victim
+    for (printed, relevance, elevator, normal, attach) in [
+        (SIX_RELEVANCE, None, Some(50), Some(50), Some(35)),
+        (SIX_ELEVATOR, Some(50), None, None, Some(35)),
+        (SIX_NORMAL, Some(50), None, None, Some(35)),
+        (SIX_ATTACH, Some(35), Some(35), Some(35), None),
+    ] {
+        let by = printed.policy;
+        assert_eq!(rt; parting(alloc, Relevance, &printed)?, relevance, "{by:?}");
+        assert_eq!(rt;
+            parting(alloc, Elevator::new(), &printed)?,
+            elevator,
+            "{by:?}"
+        );
+        assert_eq!(rt; parting(alloc, Normal::new(), &printed)?, normal, "{by:?}");
+        assert_eq!(rt; parting(alloc, Attach::new(), &printed)?, attach, "{by:?}");
+    }
     Ok(())
 }
 
@@ -170,11 +64,11 @@ fn a_box_is_taken_by_its_name(rt: HostRuntime) -> Result<(), Fail> {
     let by = PolicyName::Attach;
     let attach = choose(boxes(alloc)?, by).expect(&rt, "a box");
     assert_eq!(rt; attach.named(), by);
-    assert_eq!(rt; parting(&rt, alloc, attach, by, SECOND_ATTACH)?, None);
+    assert_eq!(rt; parting(alloc, attach, &SIX_ATTACH)?, None);
     // a policy of the caller's own
     let by = PolicyName::Relevance;
     let counted = choose(boxes(alloc)?, by).expect(&rt, "a box");
-    assert_eq!(rt; parting(&rt, alloc, counted, by, SECOND_RELEVANCE)?, None);
+    assert_eq!(rt; parting(alloc, counted, &SIX_RELEVANCE)?, None);
     assert!(rt; choose(boxes(alloc)?, PolicyName::Normal).is_none());
     Ok(())
 }
@@ -199,11 +93,8 @@ fn plan(chunk: u32) -> Entry {
 #[test]
 fn the_elevator_s_cursor(rt: HostRuntime) -> Result<(), Fail> {
     let alloc = rt.alloc();
-    let first = need(alloc, 1, 0, &[0, 1, 2], &[])?;
-    let second = need(alloc, 2, 1, &[2], &[])?;
-    let s = setting(alloc, PolicyName::Elevator, [3, 2, 7], 1, first, second)?;
-    let text = "register 0 1\nregister 1 2\n";
-    let entries = read_story(alloc, text.as_bytes()).expect(&rt, "a story");
+    let s = Scene::Shorter.setting(alloc, PolicyName::Elevator)?;
+    let entries = entries_of(alloc, "register 0 1\nregister 1 2\n")?;
     let entries = entries.as_slice();
     let b = book(&rt, alloc, &s, entries)?;
     let mut elevator = Elevator::new();

@@ -9,6 +9,7 @@ mod moves;
 mod settings;
 mod walks;
 
+pub use moves::below;
 pub use settings::some_setting;
 pub use walks::walk;
 

@@ -24,7 +24,7 @@ pub struct Draw {
 }
 
 /// A number below `n`; 0 where `n` is 0.
-fn below(rng: &mut Pcg32, n: u32) -> u32
+pub fn below(rng: &mut Pcg32, n: u32) -> u32
     ensures { 0 < n → result < n }
 {
     let word = rng.next_u32();

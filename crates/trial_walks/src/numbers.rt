@@ -10,10 +10,10 @@ use std::alloc::Global;
 use std::process::Abort;
 use std::test::Fail;
 use story_judge::{
-    asks_for, available, chooses, close, cursor_at, free_frames, held_by, is_active, is_ended,
-    is_starved, is_stopped, is_undisturbed, is_victim, is_whole, is_wholly_framed, piece_in,
-    underway,
+    asks_for, chooses, close, cursor_at, free_frames, held_by, is_active, is_ended, is_starved,
+    is_stopped, is_undisturbed, is_victim, is_whole, is_wholly_framed, piece_in, underway,
 };
+use trial_stories::paid_by;
 
 /// How often what a law speaks of was met.
 #[derive(Clone, Copy, Debug, PartialEq, Eq)]
@@ -98,22 +98,6 @@ fn expect_queries<R: Abort>(rt: &R, s: &Setting, entries: &[Entry]) {
             }
         }
     }
-}
-
-/// What pays for loads.
-fn paid_by(s: &Setting, entries: &[Entry], deliveries: u64) -> u64
-    requires { IsSmall s.now }
-{
-    let mut sum = deliveries;
-    for n in s.needs.iter() {
-        if is_stopped(entries, n.query) {
-            sum = sum.saturating_add(2);
-        }
-        if is_active(entries, n.query) {
-            sum = sum.saturating_add(available(s, entries, n.query).min(2) as u64);
-        }
-    }
-    sum
 }
 
 /// Where some candidate is close to no query, each victim that the policy may choose is.

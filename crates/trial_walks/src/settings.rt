@@ -7,7 +7,7 @@ use rand_pcg::Pcg32;
 use scan_story::{Need, PolicyName, Setting};
 use std::alloc::{AllocError, Global};
 use std::collections::LinkedList;
-use story_judge::examples::first_cursor;
+use trial_stories::first_cursor;
 
 /// Some of the numbers below `n`, rising: each by the toss of a coin, and the last one always.
 fn some_of(alloc: Global, rng: &mut Pcg32, n: u32) -> Result<LinkedList<u32>, AllocError> {

@@ -7,10 +7,11 @@ use std::process::Abort;
 use std::test::Fail;
 use table_core::Cell;
 
-/// The story, what the scans answered, the rows that they read, and the depot's counts of gets and faults.
+/// The parts of the story, what the scans answered, the rows that they read, and the depot's counts of gets and faults.
 #[derive(Drop)]
 pub struct Expected<'a> {
-    pub story: &'a str,
+    pub name: &'a str,
+    pub story: &'a [&'a str],
     pub saw: &'a [Saw],
     pub cells: &'a [Cell],
     pub gets: u64,
@@ -24,38 +25,33 @@ pub fn expect<R: Abort>(
     out: &Option<Outcome>,
     expected: &Expected<'_>,
 ) -> Result<(), Fail> {
+    let name = expected.name;
     let Some(out) = out else {
-        panic!(rt; "setting and shape don't fit")
+        panic!(rt; "setting and shape don't fit: {name}")
     };
-    let Ok(text) = write_story(alloc, out.story.as_slice()) else {
-        panic!(rt; "no memory")
-    };
+    let mut story = String::new(alloc);
+    for part in expected.story {
+        story.push_str(part)?;
+    }
+    let text = write_story(alloc, &out.story)?;
     assert!(rt;
-        text.as_slice() == expected.story.as_bytes(),
-        "{:?}",
+        text.as_slice() == story.as_bytes(),
+        "{name}: {:?}",
         out.story
     );
-    assert_eq!(rt;
-        out.notes.saw.len(),
-        expected.saw.len(),
-        "{:?}",
+    assert!(rt;
+        out.notes.saw.as_slice() == expected.saw,
+        "{name}: {:?}",
         out.notes.saw
     );
-    for (saw, other) in out.notes.saw.iter().zip(expected.saw.iter()) {
-        assert_eq!(rt; *saw, *other);
-    }
-    assert_eq!(rt;
-        out.notes.cells.len(),
-        expected.cells.len(),
-        "{:?}",
+    assert!(rt;
+        out.notes.cells.as_slice() == expected.cells,
+        "{name}: {:?}",
         out.notes.cells
     );
-    for (cell, other) in out.notes.cells.iter().zip(expected.cells.iter()) {
-        assert_eq!(rt; *cell, *other);
-    }
-    assert!(rt; !out.notes.differs && !out.notes.lost);
-    assert_eq!(rt; out.gets, expected.gets);
-    assert_eq!(rt; out.faults, expected.faults);
+    assert!(rt; !out.notes.differs && !out.notes.lost, "{name}");
+    assert_eq!(rt; out.gets, expected.gets, "{name}");
+    assert_eq!(rt; out.faults, expected.faults, "{name}");
     Ok(())
 }
 

@@ -1,7 +1,8 @@
 // One scan, with one berth and one pass.
+ghost use Rattle.std.specs.Prelude.{◌<◌, ◌≤◌};
+
 use crate::alone;
 use crate::notes::Saw;
-use crate::outcome::Outcome;
 use crate::tables::{COLUMNS, NO_PIECE, ROWS, SIX, column_shape, depot, row_shape, six_shape};
 use crate::tests::expected::{Expected, expect, took};
 use piece_format::Shape;
@@ -11,96 +12,108 @@ use std::alloc::Global;
 use std::process::Abort;
 use std::sync::Wait;
 use std::test::Fail;
-use story_judge::examples::{need, setting};
-use story_judge::stories::{ONE_COUNT, SIX_RELEVANCE};
 use table_core::Cell::{self, Code, Int, Null};
-
-const RELEASED: Saw = Saw::Released { worker: 0 };
+use trial_stories::stories::{FIRST_OF_SIX, ONE_COUNT};
+use trial_stories::{need, setting};
 
 const DONE: Saw = Saw::Done { worker: 0 };
 
-const FIRST_TWO: [Cell; 6] = [Int(1), Code(0), Int(10), Int(2), Code(1), Int(20)];
+const BY_FAULT: Saw = Saw::Stopped {
+    worker: 0,
+    cause: Cause::Read {
+        before: 0,
+        after: 1,
+    },
+};
 
-// One trial: the chunks and columns of the need, the gets that fail, the word that is given wrong, and how many steps.
-#[derive(Drop)]
-struct Asked<'a> {
-    chunks: &'a [u32],
-    columns: &'a [u32],
-    fail_gets: &'a [u64],
+const GAVE_UP: Saw = Saw::GaveUp {
+    worker: 0,
+    cause: Cause::Memory,
+};
+
+// What the scan of a query takes, and what becomes of it.
+#[derive(Clone, Copy)]
+struct Case {
+    name: &'static str,
+    // The chunks and columns of the need.
+    chunks: &'static [u32],
+    columns: &'static [u32],
+    // The gets that fail, and the word that is given wrong.
+    fail_gets: &'static [u64],
     spoilt: (u32, u32),
     steps: u32,
+    // The parts of its story.
+    story: &'static [&'static str],
+    // The chunks that it takes, each with its rows and then released, and its last answer.
+    taken: &'static [(u32, u32)],
+    last: Saw,
+    cells: &'static [Cell],
+    gets: u64,
+    faults: u64,
 }
 
-// A trial over these pieces, with the least frames that are enough.
-fn trial<R: Abort + Wait>(
+// A trial over these pieces, with the least frames that are enough for so many groups.
+fn expect_case<R: Abort + Wait>(
     rt: &R,
     alloc: Global,
     pieces: &[&[u64]],
     shape: &Shape,
-    sizes: (u32, u32),
-    asked: &Asked<'_>,
-) -> Result<Option<Outcome>, Fail> {
-    let (chunks, groups) = sizes;
-    let frames = groups.saturating_mul(4);
-    let first = need(alloc, 1, 0, asked.chunks, asked.columns)?;
-    assert!(rt; groups > 0 && groups <= 16);
-    let s = setting(
-        alloc,
-        PolicyName::Relevance,
-        [chunks, 1, frames],
-        groups,
-        first,
-        None,
-    )?;
-    let depot = depot(rt, alloc, pieces, asked.fail_gets, asked.spoilt)?;
-    match alone(rt, alloc, &s, shape, Relevance, depot, asked.steps) {
-        Ok(out) => Ok(out),
-        Err(_memory) => panic!(rt; "no memory"),
+    chunks: u32,
+    groups: u32,
+    case: &Case,
+) -> Result<(), Fail>
+    requires some { 0 < groups }
+    requires few { groups ≤ 16 }
+{
+    let first = need(alloc, 1, 0, case.chunks, case.columns)?;
+    let numbers = [chunks, 1, 4 * groups];
+    let s = setting(alloc, PolicyName::Relevance, numbers, groups, first, None)?;
+    let depot = depot(rt, alloc, pieces, case.fail_gets, case.spoilt)?;
+    let Ok(out) = alone(rt, alloc, &s, shape, Relevance, depot, case.steps) else {
+        panic!(rt; "no memory: {}", case.name)
+    };
+    let mut saw = Vec::new(alloc);
+    for (chunk, rows) in case.taken {
+        saw.push(took(0, *chunk, *rows))?;
+        saw.push(Saw::Released { worker: 0 })?;
     }
+    saw.push(case.last)?;
+    let expected = Expected {
+        name: case.name,
+        story: case.story,
+        saw: &saw,
+        cells: case.cells,
+        gets: case.gets,
+        faults: case.faults,
+    };
+    expect(rt, alloc, &out, &expected)
 }
 
-fn expect_rows<R: Abort + Wait>(
-    rt: &R,
-    alloc: Global,
-    asked: &Asked<'_>,
-    expected: &Expected<'_>,
-) -> Result<(), Fail> {
-    let shape = row_shape(alloc)?;
-    let out = trial(rt, alloc, &ROWS, &shape, (3, 1), asked)?;
-    expect(rt, alloc, &out, expected)
-}
+const TO_CHUNK_1: &str = "register 0 1
+plan 0 1 0
+fill 0 0 0
+filled 0 0 0
+deliver 0 1 0
+release 0 1 0
+";
 
-fn expect_columns<R: Abort + Wait>(
-    rt: &R,
-    alloc: Global,
-    asked: &Asked<'_>,
-    expected: &Expected<'_>,
-) -> Result<(), Fail> {
-    let shape = column_shape(alloc)?;
-    let out = trial(rt, alloc, &COLUMNS, &shape, (3, 2), asked)?;
-    expect(rt, alloc, &out, expected)
-}
+const CHUNK_1_FAILS: &str = "plan 0 1 1
+fill 0 1 1
+failed 0 1 1 ";
 
-#[test]
-fn each_chunk_is_taken_once_and_then_it_ends(rt: HostRuntime) -> Result<(), Fail> {
-    let asked = Asked {
+const FIRST_TWO: [Cell; 6] = [Int(1), Code(0), Int(10), Int(2), Code(1), Int(20)];
+
+const OF_ROWS: [Case; 7] = [
+    Case {
+        name: "each chunk is taken once and then it ends",
         chunks: &[0, 1, 2],
         columns: &[0, 1, 2],
         fail_gets: &[],
         spoilt: (NO_PIECE, 0),
         steps: 9,
-    };
-    let expected = Expected {
-        story: ONE_COUNT,
-        saw: &[
-            took(0, 0, 2),
-            RELEASED,
-            took(0, 1, 2),
-            RELEASED,
-            took(0, 2, 1),
-            RELEASED,
-            DONE,
-        ],
+        story: &[ONE_COUNT],
+        taken: &[(0, 2), (1, 2), (2, 1)],
+        last: DONE,
         cells: &[
             Int(1),
             Code(0),
@@ -120,193 +133,123 @@ fn each_chunk_is_taken_once_and_then_it_ends(rt: HostRuntime) -> Result<(), Fail
         ],
         gets: 3,
         faults: 0,
-    };
-    expect_rows(&rt, rt.alloc(), &asked, &expected)
-}
-
-#[test]
-fn other_columns_and_other_chunks_are_not_read(rt: HostRuntime) -> Result<(), Fail> {
-    let asked = Asked {
+    },
+    Case {
+        name: "other columns and other chunks are not read",
         chunks: &[1],
         columns: &[0, 2],
         fail_gets: &[],
         spoilt: (NO_PIECE, 0),
         steps: 3,
-    };
-    let expected = Expected {
-        story: "register 0 1\nplan 0 1 1\nfill 0 0 1\nfilled 0 0 1\ndeliver 0 1 1\nrelease 0 1 1\nend 0 1\n",
-        saw: &[took(0, 1, 2), RELEASED, DONE],
+        story: &[
+            "register 0 1\nplan 0 1 1\nfill 0 0 1\nfilled 0 0 1\ndeliver 0 1 1\nrelease 0 1 1\nend 0 1\n",
+        ],
+        taken: &[(1, 2)],
+        last: DONE,
         cells: &[Int(3), Null, Null, Int(4), Null, Int(40)],
         gets: 1,
         faults: 0,
-    };
-    expect_rows(&rt, rt.alloc(), &asked, &expected)
-}
-
-#[test]
-fn a_query_that_needs_no_chunk_is_done(rt: HostRuntime) -> Result<(), Fail> {
-    let asked = Asked {
+    },
+    Case {
+        name: "a query that needs no chunk is done",
         chunks: &[],
         columns: &[1],
         fail_gets: &[],
         spoilt: (NO_PIECE, 0),
         steps: 1,
-    };
-    let expected = Expected {
-        story: "register 0 1\nend 0 1\n",
-        saw: &[DONE],
+        story: &["register 0 1\nend 0 1\n"],
+        taken: &[],
+        last: DONE,
         cells: &[],
         gets: 0,
         faults: 0,
-    };
-    expect_rows(&rt, rt.alloc(), &asked, &expected)
-}
-
-// The story of a scan that takes chunk 0 and then loads chunk 1.
-const SECOND_LOAD: &str = "register 0 1
-plan 0 1 0
-fill 0 0 0
-filled 0 0 0
-deliver 0 1 0
-release 0 1 0
-plan 0 1 1
-fill 0 1 1
-failed 0 1 1 ";
-
-#[test]
-fn a_get_that_fails_stops_it(rt: HostRuntime) -> Result<(), Fail> {
-    let asked = Asked {
+    },
+    Case {
+        name: "a get that fails stops it",
         chunks: &[0, 1, 2],
         columns: &[0, 1, 2],
         fail_gets: &[2],
         spoilt: (NO_PIECE, 0),
         steps: 9,
-    };
-    let cause = Cause::Read {
-        before: 0,
-        after: 1,
-    };
-    let alloc = rt.alloc();
-    let story = format!(in alloc; "{SECOND_LOAD}fault 0 1\n")?;
-    let expected = Expected {
-        story: story.as_str(),
-        saw: &[took(0, 0, 2), RELEASED, Saw::Stopped { worker: 0, cause }],
+        story: &[TO_CHUNK_1, CHUNK_1_FAILS, "fault 0 1\n"],
+        taken: &[(0, 2)],
+        last: BY_FAULT,
         cells: &FIRST_TWO,
         gets: 2,
         faults: 1,
-    };
-    expect_rows(&rt, alloc, &asked, &expected)
-}
-
-#[test]
-fn a_damaged_piece_stops_it(rt: HostRuntime) -> Result<(), Fail> {
-    let asked = Asked {
+    },
+    Case {
+        name: "a damaged piece stops it",
         chunks: &[0, 1, 2],
         columns: &[0, 1, 2],
         fail_gets: &[],
         spoilt: (1, 4),
         steps: 9,
-    };
-    let cause = Cause::Damage { piece: 1, word: 4 };
-    let alloc = rt.alloc();
-    let story = format!(in alloc; "{SECOND_LOAD}damage 4\n")?;
-    let expected = Expected {
-        story: story.as_str(),
-        saw: &[took(0, 0, 2), RELEASED, Saw::Stopped { worker: 0, cause }],
+        story: &[TO_CHUNK_1, CHUNK_1_FAILS, "damage 4\n"],
+        taken: &[(0, 2)],
+        last: Saw::Stopped {
+            worker: 0,
+            cause: Cause::Damage { piece: 1, word: 4 },
+        },
         cells: &FIRST_TWO,
         gets: 2,
         faults: 0,
-    };
-    expect_rows(&rt, alloc, &asked, &expected)
-}
-
-// The story of a scan that is stopped after its first chunk.
-const GIVEN_UP: &str = "register 0 1
-plan 0 1 0
-fill 0 0 0
-filled 0 0 0
-deliver 0 1 0
-release 0 1 0
-stop 0 1
-";
-
-#[test]
-fn it_is_stopped_between_two_chunks_or_with_a_chunk_out(rt: HostRuntime) -> Result<(), Fail> {
-    let gave_up = Saw::GaveUp {
-        worker: 0,
-        cause: Cause::Memory,
-    };
-    let cases: [(u32, &[Cell]); 2] = [(1, &[]), (2, &FIRST_TWO)];
-    for (steps, cells) in cases {
-        let asked = Asked {
-            chunks: &[0, 1, 2],
-            columns: &[0, 1, 2],
-            fail_gets: &[],
-            spoilt: (NO_PIECE, 0),
-            steps,
-        };
-        let expected = Expected {
-            story: GIVEN_UP,
-            saw: &[took(0, 0, 2), RELEASED, gave_up],
-            cells,
-            gets: 1,
-            faults: 0,
-        };
-        expect_rows(&rt, rt.alloc(), &asked, &expected)?;
-    }
-    Ok(())
-}
-
-#[test]
-fn frames_are_filled_again(rt: HostRuntime) -> Result<(), Fail> {
-    let alloc = rt.alloc();
-    let shape = six_shape(alloc)?;
-    let asked = Asked {
-        chunks: &[0, 1, 2, 3, 4, 5],
-        columns: &[0],
+    },
+    Case {
+        name: "it is stopped with a chunk out",
+        chunks: &[0, 1, 2],
+        columns: &[0, 1, 2],
         fail_gets: &[],
         spoilt: (NO_PIECE, 0),
-        steps: 13,
-    };
-    let Some((story, _second)) = SIX_RELEVANCE.split_once("register 0 2\n") else {
-        panic!(rt; "the second query")
-    };
-    let expected = Expected {
-        story,
-        saw: &[
-            took(0, 0, 1),
-            RELEASED,
-            took(0, 1, 1),
-            RELEASED,
-            took(0, 2, 1),
-            RELEASED,
-            took(0, 3, 1),
-            RELEASED,
-            took(0, 4, 1),
-            RELEASED,
-            took(0, 5, 1),
-            RELEASED,
-            DONE,
-        ],
-        cells: &[Int(70), Int(71), Int(72), Int(73), Int(74), Int(75)],
-        gets: 6,
+        steps: 1,
+        story: &[TO_CHUNK_1, "stop 0 1\n"],
+        taken: &[(0, 2)],
+        last: GAVE_UP,
+        cells: &[],
+        gets: 1,
         faults: 0,
-    };
-    let out = trial(&rt, alloc, &SIX, &shape, (6, 1), &asked)?;
-    expect(&rt, alloc, &out, &expected)
-}
+    },
+    Case {
+        name: "it is stopped between two chunks",
+        chunks: &[0, 1, 2],
+        columns: &[0, 1, 2],
+        fail_gets: &[],
+        spoilt: (NO_PIECE, 0),
+        steps: 2,
+        story: &[TO_CHUNK_1, "stop 0 1\n"],
+        taken: &[(0, 2)],
+        last: GAVE_UP,
+        cells: &FIRST_TWO,
+        gets: 1,
+        faults: 0,
+    },
+];
 
-#[test]
-fn a_scan_reads_one_column(rt: HostRuntime) -> Result<(), Fail> {
-    let asked = Asked {
+const OF_SIX: Case = Case {
+    name: "frames are filled again",
+    chunks: &[0, 1, 2, 3, 4, 5],
+    columns: &[0],
+    fail_gets: &[],
+    spoilt: (NO_PIECE, 0),
+    steps: 13,
+    story: &[FIRST_OF_SIX],
+    taken: &[(0, 1), (1, 1), (2, 1), (3, 1), (4, 1), (5, 1)],
+    last: DONE,
+    cells: &[Int(70), Int(71), Int(72), Int(73), Int(74), Int(75)],
+    gets: 6,
+    faults: 0,
+};
+
+const OF_COLUMNS: [Case; 2] = [
+    Case {
+        name: "a scan reads one column",
         chunks: &[0, 1, 2],
         columns: &[1],
         fail_gets: &[],
         spoilt: (NO_PIECE, 0),
         steps: 7,
-    };
-    let expected = Expected {
-        story: "register 0 1
+        story: &[
+            "register 0 1
 plan 0 1 0
 fill 0 0 1
 filled 0 0 1
@@ -324,15 +267,9 @@ deliver 0 1 2
 release 0 1 2
 end 0 1
 ",
-        saw: &[
-            took(0, 0, 2),
-            RELEASED,
-            took(0, 1, 2),
-            RELEASED,
-            took(0, 2, 1),
-            RELEASED,
-            DONE,
         ],
+        taken: &[(0, 2), (1, 2), (2, 1)],
+        last: DONE,
         cells: &[
             Null,
             Int(10),
@@ -347,35 +284,43 @@ end 0 1
         ],
         gets: 3,
         faults: 0,
-    };
-    expect_columns(&rt, rt.alloc(), &asked, &expected)
-}
-
-#[test]
-fn the_second_piece_of_a_chunk_fails(rt: HostRuntime) -> Result<(), Fail> {
-    let asked = Asked {
+    },
+    Case {
+        name: "the second piece of a chunk fails",
         chunks: &[2],
         columns: &[0, 1],
         fail_gets: &[2],
         spoilt: (NO_PIECE, 0),
         steps: 7,
-    };
-    let cause = Cause::Read {
-        before: 0,
-        after: 1,
-    };
-    let expected = Expected {
-        story: "register 0 1
+        story: &[
+            "register 0 1
 plan 0 1 2
 fill 0 0 4
 fill 0 1 5
 filled 0 0 4
 failed 0 1 5 fault 0 1
 ",
-        saw: &[Saw::Stopped { worker: 0, cause }],
+        ],
+        taken: &[],
+        last: BY_FAULT,
         cells: &[],
         gets: 2,
         faults: 1,
-    };
-    expect_columns(&rt, rt.alloc(), &asked, &expected)
+    },
+];
+
+#[test]
+fn one_scan_takes_its_chunks_until_it_ends_or_is_stopped(rt: HostRuntime) -> Result<(), Fail> {
+    let alloc = rt.alloc();
+    let shape = row_shape(alloc)?;
+    for case in OF_ROWS {
+        expect_case(&rt, alloc, &ROWS, &shape, 3, 1, &case)?;
+    }
+    let shape = six_shape(alloc)?;
+    expect_case(&rt, alloc, &SIX, &shape, 6, 1, &OF_SIX)?;
+    let shape = column_shape(alloc)?;
+    for case in OF_COLUMNS {
+        expect_case(&rt, alloc, &COLUMNS, &shape, 3, 2, &case)?;
+    }
+    Ok(())
 }

@@ -5,18 +5,19 @@ use crate::tests::expected::{Expected, expect};
 use relevance::Relevance;
 use scan_story::PolicyName;
 use std::test::Fail;
-use story_judge::examples::shorter;
+use trial_stories::Scene;
 
 #[test]
 fn two_passes_hand_a_desk_on(rt: HostRuntime) -> Result<(), Fail> {
     let alloc = rt.alloc();
-    let s = shorter(alloc, PolicyName::Relevance)?;
+    let s = Scene::Shorter.setting(alloc, PolicyName::Relevance)?;
     let depot = depot(&rt, alloc, &ROWS, &[], (NO_PIECE, 0))?;
     let Ok(out) = hand_on(&rt, alloc, &s, Relevance, depot) else {
         panic!(rt; "no memory")
     };
     let expected = Expected {
-        story: "register 1 2\nregister 0 1\n",
+        name: "two passes hand a desk on",
+        story: &["register 1 2\nregister 0 1\n"],
         saw: &[],
         cells: &[],
         gets: 0,

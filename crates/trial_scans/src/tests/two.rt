@@ -1,119 +1,98 @@
 // Two scans by turns, on one thread. No load is underway when a call of a scan returns, so no turn of another one waits.
+ghost use Rattle.std.specs.Prelude.{◌<◌, ◌≤◌};
+
 use crate::by_turns;
 use crate::notes::Saw;
 use crate::tables::{COLUMNS, NO_PIECE, ROWS, column_shape, depot, row_shape};
 use crate::tests::expected::{Expected, expect, took};
+use crate::tests::two::Did::{Done, GaveUp, Released, Stopped, Took};
+use piece_format::Shape;
 use relevance::Relevance;
 use scan_story::{Cause, PolicyName};
 use std::alloc::Global;
 use std::process::Abort;
 use std::sync::Wait;
 use std::test::Fail;
-use story_judge::examples::{columns, need, setting};
-use story_judge::stories::COLUMNS as BEGUN;
-use table_core::Cell::{Code, Int, Null};
+use table_core::Cell::{self, Code, Int, Null};
+use trial_stories::stories::COLUMNS as BEGUN;
+use trial_stories::{need, setting};
 
-const RELEASED: [Saw; 2] = [Saw::Released { worker: 0 }, Saw::Released { worker: 1 }];
+// What a worker's scan is seen to do: a chunk that it took with its rows, and so on.
+#[derive(Clone, Copy)]
+enum Did {
+    Took(u32, u32),
+    Released,
+    Done,
+    Stopped(Cause),
+    GaveUp(Cause),
+}
 
-const DONE: [Saw; 2] = [Saw::Done { worker: 0 }, Saw::Done { worker: 1 }];
+fn saw(worker: u32, did: Did) -> Saw {
+    match did {
+        Took(chunk, rows) => took(worker, chunk, rows),
+        Released => Saw::Released { worker },
+        Done => Saw::Done { worker },
+        Stopped(cause) => Saw::Stopped { worker, cause },
+        GaveUp(cause) => Saw::GaveUp { worker, cause },
+    }
+}
 
-// Over the rows, where query 1 needs and reads these chunks and columns, and query 2 those.
-fn expect_rows<R: Abort + Wait>(
+// What two queries need and read, whose turns it is, and what becomes of them.
+#[derive(Clone, Copy)]
+struct Case {
+    name: &'static str,
+    // The chunks and the columns of each need.
+    first: (&'static [u32], &'static [u32]),
+    second: (&'static [u32], &'static [u32]),
+    fail_gets: &'static [u64],
+    turns: &'static [u32],
+    story: &'static [&'static str],
+    saw: &'static [(u32, Did)],
+    cells: &'static [Cell],
+    gets: u64,
+    faults: u64,
+}
+
+// A trial over three chunks of these pieces, with the least frames that are enough for so many groups.
+fn expect_case<R: Abort + Wait>(
     rt: &R,
     alloc: Global,
-    first: (&[u32], &[u32]),
-    second: (&[u32], &[u32]),
-    fail_gets: &[u64],
-    turns: &[u32],
-    expected: &Expected<'_>,
-) -> Result<(), Fail> {
-    let first = need(alloc, 1, 0, first.0, first.1)?;
-    let second = need(alloc, 2, 1, second.0, second.1)?;
+    pieces: &[&[u64]],
+    shape: &Shape,
+    groups: u32,
+    case: &Case,
+) -> Result<(), Fail>
+    requires some { 0 < groups }
+    requires few { groups ≤ 16 }
+{
+    let first = need(alloc, 1, 0, case.first.0, case.first.1)?;
+    let second = need(alloc, 2, 1, case.second.0, case.second.1)?;
+    let numbers = [3, 2, 7 * groups];
     let s = setting(
         alloc,
         PolicyName::Relevance,
-        [3, 2, 7],
-        1,
+        numbers,
+        groups,
         first,
         Some(second),
     )?;
-    let shape = row_shape(alloc)?;
-    let depot = depot(rt, alloc, &ROWS, fail_gets, (NO_PIECE, 0))?;
-    let Ok(out) = by_turns(rt, alloc, &s, &shape, Relevance, depot, turns) else {
-        panic!(rt; "no memory")
+    let depot = depot(rt, alloc, pieces, case.fail_gets, (NO_PIECE, 0))?;
+    let Ok(out) = by_turns(rt, alloc, &s, shape, Relevance, depot, case.turns) else {
+        panic!(rt; "no memory: {}", case.name)
     };
-    expect(rt, alloc, &out, expected)
-}
-
-#[test]
-fn both_hold_one_chunk_in_one_frame(rt: HostRuntime) -> Result<(), Fail> {
+    let mut seen = Vec::new(alloc);
+    for (worker, did) in case.saw {
+        seen.push(saw(*worker, *did))?;
+    }
     let expected = Expected {
-        story: "register 0 1
-register 1 2
-plan 0 2 2
-fill 0 0 2
-filled 0 0 2
-deliver 0 1 2
-deliver 1 2 2
-release 0 1 2
-release 1 2 2
-end 1 2
-plan 0 1 0
-fill 0 1 0
-filled 0 1 0
-deliver 0 1 0
-release 0 1 0
-plan 0 1 1
-fill 0 2 1
-filled 0 2 1
-deliver 0 1 1
-release 0 1 1
-end 0 1
-",
-        saw: &[
-            took(0, 2, 1),
-            took(1, 2, 1),
-            RELEASED[0],
-            RELEASED[1],
-            DONE[1],
-            took(0, 0, 2),
-            RELEASED[0],
-            took(0, 1, 2),
-            RELEASED[0],
-            DONE[0],
-        ],
-        cells: &[
-            Int(5),
-            Code(1),
-            Null,
-            Null,
-            Null,
-            Int(-5),
-            Int(1),
-            Code(0),
-            Null,
-            Int(2),
-            Code(1),
-            Null,
-            Int(3),
-            Code(0),
-            Null,
-            Int(4),
-            Code(2),
-            Null,
-        ],
-        gets: 3,
-        faults: 0,
+        name: case.name,
+        story: case.story,
+        saw: &seen,
+        cells: case.cells,
+        gets: case.gets,
+        faults: case.faults,
     };
-    expect_rows(
-        &rt,
-        rt.alloc(),
-        (&[0, 1, 2], &[0, 1]),
-        (&[2], &[2]),
-        &[],
-        &[0, 1, 0, 1, 1, 0, 0, 0, 0, 0],
-        &expected,
-    )
+    expect(rt, alloc, &out, &expected)
 }
 
 // Worker 1 loads for query 1 while worker 0 holds a chunk for it. The load fails, and worker 1 loads for its own query.
@@ -140,28 +119,93 @@ const BY_FAULT: Cause = Cause::Read {
     after: 1,
 };
 
-#[test]
-fn a_scan_finds_itself_stopped_by_the_load_of_another(rt: HostRuntime) -> Result<(), Fail> {
-    let alloc = rt.alloc();
-    let rest =
-        "release 1 2 1\nplan 1 2 2\nfill 1 2 2\nfilled 1 2 2\ndeliver 1 2 2\nrelease 1 2 2\nend 1 2\n";
-    let story = format!(in alloc; "{TRIGGER}{rest}")?;
-    let expected = Expected {
-        story: story.as_str(),
+const OF_ROWS: [Case; 3] = [
+    Case {
+        name: "both hold one chunk in one frame",
+        first: (&[0, 1, 2], &[0, 1]),
+        second: (&[2], &[2]),
+        fail_gets: &[],
+        turns: &[0, 1, 0, 1, 1, 0, 0, 0, 0, 0],
+        story: &[
+            "register 0 1
+register 1 2
+plan 0 2 2
+fill 0 0 2
+filled 0 0 2
+deliver 0 1 2
+deliver 1 2 2
+release 0 1 2
+release 1 2 2
+end 1 2
+plan 0 1 0
+fill 0 1 0
+filled 0 1 0
+deliver 0 1 0
+release 0 1 0
+plan 0 1 1
+fill 0 2 1
+filled 0 2 1
+deliver 0 1 1
+release 0 1 1
+end 0 1
+",
+        ],
         saw: &[
-            took(0, 0, 2),
-            took(1, 0, 2),
-            RELEASED[1],
-            took(1, 1, 2),
-            RELEASED[0],
-            Saw::Stopped {
-                worker: 0,
-                cause: BY_FAULT,
-            },
-            RELEASED[1],
-            took(1, 2, 1),
-            RELEASED[1],
-            DONE[1],
+            (0, Took(2, 1)),
+            (1, Took(2, 1)),
+            (0, Released),
+            (1, Released),
+            (1, Done),
+            (0, Took(0, 2)),
+            (0, Released),
+            (0, Took(1, 2)),
+            (0, Released),
+            (0, Done),
+        ],
+        cells: &[
+            Int(5),
+            Code(1),
+            Null,
+            Null,
+            Null,
+            Int(-5),
+            Int(1),
+            Code(0),
+            Null,
+            Int(2),
+            Code(1),
+            Null,
+            Int(3),
+            Code(0),
+            Null,
+            Int(4),
+            Code(2),
+            Null,
+        ],
+        gets: 3,
+        faults: 0,
+    },
+    Case {
+        name: "a scan finds itself stopped by the load of another",
+        first: (&[0, 1], &[0]),
+        second: (&[0, 1, 2], &[2]),
+        fail_gets: &[2],
+        turns: &[0, 1, 1, 1, 0, 0, 1, 1, 1, 1],
+        story: &[
+            TRIGGER,
+            "release 1 2 1\nplan 1 2 2\nfill 1 2 2\nfilled 1 2 2\ndeliver 1 2 2\nrelease 1 2 2\nend 1 2\n",
+        ],
+        saw: &[
+            (0, Took(0, 2)),
+            (1, Took(0, 2)),
+            (1, Released),
+            (1, Took(1, 2)),
+            (0, Released),
+            (0, Stopped(BY_FAULT)),
+            (1, Released),
+            (1, Took(2, 1)),
+            (1, Released),
+            (1, Done),
         ],
         cells: &[
             Null,
@@ -188,66 +232,39 @@ fn a_scan_finds_itself_stopped_by_the_load_of_another(rt: HostRuntime) -> Result
         ],
         gets: 4,
         faults: 1,
-    };
-    expect_rows(
-        &rt,
-        alloc,
-        (&[0, 1], &[0]),
-        (&[0, 1, 2], &[2]),
-        &[2],
-        &[0, 1, 1, 1, 0, 0, 1, 1, 1, 1],
-        &expected,
-    )
-}
-
-#[test]
-fn stop_answers_the_earlier_cause(rt: HostRuntime) -> Result<(), Fail> {
-    let alloc = rt.alloc();
-    let story = format!(in alloc; "{TRIGGER}release 1 2 1\nstop 1 2\n")?;
-    let expected = Expected {
-        story: story.as_str(),
+    },
+    Case {
+        name: "stop answers the earlier cause",
+        first: (&[0, 1], &[0]),
+        second: (&[0, 1, 2], &[2]),
+        fail_gets: &[2],
+        turns: &[0, 1, 1, 1],
+        story: &[TRIGGER, "release 1 2 1\nstop 1 2\n"],
         saw: &[
-            took(0, 0, 2),
-            took(1, 0, 2),
-            RELEASED[1],
-            took(1, 1, 2),
-            RELEASED[0],
-            RELEASED[1],
-            Saw::GaveUp {
-                worker: 0,
-                cause: BY_FAULT,
-            },
-            Saw::GaveUp {
-                worker: 1,
-                cause: Cause::Memory,
-            },
+            (0, Took(0, 2)),
+            (1, Took(0, 2)),
+            (1, Released),
+            (1, Took(1, 2)),
+            (0, Released),
+            (1, Released),
+            (0, GaveUp(BY_FAULT)),
+            (1, GaveUp(Cause::Memory)),
         ],
         cells: &[Null, Null, Int(10), Null, Null, Int(20)],
         gets: 3,
         faults: 1,
-    };
-    expect_rows(
-        &rt,
-        alloc,
-        (&[0, 1], &[0]),
-        (&[0, 1, 2], &[2]),
-        &[2],
-        &[0, 1, 1, 1],
-        &expected,
-    )
-}
+    },
+];
 
-#[test]
-fn a_load_takes_only_the_pieces_that_no_frame_has(rt: HostRuntime) -> Result<(), Fail> {
-    let alloc = rt.alloc();
-    let s = columns(alloc)?;
-    let shape = column_shape(alloc)?;
-    let depot = depot(&rt, alloc, &COLUMNS, &[], (NO_PIECE, 0))?;
-    let turns = [0, 1, 0, 1, 0, 0, 0, 1, 1, 1];
-    let Ok(out) = by_turns(&rt, alloc, &s, &shape, Relevance, depot, &turns) else {
-        panic!(rt; "no memory")
-    };
-    let rest = "deliver 1 2 1
+const OF_COLUMNS: Case = Case {
+    name: "a load takes only the pieces that no frame has",
+    first: (&[0, 1], &[0]),
+    second: (&[1, 2], &[0, 1]),
+    fail_gets: &[],
+    turns: &[0, 1, 0, 1, 0, 0, 0, 1, 1, 1],
+    story: &[
+        BEGUN,
+        "deliver 1 2 1
 release 0 1 1
 release 1 2 1
 plan 0 1 0
@@ -264,40 +281,47 @@ filled 1 4 5
 deliver 1 2 2
 release 1 2 2
 end 1 2
-";
-    let story = format!(in alloc; "{BEGUN}{rest}")?;
-    let expected = Expected {
-        story: story.as_str(),
-        saw: &[
-            took(0, 1, 2),
-            took(1, 1, 2),
-            RELEASED[0],
-            RELEASED[1],
-            took(0, 0, 2),
-            RELEASED[0],
-            DONE[0],
-            took(1, 2, 1),
-            RELEASED[1],
-            DONE[1],
-        ],
-        cells: &[
-            Int(3),
-            Null,
-            Int(4),
-            Null,
-            Int(3),
-            Null,
-            Int(4),
-            Int(40),
-            Int(1),
-            Null,
-            Int(2),
-            Null,
-            Int(5),
-            Int(-5),
-        ],
-        gets: 5,
-        faults: 0,
-    };
-    expect(&rt, alloc, &out, &expected)
+",
+    ],
+    saw: &[
+        (0, Took(1, 2)),
+        (1, Took(1, 2)),
+        (0, Released),
+        (1, Released),
+        (0, Took(0, 2)),
+        (0, Released),
+        (0, Done),
+        (1, Took(2, 1)),
+        (1, Released),
+        (1, Done),
+    ],
+    cells: &[
+        Int(3),
+        Null,
+        Int(4),
+        Null,
+        Int(3),
+        Null,
+        Int(4),
+        Int(40),
+        Int(1),
+        Null,
+        Int(2),
+        Null,
+        Int(5),
+        Int(-5),
+    ],
+    gets: 5,
+    faults: 0,
+};
+
+#[test]
+fn two_scans_by_turns(rt: HostRuntime) -> Result<(), Fail> {
+    let alloc = rt.alloc();
+    let shape = row_shape(alloc)?;
+    for case in OF_ROWS {
+        expect_case(&rt, alloc, &ROWS, &shape, 1, &case)?;
+    }
+    let shape = column_shape(alloc)?;
+    expect_case(&rt, alloc, &COLUMNS, &shape, 2, &OF_COLUMNS)
 }

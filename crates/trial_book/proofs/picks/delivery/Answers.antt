@@ -3,7 +3,7 @@ use Rattle.scan_story.specs.Views.{past}
 use Rattle.trial_book.proofs.picks.delivery.Goals as goal
 
 pub pick_delivery-requires : goal.pick_delivery-requires
-pick_delivery-requires c = record {
+pick_delivery-requires g c = record {
   setting = c.args.s.now;
   history = past c.args.entries.now;
   stands = c.requires;

@@ -3,7 +3,7 @@ use Rattle.scan_story.specs.Views.{past}
 use Rattle.trial_book.proofs.picks.load.Goals as goal
 
 pub pick_load-requires : goal.pick_load-requires
-pick_load-requires c = record {
+pick_load-requires g c = record {
   setting = c.args.s.now;
   history = past c.args.entries.now;
   stands = c.requires;

@@ -5,7 +5,7 @@ use Rattle.trial_book.proofs.Listed.{none_begun}
 use Rattle.trial_book.proofs.picks.victim.Goals as goal
 
 pub pick_victim-requires : goal.pick_victim-requires
-pick_victim-requires c = record {
+pick_victim-requires g c = record {
   setting = c.args.s.now;
   history = past c.args.entries.now;
   stands = c.requires.stands;

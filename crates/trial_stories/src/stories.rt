@@ -1,4 +1,4 @@
-//! Stories, for tests: the printed ones, and those of the worked examples.
+//! The texts of the printed stories, and of those of the worked examples.
 
 /// One query over three chunks, alone.
 pub const ONE_COUNT: &str = "register 0 1
@@ -46,8 +46,8 @@ release 0 2 2
 end 0 2
 ";
 
-/// Two queries over six chunks, one after the other, with four frames.
-pub const SIX_RELEVANCE: &str = "register 0 1
+/// Two queries over six chunks, one after the other, with four frames: the first one, which is the same under each policy.
+pub const FIRST_OF_SIX: &str = "register 0 1
 plan 0 1 0
 fill 0 0 0
 filled 0 0 0
@@ -81,7 +81,10 @@ filled 0 1 5
 deliver 0 1 5
 release 0 1 5
 end 0 1
-register 0 2
+";
+
+/// The second one takes what the first one left, chunk 2 first.
+pub const FROM_2: &str = "register 0 2
 deliver 0 2 2
 release 0 2 2
 deliver 0 2 3
@@ -90,14 +93,32 @@ deliver 0 2 4
 release 0 2 4
 deliver 0 2 5
 release 0 2 5
-plan 0 2 0
+";
+
+/// The same, but chunk 5 first.
+pub const FROM_5: &str = "register 0 2
+deliver 0 2 5
+release 0 2 5
+deliver 0 2 2
+release 0 2 2
+deliver 0 2 3
+release 0 2 3
+deliver 0 2 4
+release 0 2 4
+";
+
+/// It loads chunk 0 in place of chunk 2, and plans for chunk 1.
+pub const IN_PLACE_OF_2: &str = "plan 0 2 0
 evict 0 2
 fill 0 2 0
 filled 0 2 0
 deliver 0 2 0
 release 0 2 0
 plan 0 2 1
-evict 0 0
+";
+
+/// It loads chunk 1 in place of chunk 0, and ends.
+pub const IN_PLACE_OF_0: &str = "evict 0 0
 fill 0 2 1
 filled 0 2 1
 deliver 0 2 1
@@ -105,178 +126,10 @@ release 0 2 1
 end 0 2
 ";
 
-/// The same under elevator.
-pub const SIX_ELEVATOR: &str = "register 0 1
-plan 0 1 0
-fill 0 0 0
-filled 0 0 0
-deliver 0 1 0
-release 0 1 0
-plan 0 1 1
-fill 0 1 1
-filled 0 1 1
-deliver 0 1 1
-release 0 1 1
-plan 0 1 2
-fill 0 2 2
-filled 0 2 2
-deliver 0 1 2
-release 0 1 2
-plan 0 1 3
-fill 0 3 3
-filled 0 3 3
-deliver 0 1 3
-release 0 1 3
-plan 0 1 4
-evict 0 0
-fill 0 0 4
-filled 0 0 4
-deliver 0 1 4
-release 0 1 4
-plan 0 1 5
-evict 0 1
-fill 0 1 5
-filled 0 1 5
-deliver 0 1 5
-release 0 1 5
-end 0 1
-register 0 2
-deliver 0 2 2
-release 0 2 2
-deliver 0 2 3
-release 0 2 3
-deliver 0 2 4
-release 0 2 4
-deliver 0 2 5
-release 0 2 5
-plan 0 2 0
-evict 0 2
-fill 0 2 0
-filled 0 2 0
-deliver 0 2 0
-release 0 2 0
-plan 0 2 1
-evict 0 3
+/// It loads chunk 1 in place of chunk 3, and ends.
+pub const IN_PLACE_OF_3: &str = "evict 0 3
 fill 0 3 1
 filled 0 3 1
-deliver 0 2 1
-release 0 2 1
-end 0 2
-";
-
-/// The same under normal.
-pub const SIX_NORMAL: &str = "register 0 1
-plan 0 1 0
-fill 0 0 0
-filled 0 0 0
-deliver 0 1 0
-release 0 1 0
-plan 0 1 1
-fill 0 1 1
-filled 0 1 1
-deliver 0 1 1
-release 0 1 1
-plan 0 1 2
-fill 0 2 2
-filled 0 2 2
-deliver 0 1 2
-release 0 1 2
-plan 0 1 3
-fill 0 3 3
-filled 0 3 3
-deliver 0 1 3
-release 0 1 3
-plan 0 1 4
-evict 0 0
-fill 0 0 4
-filled 0 0 4
-deliver 0 1 4
-release 0 1 4
-plan 0 1 5
-evict 0 1
-fill 0 1 5
-filled 0 1 5
-deliver 0 1 5
-release 0 1 5
-end 0 1
-register 0 2
-deliver 0 2 2
-release 0 2 2
-deliver 0 2 3
-release 0 2 3
-deliver 0 2 4
-release 0 2 4
-deliver 0 2 5
-release 0 2 5
-plan 0 2 0
-evict 0 2
-fill 0 2 0
-filled 0 2 0
-deliver 0 2 0
-release 0 2 0
-plan 0 2 1
-evict 0 3
-fill 0 3 1
-filled 0 3 1
-deliver 0 2 1
-release 0 2 1
-end 0 2
-";
-
-/// The same under attach.
-pub const SIX_ATTACH: &str = "register 0 1
-plan 0 1 0
-fill 0 0 0
-filled 0 0 0
-deliver 0 1 0
-release 0 1 0
-plan 0 1 1
-fill 0 1 1
-filled 0 1 1
-deliver 0 1 1
-release 0 1 1
-plan 0 1 2
-fill 0 2 2
-filled 0 2 2
-deliver 0 1 2
-release 0 1 2
-plan 0 1 3
-fill 0 3 3
-filled 0 3 3
-deliver 0 1 3
-release 0 1 3
-plan 0 1 4
-evict 0 0
-fill 0 0 4
-filled 0 0 4
-deliver 0 1 4
-release 0 1 4
-plan 0 1 5
-evict 0 1
-fill 0 1 5
-filled 0 1 5
-deliver 0 1 5
-release 0 1 5
-end 0 1
-register 0 2
-deliver 0 2 5
-release 0 2 5
-deliver 0 2 2
-release 0 2 2
-deliver 0 2 3
-release 0 2 3
-deliver 0 2 4
-release 0 2 4
-plan 0 2 0
-evict 0 2
-fill 0 2 0
-filled 0 2 0
-deliver 0 2 0
-release 0 2 0
-plan 0 2 1
-evict 0 0
-fill 0 2 1
-filled 0 2 1
 deliver 0 2 1
 release 0 2 1
 end 0 2

@@ -1,18 +1,13 @@
-ghost use Rattle.std.specs.Prelude.{◌<◌, length};
+ghost use Rattle.std.specs.Prelude.{◌<◌, ◌≤◌, length};
 ghost use Rattle.story_judge.specs.Small.{IsSmall};
 
 use super::*;
-use crate::examples::*;
-use crate::stories::*;
-use scan_story::{Entry, PolicyName, Setting, read_story};
+use crate::stories::{COLUMNS, SHORTER, TRIGGER_STOPS};
+use scan_story::{Entry, PolicyName, Setting};
 use std::alloc::{AllocError, Global};
 use std::process::Abort;
 use std::test::Fail;
-
-fn story<R: Abort>(rt: &R, alloc: Global, text: &str) -> Vec<Entry> {
-    assert!(rt; text.len() < 1073741824);
-    read_story(alloc, text.as_bytes()).expect(rt, "a story")
-}
+use story_judge::{first_illegal, is_legal, is_licensed, is_undisturbed, is_whole};
 
 fn is_good(alloc: Global, s: &Setting, entries: &[Entry]) -> Result<bool, AllocError>
     requires { IsSmall s.now }
@@ -23,100 +18,89 @@ fn is_good(alloc: Global, s: &Setting, entries: &[Entry]) -> Result<bool, AllocE
     is_whole(alloc, s, entries)
 }
 
-/// The text is a legal story of the setting, it is whole, held chunks stay, and its faults fit the counts 0 and 1.
-fn expect_good<R: Abort>(rt: &R, alloc: Global, s: &Setting, text: &str) -> Result<(), Fail>
-    requires { IsSmall s.now }
-{
-    let entries = story(rt, alloc, text);
-    let entries = entries.as_slice();
-    assert_eq!(rt; first_illegal(alloc, s, entries)?, None);
-    assert!(rt; is_good(alloc, s, entries)?);
-    assert!(rt; is_undisturbed(s, entries));
-    assert!(rt; is_licensed(true, 0, 1, entries));
+/// The story is legal and whole, held chunks stay, and its faults fit the counts 0 and 1.
+fn expect_good<R: Abort>(rt: &R, alloc: Global, printed: &Printed) -> Result<(), Fail> {
+    let s = printed.setting(alloc)?;
+    let entries = printed.entries(alloc)?;
+    assert_eq!(rt; first_illegal(alloc, &s, &entries)?, None, "{printed:?}");
+    assert!(rt; is_good(alloc, &s, &entries)?, "{printed:?}");
+    assert!(rt; is_undisturbed(&s, &entries), "{printed:?}");
+    assert!(rt; is_licensed(true, 0, 1, &entries), "{printed:?}");
     Ok(())
-}
-
-/// The first entry of the text that may not come where it stands.
-fn illegal_at<R: Abort>(
-    rt: &R,
-    alloc: Global,
-    s: &Setting,
-    text: &str,
-) -> Result<Option<usize>, Fail>
-    requires { IsSmall s.now }
-{
-    let entries = story(rt, alloc, text);
-    Ok(first_illegal(alloc, s, entries.as_slice())?)
 }
 
 #[test]
 fn the_printed_stories_are_legal_and_whole(rt: HostRuntime) -> Result<(), Fail> {
     let alloc = rt.alloc();
-    let s = one_count(alloc)?;
-    expect_good(&rt, alloc, &s, ONE_COUNT)?;
-    let s = two_counts(alloc)?;
-    expect_good(&rt, alloc, &s, FAULT)?;
-    let s = six_chunks(alloc, PolicyName::Relevance)?;
-    expect_good(&rt, alloc, &s, SIX_RELEVANCE)?;
+    for printed in COUNTS {
+        expect_good(&rt, alloc, &printed)?;
+    }
+    // each policy has its story of the six chunks
+    for printed in SIX {
+        expect_good(&rt, alloc, &printed)?;
+    }
+    // the second query takes chunk 5 first under attach, and chunk 2 under the others
+    for (printed, policy) in [
+        (SIX_ATTACH, PolicyName::Elevator),
+        (SIX_NORMAL, PolicyName::Attach),
+    ] {
+        let s = printed.scene.setting(alloc, policy)?;
+        let entries = printed.entries(alloc)?;
+        assert_eq!(rt;
+            first_illegal(alloc, &s, &entries)?,
+            Some(35),
+            "{printed:?}"
+        );
+    }
     Ok(())
 }
 
-#[test]
-fn each_policy_has_its_story_of_the_six_chunks(rt: HostRuntime) -> Result<(), Fail> {
-    let alloc = rt.alloc();
-    let s = six_chunks(alloc, PolicyName::Elevator)?;
-    expect_good(&rt, alloc, &s, SIX_ELEVATOR)?;
-    // the second query takes chunk 5 first under attach, and chunk 2 under the others
-    assert_eq!(rt; illegal_at(&rt, alloc, &s, SIX_ATTACH)?, Some(35));
-    let s = six_chunks(alloc, PolicyName::Normal)?;
-    expect_good(&rt, alloc, &s, SIX_NORMAL)?;
-    let s = six_chunks(alloc, PolicyName::Attach)?;
-    expect_good(&rt, alloc, &s, SIX_ATTACH)?;
-    assert_eq!(rt; illegal_at(&rt, alloc, &s, SIX_NORMAL)?, Some(35));
-    Ok(())
-}
+const PLAN_1_0: &str = "register 0 1\nregister 1 2\nplan 0 1 0\n";
+
+// The worked turns: a scene, its policy, a story, and its first entry that may not come.
+const WORKED: [(Scene, PolicyName, &str, Option<usize>); 8] = [
+    (Scene::Shorter, PolicyName::Relevance, SHORTER, None),
+    // the query that waited longest, in place of the shorter one
+    (Scene::Shorter, PolicyName::Relevance, PLAN_1_0, Some(2)),
+    (Scene::Shorter, PolicyName::Elevator, PLAN_1_0, None),
+    (Scene::Shorter, PolicyName::Elevator, SHORTER, Some(2)),
+    (Scene::Columns, PolicyName::Relevance, COLUMNS, None),
+    // chunk 0 has the lesser ratio
+    (Scene::Columns, PolicyName::Relevance, PLAN_1_0, Some(2)),
+    // the second column of chunk 1 isn't read by query 1
+    (
+        Scene::Columns,
+        PolicyName::Relevance,
+        "register 0 1\nregister 1 2\nplan 0 1 1\nfill 0 0 3\n",
+        Some(3),
+    ),
+    (
+        Scene::TriggerStops,
+        PolicyName::Relevance,
+        TRIGGER_STOPS,
+        None,
+    ),
+];
 
 #[test]
 fn the_worked_turns_are_legal(rt: HostRuntime) -> Result<(), Fail> {
     let alloc = rt.alloc();
-    let s = shorter(alloc, PolicyName::Relevance)?;
-    assert_eq!(rt; illegal_at(&rt, alloc, &s, SHORTER)?, None);
-    // the query that waited longest, in place of the shorter one
-    assert_eq!(rt;
-        illegal_at(&rt, alloc, &s, "register 0 1\nregister 1 2\nplan 0 1 0\n")?,
-        Some(2)
-    );
-    let s = shorter(alloc, PolicyName::Elevator)?;
-    assert_eq!(rt;
-        illegal_at(&rt, alloc, &s, "register 0 1\nregister 1 2\nplan 0 1 0\n")?,
-        None
-    );
-    assert_eq!(rt; illegal_at(&rt, alloc, &s, SHORTER)?, Some(2));
-    let s = columns(alloc)?;
-    assert_eq!(rt; illegal_at(&rt, alloc, &s, COLUMNS)?, None);
-    // chunk 0 has the lesser ratio, and the second column of chunk 1 isn't read by query 1
-    assert_eq!(rt;
-        illegal_at(&rt, alloc, &s, "register 0 1\nregister 1 2\nplan 0 1 0\n")?,
-        Some(2)
-    );
-    assert_eq!(rt;
-        illegal_at(
-            &rt,
-            alloc,
-            &s,
-            "register 0 1\nregister 1 2\nplan 0 1 1\nfill 0 0 3\n"
-        )?,
-        Some(3)
-    );
-    let s = trigger_stops(alloc)?;
-    assert_eq!(rt; illegal_at(&rt, alloc, &s, TRIGGER_STOPS)?, None);
+    for (scene, policy, text, place) in WORKED {
+        let s = scene.setting(alloc, policy)?;
+        let entries = entries_of(alloc, text)?;
+        assert_eq!(rt;
+            first_illegal(alloc, &s, &entries)?,
+            place,
+            "{scene:?}: {text}"
+        );
+    }
     Ok(())
 }
 
 #[test]
 fn the_elevator_goes_on_from_its_cursor(rt: HostRuntime) -> Result<(), Fail> {
     let alloc = rt.alloc();
-    let mut s = shorter(alloc, PolicyName::Elevator)?;
+    let mut s = Scene::Shorter.setting(alloc, PolicyName::Elevator)?;
     s.cursor = [1u32].iter().copied().collect(alloc)?;
     // query 2 is further away, and so are chunks 0 and 2 of query 1
     for (plan, place) in [
@@ -126,7 +110,8 @@ fn the_elevator_goes_on_from_its_cursor(rt: HostRuntime) -> Result<(), Fail> {
         ("plan 1 2 2\n", Some(2)),
     ] {
         let text = format!(in alloc; "register 0 1\nregister 1 2\n{plan}")?;
-        assert_eq!(rt; illegal_at(&rt, alloc, &s, text.as_str())?, place, "{plan}");
+        let entries = entries_of(alloc, &text)?;
+        assert_eq!(rt; first_illegal(alloc, &s, &entries)?, place, "{plan}");
     }
     Ok(())
 }
@@ -134,7 +119,7 @@ fn the_elevator_goes_on_from_its_cursor(rt: HostRuntime) -> Result<(), Fail> {
 #[test]
 fn reasons_of_failed_loads(rt: HostRuntime) -> Result<(), Fail> {
     let alloc = rt.alloc();
-    let s = two_counts(alloc)?;
+    let s = Scene::TwoCounts.setting(alloc, PolicyName::Relevance)?;
     let begin = "register 0 1\nplan 0 1 0\nfill 0 0 0\n";
     // a count that rose; one that didn't; the last count; a damaged piece
     let cases = [
@@ -150,11 +135,14 @@ fn reasons_of_failed_loads(rt: HostRuntime) -> Result<(), Fail> {
     ];
     for (line, place, told, untold) in cases {
         let text = format!(in alloc; "{begin}{line}")?;
-        let entries = story(&rt, alloc, text.as_str());
-        let entries = entries.as_slice();
-        assert_eq!(rt; first_illegal(alloc, &s, entries)?, place, "{line}");
-        assert_eq!(rt; is_licensed(true, 3, 4, entries), told, "{line}");
-        assert_eq!(rt; is_licensed(false, 3, 4, entries), told || untold, "{line}");
+        let entries = entries_of(alloc, &text)?;
+        assert_eq!(rt; first_illegal(alloc, &s, &entries)?, place, "{line}");
+        assert_eq!(rt; is_licensed(true, 3, 4, &entries), told, "{line}");
+        assert_eq!(rt;
+            is_licensed(false, 3, 4, &entries),
+            told || untold,
+            "{line}"
+        );
     }
     Ok(())
 }
@@ -162,18 +150,19 @@ fn reasons_of_failed_loads(rt: HostRuntime) -> Result<(), Fail> {
 #[test]
 fn a_held_chunk_that_goes_is_seen(rt: HostRuntime) -> Result<(), Fail> {
     let alloc = rt.alloc();
-    let s = one_count(alloc)?;
-    let kept = story(
-        &rt,
-        alloc,
-        "filled 0 1 2\ndeliver 0 1 2\nfill 0 0 1\nrelease 0 1 2\nfill 0 1 1\nevict 0 2\n",
-    );
-    assert!(rt; is_undisturbed(&s, kept.as_slice()));
-    let filled = story(&rt, alloc, "filled 0 1 2\ndeliver 0 1 2\nfill 0 1 1\n");
-    assert!(rt; !is_undisturbed(&s, filled.as_slice()));
-    // the first of two deliveries counts until the release
-    let evicted = story(&rt, alloc, "deliver 0 1 2\ndeliver 0 1 0\nevict 0 2\n");
-    assert!(rt; !is_undisturbed(&s, evicted.as_slice()));
+    let s = Scene::OneCount.setting(alloc, PolicyName::Relevance)?;
+    for (text, stays) in [
+        (
+            "filled 0 1 2\ndeliver 0 1 2\nfill 0 0 1\nrelease 0 1 2\nfill 0 1 1\nevict 0 2\n",
+            true,
+        ),
+        ("filled 0 1 2\ndeliver 0 1 2\nfill 0 1 1\n", false),
+        // the first of two deliveries counts until the release
+        ("deliver 0 1 2\ndeliver 0 1 0\nevict 0 2\n", false),
+    ] {
+        let entries = entries_of(alloc, text)?;
+        assert_eq!(rt; is_undisturbed(&s, &entries), stays, "{text}");
+    }
     Ok(())
 }
 
@@ -219,19 +208,17 @@ fn copy_of(alloc: Global, entries: &[Entry]) -> Result<Vec<Entry>, AllocError> {
     entries.iter().copied().collect(alloc)
 }
 
-/// How many exchanges of the entry at place `i` with another one, at most `near` places later, leave the story legal
-/// and whole.
+/// How many exchanges of the entry at place `i` with a later one leave the story legal and whole.
 fn unseen_exchanges(
     alloc: Global,
     s: &Setting,
     entries: &[Entry],
     i: usize,
-    near: usize,
 ) -> Result<usize, AllocError>
     requires { IsSmall s.now }
 {
     let mut unseen: usize = 0;
-    for j in i..entries.len().min(i.saturating_add(near).saturating_add(1)) {
+    for j in i..entries.len() {
         let mut copy = copy_of(alloc, entries)?;
         if i < copy.len() && j < copy.len() && copy[i] != copy[j] {
             copy.swap(i, j);
@@ -277,20 +264,14 @@ fn unseen_at(alloc: Global, s: &Setting, entries: &[Entry], i: usize) -> Result<
     Ok(unseen)
 }
 
-fn unseen<R: Abort>(
-    rt: &R,
-    alloc: Global,
-    s: &Setting,
-    text: &str,
-    near: usize,
-) -> Result<usize, Fail>
+/// How many single changes of the story leave it legal and whole.
+fn unseen(alloc: Global, s: &Setting, entries: &[Entry]) -> Result<usize, AllocError>
     requires { IsSmall s.now }
 {
-    let entries = story(rt, alloc, text);
     let mut sum: usize = 0;
     for i in 0..entries.len() {
-        let here = unseen_at(alloc, s, entries.as_slice(), i)?;
-        let exchanged = unseen_exchanges(alloc, s, entries.as_slice(), i, near)?;
+        let here = unseen_at(alloc, s, entries, i)?;
+        let exchanged = unseen_exchanges(alloc, s, entries, i)?;
         sum = sum.saturating_add(here).saturating_add(exchanged);
     }
     Ok(sum)
@@ -299,15 +280,16 @@ fn unseen<R: Abort>(
 #[test]
 fn each_single_change_of_a_printed_story_is_seen(rt: HostRuntime) -> Result<(), Fail> {
     let alloc = rt.alloc();
-    let s = one_count(alloc)?;
-    assert_eq!(rt; unseen(&rt, alloc, &s, ONE_COUNT, 17)?, 0);
-    let s = two_counts(alloc)?;
+    let [one_count, fault] = COUNTS;
+    for (printed, wanted) in [(one_count, 0), (fault, 2), (SIX_RELEVANCE, 0)] {
+        let s = printed.setting(alloc)?;
+        let entries = printed.entries(alloc)?;
+        assert_eq!(rt; unseen(alloc, &s, &entries)?, wanted, "{printed:?}");
+    }
     // entry 7 begins the load that fails: it may go to each of the three free frames, since Failed names none
-    assert_eq!(rt; unseen(&rt, alloc, &s, FAULT, 23)?, 2);
-    let entries = story(&rt, alloc, FAULT);
+    let s = fault.setting(alloc)?;
+    let entries = fault.entries(alloc)?;
     assert!(rt; entries.len() == 23);
-    assert_eq!(rt; unseen_at(alloc, &s, entries.as_slice(), 7)?, 2);
-    let s = six_chunks(alloc, PolicyName::Relevance)?;
-    assert_eq!(rt; unseen(&rt, alloc, &s, SIX_RELEVANCE, 56)?, 0);
+    assert_eq!(rt; unseen_at(alloc, &s, &entries, 7)?, 2);
     Ok(())
 }
