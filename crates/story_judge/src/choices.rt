@@ -1,4 +1,4 @@
-ghost use Rattle.std.specs.Prelude.{◌≡◌, ◌+◌, ◌*◌, ◌<◌, ◌≤◌, ◌&&◌, ℕ, not, nat_le, nat_lt, get_or, length};
+ghost use Rattle.std.specs.Prelude.{◌≡◌, ◌+◌, ◌*◌, ◌<◌, ◌≤◌, ◌&&◌, ℕ, not, nat_le, nat_lt, length};
 ghost use Rattle.std.specs.List.{list_any};
 ghost use Rattle.scan_story.specs.Counting.{any_below};
 ghost use Rattle.scan_story.specs.Views.{past};
@@ -6,15 +6,14 @@ ghost use Rattle.scan_story.specs.Loads.{underway};
 ghost use Rattle.scan_story.specs.Numbers.{waiting, running, needed, interested, close, cached, missing_for, overlap, starved_overlap};
 ghost use Rattle.scan_story.specs.MayFollow.{is_target, is_ready, is_trigger, is_victim};
 ghost use Rattle.scan_story.specs.Policies.{dist_from, dist, reach, place_in, start_of, is_least_close};
-ghost use Rattle.story_judge.specs.Small.{IsSmall};
+ghost use Rattle.story_views.specs.Small.{IsSmall};
 ghost use Rattle.story_judge.specs.Tests.{query_at_most, load_at_most, delivery_at_most, victim_at_most, is_victim_of, is_best_query, is_best_load, is_best_delivery, is_best_victim, chooses};
 
-use crate::candidates::{is_ready, is_target, is_trigger, is_victim};
-use crate::loads;
-use crate::numbers::{
-    cached, close, interested, needed, overlap, running, starved_overlap, waiting,
-};
 use scan_story::{Entry, Load, PolicyName, Setting};
+use story_views::{
+    at, cached, close, interested, is_ready, is_target, is_trigger, is_victim, missing_for, needed,
+    overlap, running, starved_overlap, waiting,
+};
 
 /// A product, with room for one more number beside it.
 fn times(a: u64, b: u64) -> u128
@@ -37,7 +36,7 @@ fn load_ratio(s: &Setting, entries: &[Entry], q: u32, c: u32) -> (u64, u64)
     ensures den { result.1 ≡ missing_for s.now (past entries.now) q c }
 {
     let num = 1024 * starved_overlap(s, entries, q, c) as u64 + overlap(s, entries, q, c) as u64;
-    (num, loads::missing_for(s, entries, q, c) as u64)
+    (num, missing_for(s, entries, q, c) as u64)
 }
 
 fn use_ratio(s: &Setting, entries: &[Entry], q: u32, c: u32) -> (u64, u64)
@@ -60,17 +59,6 @@ fn keep_ratio(s: &Setting, entries: &[Entry], c: u32) -> (u64, u64)
     (num, cached(s, entries, c) as u64)
 }
 
-/// The number at the place of the cursor, or 0 past its end.
-pub fn at(cursor: &[u64], i: u32) -> u64
-    ensures { result ≡ get_or cursor.now i 0 }
-{
-    if (i as usize) < cursor.len() {
-        cursor[i as usize]
-    } else {
-        0
-    }
-}
-
 fn dist_from(s: &Setting, start: u64, c: u32) -> u64
     requires { 0 < s.now.chunks }
     ensures { result ≡ dist_from s.now start c }
@@ -86,7 +74,7 @@ fn dist(s: &Setting, cursor: &[u64], c: u32) -> u64
     dist_from(s, at(cursor, 0), c)
 }
 
-#[tactic(auto, using(crate::proofs::Below::least_below_more))]
+#[tactic(auto, using(story_views::proofs::Below::least_below_more))]
 fn reach(s: &Setting, entries: &[Entry], cursor: &[u64], q: u32) -> u64
     requires { IsSmall s.now }
     ensures { result ≡ reach s.now (past entries.now) cursor.now q }
@@ -204,7 +192,7 @@ fn is_closer(s: &Setting, entries: &[Entry], load: &Option<Load>, y: u32, c: u32
     is_victim(s, entries, load, y) && close(s, entries, y) < close(s, entries, c)
 }
 
-#[tactic(auto, using(crate::proofs::Below::any_below_more))]
+#[tactic(auto, using(story_views::proofs::Below::any_below_more))]
 fn has_closer(s: &Setting, entries: &[Entry], load: &Option<Load>, c: u32) -> bool
     requires small { IsSmall s.now }
     requires load { load.now ≡ underway s.now (past entries.now) }
@@ -295,7 +283,7 @@ fn beats_load(s: &Setting, entries: &[Entry], cursor: &[u64], q: u32, y: u32, c:
     is_target(s, entries, q, y) && !load_at_most(s, entries, cursor, q, y, c)
 }
 
-#[tactic(auto, using(crate::proofs::Below::any_below_more))]
+#[tactic(auto, using(story_views::proofs::Below::any_below_more))]
 fn has_better_load(s: &Setting, entries: &[Entry], cursor: &[u64], q: u32, c: u32) -> bool
     requires { IsSmall s.now }
     ensures { result ≡ any_below (λ y. is_target s.now (past entries.now) q y && not
@@ -324,7 +312,7 @@ fn beats_delivery(s: &Setting, entries: &[Entry], cursor: &[u64], q: u32, y: u32
     is_ready(s, entries, q, y) && !delivery_at_most(s, entries, cursor, q, y, c)
 }
 
-#[tactic(auto, using(crate::proofs::Below::any_below_more))]
+#[tactic(auto, using(story_views::proofs::Below::any_below_more))]
 fn has_better_delivery(s: &Setting, entries: &[Entry], cursor: &[u64], q: u32, c: u32) -> bool
     requires { IsSmall s.now }
     ensures { result ≡ any_below (λ y. is_ready s.now (past entries.now) q y && not
@@ -361,7 +349,7 @@ fn beats_victim(
     is_victim_of(s, entries, load, y) && !victim_at_most(s, entries, cursor, y, c)
 }
 
-#[tactic(auto, using(crate::proofs::Below::any_below_more))]
+#[tactic(auto, using(story_views::proofs::Below::any_below_more))]
 fn has_better_victim(
     s: &Setting,
     entries: &[Entry],

@@ -3,16 +3,15 @@ ghost use Rattle.scan_story.specs.Views.{past};
 ghost use Rattle.scan_story.specs.Loads.{underway};
 ghost use Rattle.scan_story.specs.MayFollow.{Allowed};
 ghost use Rattle.scan_story.specs.Legal.{cursor_at, Chosen, Legal};
-ghost use Rattle.story_judge.specs.Small.{IsSmall};
+ghost use Rattle.story_views.specs.Small.{IsSmall};
 ghost use Rattle.story_judge.specs.Tests.{follows, is_legal};
 ghost use Rattle.story_judge.specs.First.{IsFirstIllegal};
 
 use crate::choices::chooses;
-use crate::cursors::cursor_at;
-use crate::loads::underway;
 use crate::may::allows;
 use scan_story::{Entry, Load, Setting};
 use std::alloc::{AllocError, Global};
+use story_views::{cursor_at, underway};
 
 /// Whether the entry may follow the entries and takes a choice of the policy.
 fn follows(

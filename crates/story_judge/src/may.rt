@@ -5,17 +5,14 @@ ghost use Rattle.std.specs.Prelude.{◌+◌, nat_le, nat_lt};
 ghost use Rattle.scan_story.specs.Counting.{is_number};
 ghost use Rattle.scan_story.specs.Setting.{worker_of};
 ghost use Rattle.scan_story.specs.Loads.{underway, free_frames};
-ghost use Rattle.story_judge.specs.Small.{IsSmall};
+ghost use Rattle.story_views.specs.Small.{IsSmall};
 ghost use Rattle.story_judge.specs.Tests.{is_idle, is_active_on, has_active, is_rise, is_reason, is_fresh, evicts_for, fills_for, filled_for, fails_for, with_load, is_hold, allows};
 
-use crate::candidates::{is_ready, is_target, is_victim};
-use crate::loads::{
-    all_begun, begins, begins_in, free_frames, has_filled, is_free, is_load_by, misses,
-};
-use crate::needs::worker_of;
-use crate::numbers::{is_starved, needed};
-use crate::views::{held_by, is_active, is_registered};
 use scan_story::{Entry, Load, Setting, Why};
+use story_views::{
+    all_begun, begins, begins_in, free_frames, has_filled, held_by, is_active, is_free, is_load_by,
+    is_ready, is_registered, is_starved, is_target, is_victim, misses, needed, worker_of,
+};
 
 /// The worker holds no chunk.
 pub fn holds_nothing(entries: &[Entry], w: u32) -> bool

@@ -2,12 +2,11 @@ ghost use Rattle.std.specs.Prelude.{◌≡◌, ◌↔◌, ℕ, IsTrue};
 ghost use Rattle.scan_story.specs.Counting.{any_below};
 ghost use Rattle.scan_story.specs.Views.{past, piece_in};
 ghost use Rattle.scan_story.specs.Whole.{is_piece_of, has_taken, had_piece, Undisturbed};
-ghost use Rattle.story_judge.specs.Small.{IsSmall};
+ghost use Rattle.story_views.specs.Small.{IsSmall};
 ghost use Rattle.story_judge.specs.Tests.{is_undisturbed};
 
-use crate::needs::chunk_of;
-use crate::views::piece_in;
 use scan_story::{Entry, Setting};
+use story_views::{chunk_of, piece_in};
 
 fn has_piece_of(s: &Setting, entries: &[Entry], c: u32, f: u32) -> bool
     requires { IsSmall s.now }
@@ -37,7 +36,7 @@ fn had_piece(s: &Setting, entries: &[Entry], w: u32, f: u32) -> bool
     }
 }
 
-#[tactic(auto, using(crate::proofs::Below::any_below_more))]
+#[tactic(auto, using(story_views::proofs::Below::any_below_more))]
 fn was_taken(s: &Setting, entries: &[Entry], f: u32) -> bool
     requires { IsSmall s.now }
     ensures { result ≡ any_below (λ v. had_piece s.now (past entries.now) v f) s.now.workers }
@@ -67,7 +66,7 @@ fn has_taken(entries: &[Entry], w: u32, c: u32) -> bool
     }
 }
 
-#[tactic(auto, using(crate::proofs::Below::any_below_more))]
+#[tactic(auto, using(story_views::proofs::Below::any_below_more))]
 fn is_taken(s: &Setting, entries: &[Entry], c: u32) -> bool
     ensures { result ≡ any_below (λ v. has_taken (past entries.now) v c) s.now.workers }
 {

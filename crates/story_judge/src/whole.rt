@@ -4,15 +4,14 @@ ghost use Rattle.scan_story.specs.Counting.{any_below, count_among};
 ghost use Rattle.scan_story.specs.Views.{past, registers, held_by, is_ended, is_stopped};
 ghost use Rattle.scan_story.specs.Loads.{underway};
 ghost use Rattle.scan_story.specs.Whole.{IsWhole};
-ghost use Rattle.story_judge.specs.Small.{IsSmall};
+ghost use Rattle.story_views.specs.Small.{IsSmall};
 ghost use Rattle.story_judge.specs.Tests.{is_finished, is_complete};
 
-use crate::loads::underway;
-use crate::views::{held_by, is_ended, is_stopped, registers};
 use scan_story::{Entry, Load, Setting};
 use std::alloc::{AllocError, Global};
+use story_views::{held_by, is_ended, is_stopped, registers, underway};
 
-#[tactic(auto, using(crate::proofs::Below::count_among_cons))]
+#[tactic(auto, using(story_views::proofs::Below::count_among_cons))]
 fn count_registers(entries: &[Entry], q: u32) -> u64
     ensures value { result ≡ count_among (registers q) (past entries.now) }
     ensures bound { result ≤ length entries.now }
@@ -54,7 +53,7 @@ fn holds_something(entries: &[Entry], w: u32) -> bool
     held_by(entries, w).is_some()
 }
 
-#[tactic(auto, using(crate::proofs::Below::any_below_more))]
+#[tactic(auto, using(story_views::proofs::Below::any_below_more))]
 fn someone_holds(s: &Setting, entries: &[Entry]) -> bool
     ensures { result ≡ any_below (λ w. is_some (held_by (past entries.now) w)) s.now.workers }
 {

@@ -2,7 +2,7 @@
 // some are not.
 ghost use Rattle.std.specs.Prelude.{◌≤◌};
 ghost use Rattle.std.specs.Bool.{OnTrue};
-ghost use Rattle.story_judge.specs.Small as small;
+ghost use Rattle.story_views.specs.Small as small;
 
 use crate::batches::{next, run_under};
 use batch_run::{Answer, BatchEnd, Options};

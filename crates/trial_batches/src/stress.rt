@@ -1,6 +1,6 @@
 // Eight workers, sixteen queries and few frames, while reads fail: each story is judged, and each answer counted over the table.
 ghost use Rattle.std.specs.Prelude.{◌≡◌, ◌≤◌, IfOk, length};
-ghost use Rattle.story_judge.specs.Small.{IsSmall};
+ghost use Rattle.story_views.specs.Small.{IsSmall};
 
 use crate::batches::{ended, next};
 use batch_run::{Answer, BatchEnd, Cause, Options};

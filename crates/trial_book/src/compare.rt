@@ -2,21 +2,21 @@
 ghost use Rattle.std.specs.Prelude.{◌≡◌, ◌≤◌, ◌<◌, ℕ};
 ghost use Rattle.scan_story.specs.Views.{past};
 ghost use Rattle.scan_story.specs.Loads.{underway};
-ghost use Rattle.story_judge.specs.Small.{IsSmall};
+ghost use Rattle.story_views.specs.Small.{IsSmall};
 
 use interest_book::{Book, Memory};
 use scan_story::{Entry, Load, Setting};
 use std::alloc::Global;
-use story_judge as judge;
+use story_views as views;
 
 fn same_query(s: &Setting, entries: &[Entry], book: &Book, q: u32) -> bool
     requires small { IsSmall s.now }
     requires query { q ≤ 256 }
 {
-    book.needed(q) == judge::needed(s, entries, q)
-        && book.available(q) == judge::available(s, entries, q)
-        && book.starved(q) == judge::is_starved(s, entries, q)
-        && book.waiting(q) == judge::waiting(s, entries, q)
+    book.needed(q) == views::needed(s, entries, q)
+        && book.available(q) == views::available(s, entries, q)
+        && book.starved(q) == views::is_starved(s, entries, q)
+        && book.waiting(q) == views::waiting(s, entries, q)
 }
 
 // How many starved queries need the chunk.
@@ -25,17 +25,17 @@ fn starved_interested(s: &Setting, entries: &[Entry], c: u32) -> usize
 {
     s.needs
         .iter()
-        .filter(|n| judge::is_starved(s, entries, n.query)
-            && judge::needs_chunk(s, entries, n.query, c))
+        .filter(|n| views::is_starved(s, entries, n.query)
+            && views::needs_chunk(s, entries, n.query, c))
         .count()
 }
 
 fn same_counts(s: &Setting, entries: &[Entry], book: &Book, c: u32) -> bool
     requires { IsSmall s.now }
 {
-    book.interested(c) == judge::interested(s, entries, c)
+    book.interested(c) == views::interested(s, entries, c)
         && book.starved_interested(c) as usize == starved_interested(s, entries, c)
-        && book.close(c) == judge::close(s, entries, c)
+        && book.close(c) == views::close(s, entries, c)
 }
 
 fn same_chunk(s: &Setting, entries: &[Entry], load: &Option<Load>, book: &Book, c: u32) -> bool
@@ -44,10 +44,10 @@ fn same_chunk(s: &Setting, entries: &[Entry], load: &Option<Load>, book: &Book, 
     requires chunk { c < 1024 }
 {
     same_counts(s, entries, book, c)
-        && book.cached(c) == judge::cached(s, entries, c)
+        && book.cached(c) == views::cached(s, entries, c)
         && book.cached(c) as u64 + book.missing(c) as u64 == s.groups as u64
-        && book.is_held(c) == judge::is_held(s, entries, c)
-        && book.is_victim(c) == judge::is_victim(s, entries, load, c)
+        && book.is_held(c) == views::is_held(s, entries, c)
+        && book.is_victim(c) == views::is_victim(s, entries, load, c)
 }
 
 fn same_pair(s: &Setting, entries: &[Entry], book: &Book, q: u32, c: u32) -> bool
@@ -55,11 +55,11 @@ fn same_pair(s: &Setting, entries: &[Entry], book: &Book, q: u32, c: u32) -> boo
     requires query { q ≤ 256 }
     requires chunk { c < 1024 }
 {
-    book.needs_chunk(q, c) == judge::needs_chunk(s, entries, q, c)
-        && book.is_available(q, c) == judge::is_available(s, entries, q, c)
-        && book.missing_for(q, c) as usize == judge::missing_for(s, entries, q, c)
-        && book.overlap(q, c) == judge::overlap(s, entries, q, c)
-        && book.starved_overlap(q, c) == judge::starved_overlap(s, entries, q, c)
+    book.needs_chunk(q, c) == views::needs_chunk(s, entries, q, c)
+        && book.is_available(q, c) == views::is_available(s, entries, q, c)
+        && book.missing_for(q, c) as usize == views::missing_for(s, entries, q, c)
+        && book.overlap(q, c) == views::overlap(s, entries, q, c)
+        && book.starved_overlap(q, c) == views::starved_overlap(s, entries, q, c)
 }
 
 fn same_chunks(s: &Setting, entries: &[Entry], load: &Option<Load>, book: &Book) -> bool
@@ -103,7 +103,7 @@ fn same_frames(s: &Setting, entries: &[Entry], book: &Book) -> bool
     requires { IsSmall s.now }
 {
     for f in 0..s.frames {
-        if book.piece_in(f) != judge::piece_in(s, entries, f) {
+        if book.piece_in(f) != views::piece_in(s, entries, f) {
             return false;
         }
     }
@@ -112,7 +112,7 @@ fn same_frames(s: &Setting, entries: &[Entry], book: &Book) -> bool
 
 fn same_holds(s: &Setting, entries: &[Entry], book: &Book) -> bool {
     for w in 0..s.workers {
-        let held = match judge::held_by(entries, w) {
+        let held = match views::held_by(entries, w) {
             Some(hold) => Some(hold.chunk),
             None => None,
         };
@@ -135,10 +135,10 @@ fn same_load(load: &Option<Load>, book: &Book) -> bool {
 pub fn agrees(alloc: Global, s: &Setting, entries: &[Entry], book: &Book) -> Result<bool, Memory>
     requires { IsSmall s.now }
 {
-    let load = judge::underway(alloc, s, entries)?;
+    let load = views::underway(alloc, s, entries)?;
     Ok(
-        book.running() == judge::running(s, entries)
-            && book.free_frames() == judge::free_frames(s, entries, &load)
+        book.running() == views::running(s, entries)
+            && book.free_frames() == views::free_frames(s, entries, &load)
             && same_load(&load, book)
             && same_queries(s, entries, book)
             && same_chunks(s, entries, &load, book)

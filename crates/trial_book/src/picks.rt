@@ -1,7 +1,7 @@
 //! What a policy picks from a book of a list.
 ghost use Rattle.std.specs.Prelude.{◌≡◌};
 ghost use Rattle.scan_story.specs.Views.{past};
-ghost use Rattle.story_judge.specs.Small.{IsSmall};
+ghost use Rattle.story_views.specs.Small.{IsSmall};
 ghost use Rattle.interest_book.specs.Stands.{Stands};
 ghost use Rattle.trial_book.specs.Begun.{begins_some};
 
@@ -9,7 +9,7 @@ use interest_book::{Book, Memory};
 use relevance::Policy;
 use scan_story::{Entry, Load, Setting};
 use std::alloc::Global;
-use story_judge::{is_active, underway};
+use story_views::{is_active, underway};
 
 /// The chunk to deliver to the query, where it is active and one is available.
 pub fn delivery<P: Policy>(

@@ -1,7 +1,7 @@
 ghost use Rattle.std.specs.Prelude.{◌≤◌, ◌<◌, IfOk};
 ghost use Rattle.scan_story.specs.Views.{past};
 ghost use Rattle.interest_book.specs.Stands.{Stands};
-ghost use Rattle.story_judge.specs.Small.{IsSmall};
+ghost use Rattle.story_views.specs.Small.{IsSmall};
 
 use super::*;
 use interest_book::Book;

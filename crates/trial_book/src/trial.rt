@@ -1,7 +1,7 @@
 //! Stories played through a book.
 ghost use Rattle.std.specs.Prelude.{◌≡◌, ◌<◌, ◌+◌, ◌-◌, ◌^◌, IfOk, IfSome, IsTrue, length, take};
 ghost use Rattle.scan_story.specs.Views.{past};
-ghost use Rattle.story_judge.specs.Small.{IsSmall};
+ghost use Rattle.story_views.specs.Small.{IsSmall};
 ghost use Rattle.interest_book.specs.Stands.{Stands};
 
 use crate::compare::agrees;

@@ -1,11 +1,11 @@
 //! The Read bound, computed by the judge.
-ghost use Rattle.story_judge.specs.Small.{IsSmall};
+ghost use Rattle.story_views.specs.Small.{IsSmall};
 
 use scan_story::{Entry, Setting};
 use std::alloc::Global;
 use std::process::Abort;
 use std::test::Fail;
-use story_judge::underway;
+use story_views::underway;
 use trial_stories::paid_by;
 
 /// After each entry the loads so far are paid for.

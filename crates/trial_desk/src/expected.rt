@@ -2,7 +2,7 @@
 ghost use Rattle.std.specs.Prelude.{◌≡◌, ◌<◌, ◌≤◌, length};
 ghost use Rattle.scan_story.specs.Views.{past};
 ghost use Rattle.scan_story.specs.Loads.{underway};
-ghost use Rattle.story_judge.specs.Small.{IsSmall};
+ghost use Rattle.story_views.specs.Small.{IsSmall};
 
 use crate::said::Said;
 use abm_policy::{Cause, Slots, Why};
@@ -10,7 +10,7 @@ use scan_story::{Entry, Load, Setting};
 use std::alloc::Global;
 use std::process::Abort;
 use std::test::Fail;
-use story_judge::{
+use story_views::{
     is_available, is_free, is_stopped, missing_for, needed, piece_at, piece_in, reads_group,
     underway,
 };

@@ -8,7 +8,7 @@ ghost use Rattle.trial_desk.specs.Rigged.{IsNext};
 
 use interest_book::{Book, Phase};
 use scan_story::Setting;
-use story_judge::worker_of;
+use story_views::worker_of;
 
 /// Whether the query is active.
 pub fn is_active(book: &Book, q: u32) -> bool

@@ -1,6 +1,6 @@
 //! What a policy picks along a story.
 ghost use Rattle.scan_story.specs.Views.{past};
-ghost use Rattle.story_judge.specs.Small.{IsSmall};
+ghost use Rattle.story_views.specs.Small.{IsSmall};
 ghost use Rattle.interest_book.specs.Stands.{Stands};
 
 use interest_book::{Book, Memory};

@@ -13,7 +13,7 @@ use abm_policy::frames_needed;
 use piece_format::{Shape, groups};
 use scan_story::{Need, Setting};
 use std::collections::LinkedList;
-use story_judge::worker_of;
+use story_views::worker_of;
 use table_core::{ColumnSet, chunk_count};
 use table_pieces::chunks_of;
 

@@ -1,8 +1,8 @@
 //! What pays for loads.
-ghost use Rattle.story_judge.specs.Small.{IsSmall};
+ghost use Rattle.story_views.specs.Small.{IsSmall};
 
 use scan_story::{Entry, Setting};
-use story_judge::{available, is_active, is_stopped};
+use story_views::{available, is_active, is_stopped};
 
 /// What pays for loads: the deliveries, two for each stopped query, and what is available to the active ones, counted up
 /// to two for each.

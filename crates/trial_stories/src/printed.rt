@@ -1,6 +1,6 @@
 //! The printed stories, each with what it is of.
 ghost use Rattle.std.specs.Prelude.{IfOk};
-ghost use Rattle.story_judge.specs.Small.{IsSmall};
+ghost use Rattle.story_views.specs.Small.{IsSmall};
 
 use crate::scene::Scene;
 use crate::stories::{

@@ -1,6 +1,6 @@
 //! What the printed stories and the worked examples are of.
 ghost use Rattle.std.specs.Prelude.{◌≤◌, ◌<◌, IfOk};
-ghost use Rattle.story_judge.specs.Small.{IsSmall};
+ghost use Rattle.story_views.specs.Small.{IsSmall};
 
 use crate::settings::{need, setting};
 use scan_story::{PolicyName, Setting};

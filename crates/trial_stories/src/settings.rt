@@ -1,6 +1,6 @@
 //! Settings of one or two queries.
 ghost use Rattle.std.specs.Prelude.{◌≤◌, ◌<◌, IfOk};
-ghost use Rattle.story_judge.specs.Small.{IsSmall};
+ghost use Rattle.story_views.specs.Small.{IsSmall};
 
 use scan_story::{Need, PolicyName, Setting};
 use std::alloc::{AllocError, Global};

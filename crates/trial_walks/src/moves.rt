@@ -1,12 +1,12 @@
 ghost use Rattle.std.specs.Prelude.{◌≡◌, ◌<◌, ℕ};
 ghost use Rattle.scan_story.specs.Views.{past};
 ghost use Rattle.scan_story.specs.Loads.{underway};
-ghost use Rattle.story_judge.specs.Small.{IsSmall};
+ghost use Rattle.story_views.specs.Small.{IsSmall};
 
 use rand_core::Rng;
 use rand_pcg::Pcg32;
 use scan_story::{Entry, Load, Need, Setting, Why};
-use story_judge::{
+use story_views::{
     available, begins, free_frames, has_filled, held_by, is_active, is_free, is_registered, needed,
 };
 

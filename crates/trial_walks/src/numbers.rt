@@ -2,16 +2,17 @@
 ghost use Rattle.std.specs.Prelude.{◌≡◌, ◌<◌, ℕ, length};
 ghost use Rattle.scan_story.specs.Views.{past};
 ghost use Rattle.scan_story.specs.Loads.{underway};
-ghost use Rattle.story_judge.specs.Small.{IsSmall};
+ghost use Rattle.story_views.specs.Small.{IsSmall};
 
 use crate::proper::expect_proper;
 use scan_story::{Entry, Load, Setting, capacity};
 use std::alloc::Global;
 use std::process::Abort;
 use std::test::Fail;
-use story_judge::{
-    asks_for, chooses, close, cursor_at, free_frames, held_by, is_active, is_ended, is_starved,
-    is_stopped, is_undisturbed, is_victim, is_whole, is_wholly_framed, piece_in, underway,
+use story_judge::{chooses, is_undisturbed, is_whole};
+use story_views::{
+    asks_for, close, cursor_at, free_frames, held_by, is_active, is_ended, is_starved, is_stopped,
+    is_victim, is_wholly_framed, piece_in, underway,
 };
 use trial_stories::paid_by;
 

@@ -2,11 +2,11 @@
 ghost use Rattle.std.specs.Prelude.{◌≡◌};
 ghost use Rattle.scan_story.specs.Views.{past};
 ghost use Rattle.scan_story.specs.Loads.{underway};
-ghost use Rattle.story_judge.specs.Small.{IsSmall};
+ghost use Rattle.story_views.specs.Small.{IsSmall};
 
 use scan_story::{Entry, Load, Setting};
 use std::process::Abort;
-use story_judge::{
+use story_views::{
     begins, chunk_of, has_filled, is_framed, misses, piece_at, piece_in, reads_group,
 };
 

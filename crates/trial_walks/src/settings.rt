@@ -1,6 +1,6 @@
 //! Settings at random.
 ghost use Rattle.std.specs.Prelude.{◌<◌, ◌≤◌, IfOk};
-ghost use Rattle.story_judge.specs.Small.{IsSmall};
+ghost use Rattle.story_views.specs.Small.{IsSmall};
 
 use rand_core::Rng;
 use rand_pcg::Pcg32;

@@ -2,13 +2,14 @@ ghost use Rattle.std.specs.Prelude.{IfOk, IfSome};
 ghost use Rattle.scan_story.specs.Views.{past};
 ghost use Rattle.scan_story.specs.MayFollow.{Allowed};
 ghost use Rattle.scan_story.specs.Legal.{Chosen, Legal};
-ghost use Rattle.story_judge.specs.Small.{IsSmall};
+ghost use Rattle.story_views.specs.Small.{IsSmall};
 
 use crate::moves::{proposal, roll};
 use rand_pcg::Pcg32;
 use scan_story::{Entry, Setting};
 use std::alloc::{AllocError, Global};
-use story_judge::{may_come, underway};
+use story_judge::may_come;
+use story_views::underway;
 
 /// An entry that may come next, of one kind that is drawn; `None` where no entry of that kind may come.
 fn next(
