@@ -1,4 +1,11 @@
-//! The plan of a batch: its scans, what each of them needs, and on which worker it runs.
+//! The plan of a batch: its scans, which chunks each part of a query takes, what each scan needs, and on which worker
+//! it runs.
+//!
+//!     let tasks = [Task { query: 1, plan }];
+//!     let options = Options { workers: 2, frames: 7, per: 1024, layout: Layout::Row, parts: 2 };
+//!     let needs = needs_of(alloc, &shape, &zones, &tasks, &options)?;    // of two scans, on workers 0 and 1
+//!     let second = scan_number(options.parts, 1, 1);                     // 2
+//!     let chunks = deal(&needed, options.parts, 1);                      // those of the second part
 //!
 //! `docs/PARTS.md` has the rules.
 #![tactic(auto)]

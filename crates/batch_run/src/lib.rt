@@ -1,5 +1,14 @@
-//! A batch of queries over one table: the table is put into a depot piece by piece, workers run the scans of the queries at once over
-//! shared frames, and what the parts of a query gathered is joined to its answer. docs/BATCH.md has the rules.
+//! A batch of queries over one table: the table is put into a depot piece by piece, workers run the scans of the
+//! queries at once over shared frames, and what the parts of a query gathered is joined to its answer.
+//!
+//!     let tasks = [Task { query: 1, plan }];
+//!     let options = Options { workers: 4, frames: 13, per: 1024, layout: Layout::Row, parts: 1 };
+//!     match run_batch(&rt, alloc, loaded, &tasks, &options, MemDepot::new(alloc), Relevance, &NoGate) {
+//!         Ok(BatchEnd { answers, taken, story, .. }) => show(answers, taken, story),
+//!         Err((depot, refusal)) => refuse(depot, refusal),
+//!     }
+//!
+//! docs/BATCH.md has the rules.
 #![tactic(auto)]
 
 mod answering;

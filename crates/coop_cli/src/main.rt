@@ -1,5 +1,5 @@
-//! `coop_cli TABLE BATCH`: answers a batch of statements over a table. docs/COMMAND_LINE.md is its manual.
-//! `main` hands `run_boxed` of coop_run the words, the four policies that there are, the files of the system and standard
+//! `coop_cli TABLE BATCH`: answers a batch of statements over a table. docs/COMMAND_LINE.md is its manual. `main`
+//! hands `run_boxed` of coop_run the words, the four policies that there are, the files of the system and standard
 //! output; the theorem is `run_boxed`'s.
 #![tactic(auto)]
 

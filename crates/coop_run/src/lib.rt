@@ -7,8 +7,9 @@
 //!     let ended = run(&rt, alloc, keys, &words, &mut shelf, depot, Relevance, &NoGate, &mut out);
 //!     Ok(ExitCode::from(ended.status))
 //!
-//! `run` takes the words of the command line and carries the theorem; `run_settings` takes what they ask for; `run_boxed`
-//! takes a list of policies in boxes, of which the words name one, or compares all. docs/COMMAND_LINE.md is the manual.
+//! `run` takes the words of the command line and carries the theorem; `run_settings` takes what they ask for;
+//! `run_boxed` takes a list of policies in boxes, of which the words name one, or compares all. docs/COMMAND_LINE.md
+//! is the manual.
 #![tactic(auto)]
 
 mod boxed;

@@ -1,6 +1,15 @@
-//! From CSV text to a table of typed cells: `load` reads a text once, finds the kind of each column and makes
-//! the dictionaries of its texts. Contracts say that the result is the table of the text's records, whose
-//! definition knows nothing of the way it is made. docs/TABLES.md has the rules for users.
+//! From CSV text to a table of typed cells: `load` reads a text's records once, finds the kind of each column by the
+//! numbers that its fields spell, and ranks the texts of a column into its dictionary. Contracts say that the result
+//! is the table of the text's records, whose definition knows nothing of the way it is made.
+//!
+//!     let keys = RandomState::new(&rt)?;
+//!     let Loaded { table, dicts } = match load(alloc, keys, b"day,pay\n5,1.50\n6,\n") {
+//!         Ok(loaded) => loaded,
+//!         Err(refusal) => return refuse(refusal),
+//!     };
+//!     let first = table.row(0);    // Cell::Int(5) in an INT column, Cell::Int(150) in one of 2 places
+//!
+//! docs/TABLES.md has the rules for users.
 #![tactic(auto)]
 
 mod fields;

@@ -1,6 +1,14 @@
-//! The rank of queries and the ratios of chunks, the policies that a manager may follow, and the one that goes by them.
+//! What a policy of the manager owes (`Policy`), what several policies pick alike (`first_to_load`, `longest_waiting`,
+//! `fitter_of`), and `Relevance`, the policy that goes by the rank of queries and the ratios of chunks.
 //!
-//! `docs/MANAGER.md` tells the rules.
+//!     let mut policy = Relevance;
+//!     if let Some(query) = policy.pick_query(&book) {
+//!         let chunk = policy.pick_load(&book, query);    // Some: whoever is picked has a chunk to load
+//!         let victim = policy.pick_victim(&book);        // what leaves where frames are short
+//!     }
+//!     let next = policy.pick_delivery(&book, reader);    // a chunk in frames for a query that runs
+//!
+//! `docs/MANAGER.md` and `docs/POLICIES.md` tell the rules.
 #![tactic(auto)]
 
 mod around;

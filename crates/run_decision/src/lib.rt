@@ -1,5 +1,14 @@
-//! From what a run is given to its answers: the batch runs on its workers, and the text of its answers is made, or it is said
-//! why there is none. docs/ANSWERS.md and docs/BATCH.md have the rules.
+//! From what a run is given to its answers: the batch runs on its workers, and the text of its answers is made, or it
+//! is said why there is none. What a story spent is counted here too.
+//!
+//!     let decision = decide(&rt, alloc, keys, &request, &mut shelf, depot, Relevance, &NoGate);
+//!     let reads = decision.ran.as_ref().map(|ran| Counts::of(&ran.story).reads);
+//!     match decision.ending {
+//!         Ok(Output { status, text }) => write(status, text),
+//!         Err(stop) => write(stop.status(), stop.line()),
+//!     }
+//!
+//! docs/ANSWERS.md and docs/BATCH.md have the rules.
 #![tactic(auto)]
 
 mod answered;

@@ -1,6 +1,14 @@
-//! Binds a query to the columns of a table: its names become numbers, its literals bounds over cells.
+//! Binds a query to the columns of a table: its names become numbers, its literals bounds over cells. What the query
+//! means over the values of rows, its plan means over their cells.
 //!
-//! `docs/SQL.md` says what binds to what.
+//!     let text = b"SELECT dept, SUM(pay) FROM t WHERE pay >= 40 GROUP BY dept";
+//!     let plan = match plan_of(alloc, text, table.schema(), &dicts) {
+//!         Ok(plan) => plan,
+//!         Err(StatementRefusal::Text(refusal)) => return no_query(refusal),
+//!         Err(StatementRefusal::Query(refusal)) => return no_such_column(refusal),
+//!     };
+//!
+//! `bind` does the same for a query that was read. `docs/SQL.md` says what binds to what.
 #![tactic(auto)]
 
 mod binding;

@@ -1,4 +1,15 @@
-//! What a table is: typed cells in rows, the columns they stand in, and the words that all crates above share.
+//! What a table is: typed cells in rows, the columns they stand in, dictionaries of texts, sets of chunks and columns,
+//! the text of a value and of an answer, and the words and limits that all crates above share.
+//!
+//!     let (kind, dict) = (Kind::Dec { places: 2 }, Dict::new(alloc));
+//!     let schema = Schema::new(vec![in alloc; Column { name, kind }]?);
+//!     let table = Table::new(schema, vec![in alloc; Cell::Int(300), Cell::Null]?);
+//!     let mut out = Bytes::new(Vec::new(alloc));
+//!     for place in 0..table.len() {
+//!         write_value(&mut out, kind, &dict, table.row(place)[0])?;    // 3.00, then NULL
+//!     }
+//!
+//! docs/TABLES.md has the rules, and docs/ANSWERS.md the text of an answer.
 #![tactic(auto)]
 
 mod answer;

@@ -1,5 +1,5 @@
-//! Trials of a batch on workers: what is answered, taken and read; depots that fail or spoil; many workers over few frames while
-//! reads fail; and the stories of each policy.
+//! Trials of a batch on workers: what is answered, taken and read; depots that fail or spoil; many workers over few
+//! frames while reads fail; and the stories of each policy.
 //!
 //! All of it is tests. `docs/BATCH.md` tells the rules.
 #![tactic(auto)]

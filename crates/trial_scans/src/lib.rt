@@ -1,5 +1,5 @@
-//! Trials of scans: scans over a pool and a baton made for them, step by step, with everything that they answer written
-//! down.
+//! Trials of scans: scans over a pool and a baton made for them, step by step, with everything that they answer
+//! written down.
 //!
 //! `docs/SCANS.md` tells the rules.
 #![tactic(auto)]
