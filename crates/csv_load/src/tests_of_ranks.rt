@@ -1,5 +1,5 @@
 // Names in rising order.
-use crate::rank_texts;
+use crate::rank::rank_texts;
 use std::test::Fail;
 use table_core::Texts;
 

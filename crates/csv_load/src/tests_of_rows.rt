@@ -1,5 +1,9 @@
 // The records of a text, and what its header is refused for.
-use crate::{LoadRefusal, MOST_NAME_BYTES, Memory, Rows, judge_header};
+use crate::header::judge_header;
+use crate::limits::MOST_NAME_BYTES;
+use crate::memory::Memory;
+use crate::refusal::LoadRefusal;
+use crate::rows::Rows;
 use csv::ByteRecord;
 use std::alloc::Global;
 use std::test::Fail;

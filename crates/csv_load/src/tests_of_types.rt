@@ -1,5 +1,5 @@
 // Columns by the spellings of their fields, with the edges of 64 bits.
-use crate::kind_of_texts;
+use crate::kind::kind_of_texts;
 use std::test::Fail;
 use table_core::{Kind, Texts};
 
