@@ -6,10 +6,9 @@ use Rattle.table_core.specs.declared.schema.Column.{Column}
 use Rattle.sql_text.proofs.ReadTexts.{one_query}
 use Rattle.sql_bind.proofs.Causes.{one_cause}
 use Rattle.scan_story.specs.declared.entry.Entry.{Entry}
-use Rattle.run_output.specs.Refusals.{refusal_line}
+use Rattle.run_output.specs.Refusals.{refusal_line, statement_words}
 use Rattle.scan_story.specs.declared.cause.Cause.{Cause}
 use Rattle.run_output.specs.declared.totals.Totals.{Totals}
-use Rattle.run_output.specs.Causes.{refused_for}
 use Rattle.run_output.specs.Output.{IsOutput, PrintEach, Prints, query_printed}
 use Rattle.run_output.specs.Printed.{Printed, output, refused, status}
 
@@ -19,7 +18,7 @@ module _ (columns : List Column) (table : List (List Value)) where
   prints_one n text lost a b (inl x) (inl y) =
       let same : Some x.0 ≡ Some y.0 = one_cause text columns (Some x.0) (Some y.0) x.1 y.1 in
       let why : x.0 ≡ y.0 = cc in
-      x.2 ∙ ap (λ w. refused (refusal_line n (refused_for w))) why ∙ sym y.2
+      x.2 ∙ ap (λ w. refused (refusal_line n (statement_words w))) why ∙ sym y.2
   prints_one n text lost a b (inl x) (inr y) = (let no : Some x.0 ≡ None = one_cause text columns (Some x.0) None x.1 (y.0, y.1, y.2) in absurd (cc))
   prints_one n text lost a b (inr x) (inl y) = (let no : Some y.0 ≡ None = one_cause text columns (Some y.0) None y.1 (x.0, x.1, x.2) in absurd (cc))
   prints_one n text lost a b (inr x) (inr y) = x.3 ∙ ap (λ q. query_printed columns table n q lost) (one_query text x.0 y.0 x.1 y.1) ∙ sym y.3

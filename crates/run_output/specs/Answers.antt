@@ -10,15 +10,12 @@ use Rattle.agg_groups.specs.Text as groups_text
 use Rattle.top_rows.specs.Text as rows_text
 use Rattle.top_rows.specs.Rows.{RowQuery}
 use Rattle.sql_bind.specs.declared.plan.Plan.{Plan}
-use Rattle.run_output.specs.Refusals.{refusal_line}
-use Rattle.run_output.specs.declared.refused.Refused.{Refused}
-use Rattle.run_output.specs.declared.refused.Refused.TheVariants.{SumOverflow}
+use Rattle.run_output.specs.Refusals.{overflow_words, refusal_line, statement_words, stop_words}
 use Rattle.query_gather.specs.declared.answer.Answer.{Answer}
 use Rattle.query_gather.specs.declared.answer.Answer.TheVariants as answers
 use Rattle.run_output.specs.declared.outcome.Outcome.{Outcome}
 use Rattle.run_output.specs.declared.outcome.Outcome.TheVariants as outcome
 use Rattle.run_output.specs.Printed.{Printed, answered, refused}
-use Rattle.run_output.specs.Causes.{refused_for, stopped_for}
 
 abbrev pub columns_where : Plan → Option RowQuery → List (Option ℕ)
 columns_where p None = groups_text.columns_of p.keys.items p.items.items
@@ -33,8 +30,8 @@ abbrev pub NamesColumns : ℕ → Plan → Type 0
 NamesColumns n p = All (IsColumn n) (result_columns p)
 
 -- why a sum has no answer: its item, counted from 1, and the total, written with the places of the item's kind
-abbrev pub overflow_of : List Kind → ℕ → ℤ → Refused
-overflow_of kinds item total = SumOverflow item total (places_of (slice_index_or kinds (item - 1) Int))
+abbrev pub overflow_of : List Kind → ℕ → ℤ → List ℕ
+overflow_of kinds item total = overflow_words item total (places_of (slice_index_or kinds (item - 1) Int))
 
 -- what result rows print: each cell in its column's kind, its code read in the column's dictionary
 abbrev pub rows_printed : List Column → List (List (List ℕ)) → ℕ → Plan → List (List Cell) → Printed
@@ -45,11 +42,11 @@ abbrev pub answer_printed : List Column → List (List (List ℕ)) → ℕ → P
 answer_printed columns dicts n p (answers.Rows rows) = rows_printed columns dicts n p rows
 answer_printed columns dicts n p (answers.Picked rows) = rows_printed columns dicts n p rows
 answer_printed columns dicts n p (answers.Overflow item total) = refused (refusal_line n (overflow_of (kinds_of columns (result_columns p)) item total))
-answer_printed columns dicts n p (answers.Stopped why) = refused (refusal_line n (stopped_for why))
+answer_printed columns dicts n p (answers.Stopped why) = refused (refusal_line n (stop_words why))
 
 -- what statements print that come to these outcomes, the first one with this number: each one that has a plan takes the next answer
 abbrev pub printed : List Column → List (List (List ℕ)) → ℕ → List Outcome → List Answer → List Printed
 printed columns dicts n [] answers = []
 printed columns dicts n (outcome.Planned p ∷ outcomes) [] = []
 printed columns dicts n (outcome.Planned p ∷ outcomes) (a ∷ answers) = answer_printed columns dicts n p a ∷ printed columns dicts (n + 1) outcomes answers
-printed columns dicts n (outcome.Refused why ∷ outcomes) answers = refused (refusal_line n (refused_for why)) ∷ printed columns dicts (n + 1) outcomes answers
+printed columns dicts n (outcome.Refused why ∷ outcomes) answers = refused (refusal_line n (statement_words why)) ∷ printed columns dicts (n + 1) outcomes answers

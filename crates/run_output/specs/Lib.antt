@@ -1,6 +1,5 @@
 pub mod Outcomes
 pub mod Printed
-pub mod Causes
 pub mod Answers
 pub mod Output
 pub mod Stops

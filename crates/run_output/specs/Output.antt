@@ -15,11 +15,10 @@ use Rattle.sql_bind.specs.Meaning.{query_meaning, query_overflow, query_rows}
 use Rattle.sql_bind.specs.Statements.{TextCause}
 use Rattle.sql_bind.specs.declared.statement.StatementRefusal.{StatementRefusal}
 use Rattle.scan_story.specs.declared.entry.Entry.{Entry}
-use Rattle.run_output.specs.Refusals.{refusal_line}
+use Rattle.run_output.specs.Refusals.{refusal_line, statement_words, stop_words}
 use Rattle.scan_story.specs.declared.cause.Cause.{Cause}
 use Rattle.run_output.specs.declared.totals.Totals.{Totals}
 use Rattle.run_output.specs.Printed.{Printed, answered, refused, output, status}
-use Rattle.run_output.specs.Causes.{refused_for, stopped_for}
 use Rattle.run_output.specs.Answers.{overflow_of}
 
 -- the kind in which an item's values are written: a count is a whole number, any other item has the kind of its column
@@ -47,12 +46,12 @@ meaning_printed columns table n q (Some limit) = answered (answer n (item_kinds 
 -- a query prints its SQL meaning over the whole table, or why it was stopped, where it was
 abbrev pub query_printed : List Column → List (List Value) → ℕ → QueryTree → Option Cause → Printed
 query_printed columns table n q None = meaning_printed columns table n q q.limit
-query_printed columns table n q (Some why) = refused (refusal_line n (stopped_for why))
+query_printed columns table n q (Some why) = refused (refusal_line n (stop_words why))
 
 -- WHAT A STATEMENT PRINTS, by its number and its text: the cause for which its text is refused, or what its query prints
 abbrev pub Prints : List Column → List (List Value) → ℕ → List ℕ → Option Cause → Printed → Type 0
 Prints columns table n text lost printed =
-    ((why : StatementRefusal) × TextCause text columns (Some why) × (printed ≡ refused (refusal_line n (refused_for why))))
+    ((why : StatementRefusal) × TextCause text columns (Some why) × (printed ≡ refused (refusal_line n (statement_words why))))
     ⊎ ((q : QueryTree) × HasQuery text q × (refusal_of columns q ≡ None) × (printed ≡ query_printed columns table n q lost))
 
 -- what each statement prints, the first one with this number

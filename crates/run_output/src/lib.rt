@@ -10,7 +10,6 @@
 //! `docs/ANSWERS.md` has its words.
 #![tactic(auto)]
 
-mod causes;
 mod laws;
 mod outcome;
 mod output;
@@ -28,7 +27,7 @@ mod totals;
 pub use laws::{names_columns, one_output, output_alone};
 pub use outcome::Outcome;
 pub use output::{output_text, status_of};
-pub use refused::{Refused, write_refusal};
+pub use refused::{write_overflow, write_refusal, write_stopped};
 pub use stop::Stop;
 pub use stop_line::StopLine;
 pub use summary::{write_policy_line, write_summary};

@@ -1,38 +1,21 @@
-// Why a query has no answer.
+// The line of a query that has no answer.
 ghost use Rattle.std.specs.Prelude.{◌≡◌, ◌≤◌, ◌++◌, OnOk, codes, decimal};
-ghost use Rattle.table_core.specs.Value.{number_text, quoted};
-ghost use Rattle.run_output.specs.Refusals.{HasFewPlaces, cause_text, refusal_line};
+ghost use Rattle.table_core.specs.Value.{quoted};
+ghost use Rattle.run_output.specs.Refusals as spec;
+ghost use Rattle.run_output.specs.Refusals.{refusal_line};
 
 use crate::summary::{write_counted, write_decimal};
+use scan_story::Cause;
+use sql_bind::{BindRefusal, StatementRefusal};
+use sql_tokens::TextRefusal;
 use table_core::{Bytes, Memory, write_number, write_quoted};
 
-/// Why a query has no answer. A name is the bytes of the name as the query means it, without quotes.
-#[derive(Debug, Drop)]
-pub enum Refused {
-    /// The statement is no query.
-    Syntax,
-    /// It has more than 256 of the tokens AND, OR, NOT and `(`.
-    TooNested,
-    /// It has too many items, key columns or orders, or too great a limit.
-    TooManyItems,
-    /// There is no table of this name.
-    UnknownTable(Bytes),
-    /// The table has no column of this name.
-    UnknownColumn(Bytes),
-    /// The column of this name is of another kind.
-    WrongKind(Bytes),
-    /// The column of this name is a plain item and no key column.
-    NotGrouped(Bytes),
-    /// The sum of this item, counted from 1, is no number of 64 bits.
-    ///
-    /// The total counts units of the last of its places, which are at most 9.
-    SumOverflow { item: u32, total: i128, places: u32 },
-    /// The depot failed while a piece was read.
-    ReadFault,
-    /// This piece, counted from 0, isn't one that was stored.
-    DamagedPiece { piece: u32 },
-    /// Want of memory.
-    Memory,
+// Puts words that name nothing at the end.
+fn write_words(out: &mut Bytes, words: &[u8]) -> Result<(), Memory>
+    ensures { OnOk result (out.new ≡ out.old ++ words.now) }
+{
+    out.append(words)?;
+    Ok(())
 }
 
 // Puts a text at the end, and a quoted name behind it.
@@ -43,23 +26,39 @@ fn write_named(out: &mut Bytes, before: &[u8], name: &Bytes) -> Result<(), Memor
     write_quoted(out, name.as_slice())
 }
 
-// Puts the words of a sum that overflows at the end.
-fn write_overflow(out: &mut Bytes, item: u32, total: i128, places: u32) -> Result<(), Memory>
-    requires { places ≤ 9 }
-    ensures { OnOk result (out.new ≡ out.old ++
-        (codes "sum overflow item " ++ decimal item ++ codes " total " ++ number_text places total)) }
+// Puts the words of a text that is no query at the end.
+fn write_text_words(out: &mut Bytes, why: TextRefusal) -> Result<(), Memory>
+    ensures { OnOk result (out.new ≡ out.old ++ spec.text_words why) }
 {
-    out.append(b"sum overflow item ")?;
-    write_counted(out, item as u64, b" total ")?;
-    write_number(out, total, places)
+    match why {
+        TextRefusal::Syntax => write_words(out, b"syntax"),
+        TextRefusal::TooNested => write_words(out, b"too nested"),
+        TextRefusal::TooManyItems => write_words(out, b"too many items"),
+        TextRefusal::Memory => write_words(out, b"memory"),
+    }
 }
 
-// Puts words that name nothing at the end.
-fn write_words(out: &mut Bytes, words: &[u8]) -> Result<(), Memory>
-    ensures { OnOk result (out.new ≡ out.old ++ words.now) }
+// Puts the words of a query that isn't bound at the end.
+fn write_query_words(out: &mut Bytes, why: &BindRefusal) -> Result<(), Memory>
+    ensures { OnOk result (out.new ≡ out.old ++ spec.query_words why.now) }
 {
-    out.append(words)?;
-    Ok(())
+    match why {
+        BindRefusal::UnknownTable { name } => write_named(out, b"unknown table ", name),
+        BindRefusal::UnknownColumn { name } => write_named(out, b"unknown column ", name),
+        BindRefusal::WrongKind { name } => write_named(out, b"wrong kind ", name),
+        BindRefusal::NotGrouped { name } => write_named(out, b"not grouped ", name),
+        BindRefusal::Memory => write_words(out, b"memory"),
+    }
+}
+
+// Puts the words of a statement that is refused for its text or the names in it at the end.
+fn write_statement_words(out: &mut Bytes, why: &StatementRefusal) -> Result<(), Memory>
+    ensures { OnOk result (out.new ≡ out.old ++ spec.statement_words why.now) }
+{
+    match why {
+        StatementRefusal::Text(why) => write_text_words(out, *why),
+        StatementRefusal::Query(why) => write_query_words(out, why),
+    }
 }
 
 // Puts the words that name a damaged piece at the end.
@@ -70,41 +69,73 @@ fn write_damage(out: &mut Bytes, piece: u32) -> Result<(), Memory>
     write_decimal(out, piece as u64)
 }
 
-// Puts the words that say why at the end.
-fn write_cause(out: &mut Bytes, why: &Refused) -> Result<(), Memory>
-    requires { HasFewPlaces why.now }
-    ensures { OnOk result (out.new ≡ out.old ++ cause_text why.now) }
+// Puts the words of a query that was stopped at the end.
+fn write_stop_words(out: &mut Bytes, why: Cause) -> Result<(), Memory>
+    ensures { OnOk result (out.new ≡ out.old ++ spec.stop_words why) }
 {
     match why {
-        Refused::Syntax => write_words(out, b"syntax"),
-        Refused::TooNested => write_words(out, b"too nested"),
-        Refused::TooManyItems => write_words(out, b"too many items"),
-        Refused::UnknownTable(name) => write_named(out, b"unknown table ", name),
-        Refused::UnknownColumn(name) => write_named(out, b"unknown column ", name),
-        Refused::WrongKind(name) => write_named(out, b"wrong kind ", name),
-        Refused::NotGrouped(name) => write_named(out, b"not grouped ", name),
-        Refused::SumOverflow {
-            item,
-            total,
-            places,
-        } => write_overflow(out, *item, *total, *places),
-        Refused::ReadFault => write_words(out, b"read fault"),
-        Refused::DamagedPiece { piece } => write_damage(out, *piece),
-        Refused::Memory => write_words(out, b"memory"),
+        Cause::Read { .. } => write_words(out, b"read fault"),
+        Cause::Damage { piece, .. } => write_damage(out, piece),
+        Cause::Memory => write_words(out, b"memory"),
     }
 }
 
-/// Puts the line of a refusal at the end: the number of the query and why it has no answer.
-///
-/// Names stand in single quotes, each single quote inside doubled; a total is written with its places. For want of
-/// memory the bytes may have got a part of the line.
-pub fn write_refusal(out: &mut Bytes, query: u32, why: &Refused) -> Result<(), Memory>
-    requires places { HasFewPlaces why.now }
-    ensures line { OnOk result (out.new ≡ out.old ++ refusal_line query why.now) }
+// Puts what stands before the words of a refusal at the end.
+fn write_before(out: &mut Bytes, query: u32) -> Result<(), Memory>
+    ensures { OnOk result (out.new ≡ out.old ++ (codes "refused " ++ (decimal query ++ codes ": "))) }
 {
     out.append(b"refused ")?;
-    write_counted(out, query as u64, b": ")?;
-    write_cause(out, why)?;
+    write_counted(out, query as u64, b": ")
+}
+
+// Puts a line end at the end.
+fn end_line(out: &mut Bytes) -> Result<(), Memory>
+    ensures { OnOk result (out.new ≡ out.old ++ codes "\n") }
+{
     out.append(b"\n")?;
     Ok(())
+}
+
+/// Puts the line of a statement at the end that is refused for its text or the names in it.
+///
+/// Names stand in single quotes, each single quote inside doubled. For want of memory the bytes may have got a part of
+/// the line.
+pub fn write_refusal(out: &mut Bytes, query: u32, why: &StatementRefusal) -> Result<(), Memory>
+    ensures line { OnOk result (out.new ≡ out.old ++ refusal_line query (spec.statement_words why.now)) }
+{
+    write_before(out, query)?;
+    write_statement_words(out, why)?;
+    end_line(out)
+}
+
+/// Puts the line of a query at the end that was stopped.
+///
+/// For want of memory the bytes may have got a part of the line.
+pub fn write_stopped(out: &mut Bytes, query: u32, why: Cause) -> Result<(), Memory>
+    ensures line { OnOk result (out.new ≡ out.old ++ refusal_line query (spec.stop_words why)) }
+{
+    write_before(out, query)?;
+    write_stop_words(out, why)?;
+    end_line(out)
+}
+
+/// Puts the line of a query at the end, the sum of whose item, counted from 1, is no number of 64 bits.
+///
+/// The total counts units of the last of its places, which are at most 9. For want of memory the bytes may have got a
+/// part of the line.
+pub fn write_overflow(
+    out: &mut Bytes,
+    query: u32,
+    item: u32,
+    total: i128,
+    places: u32,
+) -> Result<(), Memory>
+    requires places { places ≤ 9 }
+    ensures line { OnOk result (out.new ≡ out.old ++ refusal_line query (spec.overflow_words item total places)) }
+{
+    write_before(out, query)?;
+    out.append(b"sum overflow item ")?;
+    write_counted(out, item as u64, b" total ")?;
+    write_number(out, total, places)?;
+    end_line(out)
 }

@@ -8,17 +8,15 @@ ghost use Rattle.query_gather.specs.Answer.{CanBeWritten};
 ghost use Rattle.query_gather.specs.declared.answer.Answer.TheVariants as answers;
 ghost use Rattle.run_output.specs.Refusals.{refusal_line};
 ghost use Rattle.run_output.specs.Answers.{NamesColumns, answer_printed, overflow_of, printed, result_columns};
-ghost use Rattle.run_output.specs.Causes as spec_causes;
 ghost use Rattle.run_output.specs.Outcomes.{plans_of};
 ghost use Rattle.run_output.specs.Printed.{text_in};
 ghost use Rattle.run_output.specs.declared.outcome.Outcome.{Outcome};
 
-use crate::causes::{refused_for, stopped_for};
 use crate::outcome::Outcome;
-use crate::refused::{Refused, write_refusal};
+use crate::refused::{write_overflow, write_refusal, write_stopped};
 use agg_groups::{Item, Rows, rows_text};
 use query_gather::Answer;
-use sql_bind::{Plan, StatementRefusal};
+use sql_bind::Plan;
 use std::alloc::Global;
 use table_core::{Bytes, Column, Dict, Memory, Schema, places_of_kind};
 use top_rows::{Picked, picked_text};
@@ -110,7 +108,7 @@ fn write_picked(
 }
 
 // Puts the line of a sum that is no number of 64 bits at the end.
-fn write_overflow(
+fn write_lost_sum(
     out: &mut Bytes,
     query: u32,
     schema: &Schema,
@@ -124,12 +122,7 @@ fn write_overflow(
     ensures { OnOk result (out.new ≡ out.old ++ refusal_line query
         (overflow_of (kinds_of schema.now (result_columns plan.now)) item total)) }
 {
-    let why = Refused::SumOverflow {
-        item,
-        total,
-        places: places_of_item(schema, plan, item),
-    };
-    write_refusal(out, query, &why)
+    write_overflow(out, query, item, total, places_of_item(schema, plan, item))
 }
 
 // Puts what an answer prints at the end.
@@ -153,23 +146,10 @@ fn write_answer(
         Answer::Rows(rows) => write_rows(alloc, out, query, schema, dicts, plan, rows),
         Answer::Picked(picked) => write_picked(alloc, out, query, schema, dicts, plan, picked),
         Answer::Overflow { item, total } => {
-            write_overflow(out, query, schema, plan, *item, *total)
+            write_lost_sum(out, query, schema, plan, *item, *total)
         }
-        Answer::Stopped(why) => write_refusal(out, query, &stopped_for(*why)),
+        Answer::Stopped(why) => write_stopped(out, query, *why),
     }
-}
-
-// Puts the line of a statement at the end that is refused for its text or the names in it.
-fn write_refused(
-    alloc: Global,
-    out: &mut Bytes,
-    query: u32,
-    why: &StatementRefusal,
-) -> Result<(), Memory>
-    ensures { OnOk result (out.new ≡ out.old ++ refusal_line query (spec_causes.refused_for why.now)) }
-{
-    let refused = refused_for(alloc, why)?;
-    write_refusal(out, query, &refused)
 }
 
 /// Puts what a statement prints at the end. It takes the first of the answers where it has a plan, and gives those that are left.
@@ -195,7 +175,7 @@ pub(crate) fn write_statement<'a>(
 {
     match outcome {
         Outcome::Refused(why) => {
-            write_refused(alloc, out, query, why)?;
+            write_refusal(out, query, why)?;
             Ok(answers)
         }
         Outcome::Planned(plan) => match answers {

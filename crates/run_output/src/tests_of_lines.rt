@@ -1,7 +1,8 @@
 // What no contract says: that the lines have the words that people expect, and that calls succeed with ample memory.
-ghost use Rattle.run_output.specs.Refusals.{HasFewPlaces};
-
-use crate::{Refused, Stop, write_policy_line, write_refusal, write_summary};
+use crate::{Stop, write_overflow, write_policy_line, write_refusal, write_stopped, write_summary};
+use scan_story::Cause;
+use sql_bind::{BindRefusal, StatementRefusal};
+use sql_tokens::TextRefusal;
 use std::alloc::{AllocError, Global};
 use std::process::Abort;
 use std::test::Fail;
@@ -83,16 +84,14 @@ fn each_stop_has_its_status_and_its_line(rt: HostRuntime) {
     }
 }
 
-// Tests that the line of a refusal is this one, and that it stands behind what was written before.
+// Tests that the line of a refused statement is this one, and that it stands behind what was written before.
 fn refuses(
     rt: &impl Abort,
     alloc: Global,
     query: u32,
-    why: Refused,
+    why: StatementRefusal,
     line: &[u8],
-) -> Result<(), Fail>
-    requires { HasFewPlaces why }
-{
+) -> Result<(), Fail> {
     let mut out = bytes_of(alloc, b"before\n")?;
     write_refusal(&mut out, query, &why)?;
     assert_eq!(rt; &out.as_slice()[..7], b"before\n".as_slice());
@@ -103,77 +102,69 @@ fn refuses(
 #[test]
 fn each_refusal_has_its_line(rt: HostRuntime) -> Result<(), Fail> {
     let alloc = rt.alloc();
-    refuses(&rt, alloc, 1, Refused::Syntax, b"refused 1: syntax\n")?;
-    refuses(
-        &rt,
-        alloc,
-        2,
-        Refused::TooNested,
-        b"refused 2: too nested\n",
-    )?;
-    refuses(
-        &rt,
-        alloc,
-        3,
-        Refused::TooManyItems,
-        b"refused 3: too many items\n",
-    )?;
-    refuses(
-        &rt,
-        alloc,
-        1,
-        Refused::ReadFault,
-        b"refused 1: read fault\n",
-    )?;
-    refuses(&rt, alloc, 256, Refused::Memory, b"refused 256: memory\n")?;
-    let last = Refused::DamagedPiece { piece: 4294967295 };
-    let line = b"refused 4294967295: damaged piece 4294967295\n";
-    refuses(&rt, alloc, 4294967295, last, line)
+    for (query, why, line) in [
+        (1, TextRefusal::Syntax, b"refused 1: syntax\n".as_slice()),
+        (2, TextRefusal::TooNested, b"refused 2: too nested\n"),
+        (3, TextRefusal::TooManyItems, b"refused 3: too many items\n"),
+        (256, TextRefusal::Memory, b"refused 256: memory\n"),
+    ] {
+        refuses(&rt, alloc, query, StatementRefusal::Text(why), line)?;
+    }
+    let memory = StatementRefusal::Query(BindRefusal::Memory);
+    refuses(&rt, alloc, 256, memory, b"refused 256: memory\n")
 }
 
 #[test]
 fn names_are_quoted(rt: HostRuntime) -> Result<(), Fail> {
     let alloc = rt.alloc();
-    let table = Refused::UnknownTable(bytes_of(alloc, b"u")?);
+    let name = bytes_of(alloc, b"u")?;
+    let table = StatementRefusal::Query(BindRefusal::UnknownTable { name });
     refuses(&rt, alloc, 1, table, b"refused 1: unknown table 'u'\n")?;
-    let column = Refused::UnknownColumn(bytes_of(alloc, b"zz")?);
+    let name = bytes_of(alloc, b"zz")?;
+    let column = StatementRefusal::Query(BindRefusal::UnknownColumn { name });
     refuses(&rt, alloc, 2, column, b"refused 2: unknown column 'zz'\n")?;
-    let kind = Refused::WrongKind(bytes_of(alloc, b"dept")?);
+    let name = bytes_of(alloc, b"dept")?;
+    let kind = StatementRefusal::Query(BindRefusal::WrongKind { name });
     refuses(&rt, alloc, 1, kind, b"refused 1: wrong kind 'dept'\n")?;
-    let plain = Refused::NotGrouped(bytes_of(alloc, b"it's\n'")?);
-    refuses(
-        &rt,
-        alloc,
-        3,
-        plain,
-        b"refused 3: not grouped 'it''s\n'''\n",
-    )
+    let name = bytes_of(alloc, b"it's\n'")?;
+    let plain = StatementRefusal::Query(BindRefusal::NotGrouped { name });
+    let line = b"refused 3: not grouped 'it''s\n'''\n";
+    refuses(&rt, alloc, 3, plain, line)
+}
+
+#[test]
+fn each_stopped_query_has_its_line(rt: HostRuntime) -> Result<(), Fail> {
+    let read = Cause::Read {
+        before: 1,
+        after: 2,
+    };
+    let damage = Cause::Damage {
+        piece: 4294967295,
+        word: 4,
+    };
+    let last = b"refused 4294967295: damaged piece 4294967295\n";
+    for (query, why, line) in [
+        (1, read, b"refused 1: read fault\n".as_slice()),
+        (4294967295, damage, last),
+        (256, Cause::Memory, b"refused 256: memory\n"),
+    ] {
+        let mut out = bytes_of(rt.alloc(), b"")?;
+        write_stopped(&mut out, query, why)?;
+        assert_eq!(rt; out.as_slice(), line, "{why:?}");
+    }
+    Ok(())
 }
 
 #[test]
 fn totals_have_their_places(rt: HostRuntime) -> Result<(), Fail> {
-    let alloc = rt.alloc();
-    let whole = Refused::SumOverflow {
-        item: 1,
-        total: 9223372036854775808,
-        places: 0,
-    };
-    let line = b"refused 1: sum overflow item 1 total 9223372036854775808\n";
-    refuses(&rt, alloc, 1, whole, line)?;
-    let money = Refused::SumOverflow {
-        item: 1,
-        total: 9223372036854775808,
-        places: 2,
-    };
-    let line = b"refused 1: sum overflow item 1 total 92233720368547758.08\n";
-    refuses(&rt, alloc, 1, money, line)?;
-    let below = Refused::SumOverflow {
-        item: 32,
-        total: -9223372036854775809,
-        places: 9,
-    };
-    let line = b"refused 256: sum overflow item 32 total -9223372036.854775809\n";
-    refuses(&rt, alloc, 256, below, line)
+    let mut out = bytes_of(rt.alloc(), b"")?;
+    write_overflow(&mut out, 1, 1, 9223372036854775808, 0)?;
+    write_overflow(&mut out, 1, 1, 9223372036854775808, 2)?;
+    write_overflow(&mut out, 256, 32, -9223372036854775809, 9)?;
+    let lines =
+        b"refused 1: sum overflow item 1 total 9223372036854775808\nrefused 1: sum overflow item 1 total 92233720368547758.08\nrefused 256: sum overflow item 32 total -9223372036.854775809\n";
+    assert_eq!(rt; out.as_slice(), lines.as_slice());
+    Ok(())
 }
 
 #[test]
