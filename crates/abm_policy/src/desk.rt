@@ -123,6 +123,14 @@ impl<S: Origin, P: Policy, D: Depot> Desk<S, P, D> {
         &self.book
     }
 
+    /// The story is legal, and the origin is one for a desk: a law. It does nothing.
+    pub fn is_legal(&self)
+        ensures start { IsStart S.origin }
+        ensures legal { Legal S.origin.setting (past self.now) }
+    {
+        self.kept();
+    }
+
     // Tells what the type keeps: the story is legal, and a load that is underway misses some piece, and none twice.
     pub(crate) fn kept(&self)
         ensures start { IsStart S.origin }

@@ -174,8 +174,7 @@ pub(crate) fn close<S: Origin, C: Content, P: Policy, D: Depot, R: Wait>(
     workers.destroy_empty();
     pool.close(berths);
     let desk = baton.finish(rt, passes);
-    // It says that the story is legal.
-    let _book = desk.book();
+    desk.is_legal();
     let (story, _, depot) = desk.into_parts();
     (story, depot)
 }

@@ -9,6 +9,7 @@ ghost use Rattle.cscan.specs.Scans.{IsSameScan, IsScan, reads_column};
 ghost use Rattle.cscan.specs.Tables.{HoldsTable};
 
 use crate::cells::{cell_in_frame, group_with, piece_with, place_of};
+use crate::desk::take_desk;
 use crate::framed::Framed;
 use crate::given::Given;
 use crate::pinning::unpin_all;
@@ -123,9 +124,7 @@ impl Held {
         let query = scan.query;
         let number = scan.station.number;
         unpin_all(pool, &mut scan.station.berth, &given.slots);
-        let mut desk = baton.take(rt, &mut scan.station.pass);
-        // It says that the story is legal, and that the origin is one for a desk.
-        let _book = desk.book();
+        let mut desk = take_desk(rt, baton, &mut scan.station.pass);
         desk.release(number, query, given.chunk);
         baton.give(rt, &mut scan.station.pass, desk);
         scan.out = None;

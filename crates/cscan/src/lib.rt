@@ -6,6 +6,7 @@
 #![tactic(auto)]
 
 mod cells;
+mod desk;
 mod filling;
 mod framed;
 mod gate;

@@ -11,6 +11,7 @@ ghost use Rattle.cscan.specs.Loading.{IsSettled, Settles};
 ghost use Rattle.cscan.specs.Scans.{Fits};
 ghost use Rattle.cscan.specs.Stations.{IsSeated};
 
+use crate::desk::take_desk;
 use crate::filling::{Failure, read_all};
 use crate::station::Station;
 use abm_policy::{Desk, Ticket};
@@ -77,9 +78,7 @@ pub(crate) fn load<S: Origin, C: Content, P: Policy, D: Depot, R: Wait>(
         &mut depot,
         &ticket.slots,
     );
-    let mut desk = baton.take(rt, &mut station.pass);
-    // It says that the story is legal, and that the origin is one for a desk.
-    let _book = desk.book();
+    let mut desk = take_desk(rt, baton, &mut station.pass);
     settle(&mut desk, ticket, depot, read);
     baton.give(rt, &mut station.pass, desk);
 }

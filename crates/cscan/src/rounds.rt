@@ -8,6 +8,7 @@ ghost use Rattle.cscan.specs.Rounds.{IsEnd, IsRound, slots_of};
 ghost use Rattle.cscan.specs.Scans.{Fits};
 ghost use Rattle.cscan.specs.Stations.{IsSeated};
 
+use crate::desk::take_desk;
 use crate::given::Given;
 use crate::loading::load;
 use crate::pinning::pin_all;
@@ -58,9 +59,7 @@ pub(crate) fn turn_once<S: Origin, C: Content, P: Policy, D: Depot, R: Wait>(
         result }
 {
     let number = station.number;
-    let mut desk = baton.take(rt, &mut station.pass);
-    // It says that the story is legal, and that the origin is one for a desk.
-    let _book = desk.book();
+    let mut desk = take_desk(rt, baton, &mut station.pass);
     let turn = desk.turn(number, query);
     baton.give(rt, &mut station.pass, desk);
     match turn {

@@ -8,6 +8,7 @@ ghost use Rattle.cscan.specs.Answers.{Answered, IsStoppedBy};
 ghost use Rattle.cscan.specs.Scans.{Fits, HasColumns, IsOver, IsSameScan, IsScan};
 ghost use Rattle.cscan.specs.Stations.{IsSeated};
 
+use crate::desk::take_desk;
 use crate::given::Given;
 use crate::held::Held;
 use crate::next::Next;
@@ -69,9 +70,7 @@ impl<'a, S: Origin, C: Content, P: Policy, D: Depot> CScan<'a, S, C, P, D> {
         ensures went { Went station.old.pass result.station.now.pass (Register station.old.number query ∷ []) }
     {
         let number = station.number;
-        let mut desk = baton.take(rt, &mut station.pass);
-        // It says that the story is legal, and that the origin is one for a desk.
-        let _book = desk.book();
+        let mut desk = take_desk(rt, baton, &mut station.pass);
         desk.register(number, query);
         baton.give(rt, &mut station.pass, desk);
         CScan {
@@ -128,9 +127,7 @@ impl<'a, S: Origin, C: Content, P: Policy, D: Depot> CScan<'a, S, C, P, D> {
             out: _,
         } = self;
         let number = station.number;
-        let mut desk = baton.take(rt, &mut station.pass);
-        // It says that the story is legal, and that the origin is one for a desk.
-        let _book = desk.book();
+        let mut desk = take_desk(rt, baton, &mut station.pass);
         let earlier = desk.cause(query);
         if let Some(cause) = earlier {
             baton.give(rt, &mut station.pass, desk);

@@ -17,7 +17,7 @@ pub into_parts-story-requires-clause-idle : goal.into_parts-story-requires-claus
 into_parts-story-requires-clause-idle g c κs within =
     let o = g.S.Origin.origin in
     let story = c.finish-desk.result in
-    let legal = c.book-book.ensures.legal in
+    let legal = c.is_legal.ensures.legal in
     none_underway o _ c.requires.start legal
     (λ w low. idle_at_end o story (passes_of c.args.works.crew) w c.requires.numbers c.requires.rest (agree g (goal.at.into_parts-story-requires-clause-idle g c).After-finish-desk) legal low)
 

@@ -27,45 +27,45 @@ use Rattle.cscan.proofs.Rounding.{delivered_chunk, delivered_nothing}
 use Rattle.cscan.proofs.Stories.{adds_these, evicts_loads, fills_loads, loads_append, ready_fresh, went_turn}
 use Rattle.cscan.proofs.Turning.{ended_idle, ended_inactive, held_after, load_after, ready_below, row_finished, row_stopped, stand_apart, stopped_inactive, turn_added}
 use Rattle.cscan.proofs.rounds.turn_once.Goals as goal
-use Rattle.cscan.proofs.rounds.turn_once.Goals.{After-book-book, After-give}
+use Rattle.cscan.proofs.rounds.turn_once.Goals.{After-take_desk-desk, After-give}
 
 -- the story went on meanwhile
-went : (g : _) (c : After-book-book g) → WentOn g.S.Origin.origin.setting c.args.station.now.number c.args.station.now.pass.seen c.take-desk.result
+went : (g : _) (c : After-take_desk-desk g) → WentOn g.S.Origin.origin.setting c.args.station.now.number c.args.station.now.pass.seen c.take_desk-desk.result
 went g c =
-    went_on_since c.args.baton.now g.S.Origin.origin c.args.station.now.number c.args.station.now.pass c.take-desk.result c.requires.seated.0 c.book-book.ensures.legal c.take-desk.ensures.seen c.take-desk.ensures.mine
+    went_on_since c.args.baton.now g.S.Origin.origin c.args.station.now.number c.args.station.now.pass c.take_desk-desk.result c.requires.seated.0 c.take_desk-desk.ensures.legal c.take_desk-desk.ensures.seen c.take_desk-desk.ensures.mine
 
-may : (g : _) (c : After-book-book g) → MayTurn g.S.Origin.origin.setting (past c.take-desk.result) c.args.station.now.number c.args.query
-may g c = turns_stay g.S.Origin.origin.setting c.args.station.now.number c.args.query c.args.station.now.pass.seen c.take-desk.result (went g c) c.requires.may
+may : (g : _) (c : After-take_desk-desk g) → MayTurn g.S.Origin.origin.setting (past c.take_desk-desk.result) c.args.station.now.number c.args.query
+may g c = turns_stay g.S.Origin.origin.setting c.args.station.now.number c.args.query c.args.station.now.pass.seen c.take_desk-desk.result (went g c) c.requires.may
 
 -- the pass added these entries in the turn
-turned : (g : _) (c : After-give g) (new : List Entry) → c.turn-turn.new.self ≡ c.take-desk.result ++ new → Went c.args.station.now.pass c.give.new.pass new
+turned : (g : _) (c : After-give g) (new : List Entry) → c.turn-turn.new.self ≡ c.take_desk-desk.result ++ new → Went c.args.station.now.pass c.give.new.pass new
 turned g c new is =
-    went_turn c.args.station.now.pass c.take-desk.new.pass c.give.new.pass c.take-desk.result c.turn-turn.new.self new c.take-desk.ensures.pass c.give.ensures.pass c.give.ensures.mine c.take-desk.ensures.seen is
+    went_turn c.args.station.now.pass c.take_desk-desk.new.pass c.give.new.pass c.take_desk-desk.result c.turn-turn.new.self new c.take_desk-desk.ensures.pass c.give.ensures.pass c.give.ensures.mine c.take_desk-desk.ensures.seen is
 
 pub turn-turn-requires-clause-may : goal.turn-turn-requires-clause-may
-turn-turn-requires-clause-may g c κs within = may g (goal.at.turn-turn-requires-clause-may g c).After-book-book
+turn-turn-requires-clause-may g c κs within = may g (goal.at.turn-turn-requires-clause-may g c).After-take_desk-desk
 
 pub give-requires-clause-story : goal.give-requires-clause-story
 give-requires-clause-story g c =
-    let a = turn_added (λ (d : g.row.D.Denot). depot_view (g.D.Depot.held d) (g.D.Depot.gets d) (g.D.Depot.faults d)) g.S.Origin.origin c.args.station.now.number c.args.query c.take-desk.result c.turn-turn.new.self c.turn-turn.result c.turn-turn.ensures.answer in
-    adds_these c.args.station.now.pass c.take-desk.new.pass c.args.station.now.number c.take-desk.result c.turn-turn.new.self a.0 c.take-desk.ensures.pass a.1 c.requires.seated.0.1 a.2
+    let a = turn_added (λ (d : g.row.D.Denot). depot_view (g.D.Depot.held d) (g.D.Depot.gets d) (g.D.Depot.faults d)) g.S.Origin.origin c.args.station.now.number c.args.query c.take_desk-desk.result c.turn-turn.new.self c.turn-turn.result c.turn-turn.ensures.answer in
+    adds_these c.args.station.now.pass c.take_desk-desk.new.pass c.args.station.now.number c.take_desk-desk.result c.turn-turn.new.self a.0 c.take_desk-desk.ensures.pass a.1 c.requires.seated.0.1 a.2
 
 pub pin_all-requires-clause-frames : goal.pin_all-requires-clause-frames
 pin_all-requires-clause-frames g c =
     let s = g.S.Origin.origin.setting in
     let a = c.in-Take.ensures.answer in
-    let once = subst NoneTwice (sym a.read) ((grouped s c.book-book.ensures.start.setting).once c.args.query c.in-Take.chunk) in
+    let once = subst NoneTwice (sym a.read) ((grouped s c.take_desk-desk.ensures.start.setting).once c.args.query c.in-Take.chunk) in
     subst (λ (n : ℕ). AreFrames n c.in-Take.slots) c.requires.fits.frames (stand_apart s (past c.turn-turn.new.self) c.in-Take.slots a.frames once)
 
 pub rows_of-rows-requires-clause-chunk : goal.rows_of-rows-requires-clause-chunk
 rows_of-rows-requires-clause-chunk g c =
-    let low = ready_below g.S.Origin.origin.setting (past c.take-desk.result) c.args.query c.in-Take.chunk c.in-Take.ensures.answer.ready in
+    let low = ready_below g.S.Origin.origin.setting (past c.take_desk-desk.result) c.args.query c.in-Take.chunk c.in-Take.ensures.answer.ready in
     omega (arith, low, c.requires.fits.chunks)
 
 -- the pass waits again
 waits : (g : _) (c : After-give g) → Waits c.args.baton.now g.S.Origin.origin c.args.station.now.number c.give.new.pass
 waits g c =
-    waits_again c.args.baton.now g.S.Origin.origin c.args.station.now.number c.args.station.now.pass c.take-desk.new.pass c.give.new.pass c.take-desk.result c.turn-turn.new.self c.requires.seated.0 c.take-desk.ensures.pass c.give.ensures.pass
+    waits_again c.args.baton.now g.S.Origin.origin c.args.station.now.number c.args.station.now.pass c.take_desk-desk.new.pass c.give.new.pass c.take_desk-desk.result c.turn-turn.new.self c.requires.seated.0 c.take_desk-desk.ensures.pass c.give.ensures.pass
 
 pub load-requires-clause-seated : goal.load-requires-clause-seated
 load-requires-clause-seated g c κs within = (waits g (goal.at.load-requires-clause-seated g c).After-give, c.requires.seated.1, c.requires.seated.2)
@@ -105,14 +105,14 @@ returns-in-Take-clause-round g c =
     let q : ℕ = c.args.query in
     let chunk : ℕ = c.in-Take.chunk in
     let slots = c.in-Take.slots in
-    let old = c.take-desk.result in
+    let old = c.take_desk-desk.result in
     let new = c.turn-turn.new.self in
     let a = c.in-Take.ensures.answer in
     let at = goal.at.returns-in-Take-clause-round g c in
     let seen = ap (λ (p : PassView). p.seen) c.give.ensures.pass in
     let out : Given = record { chunk = chunk; rows = c.rows_of-rows.result; slots = slots } in
     let made = turned g at.After-give (Deliver w q chunk ∷ []) a.added in
-    let once = subst NoneTwice (sym a.read) ((grouped s c.book-book.ensures.start.setting).once q chunk) in (
+    let once = subst NoneTwice (sym a.read) ((grouped s c.take_desk-desk.ensures.start.setting).once q chunk) in (
       record {
         loads = [];
         only_loads = tt;
@@ -120,12 +120,12 @@ returns-in-Take-clause-round g c =
         before = old;
         seen = seen ∙ a.added;
         ready = a.ready;
-        fresh = ap (λ (l : List Entry). has (chunks_delivered l q) chunk) (sym ((went g at.After-book-book).own ∙ c.requires.seated.0.4)) ∙ ready_fresh s w q chunk old a.ready;
+        fresh = ap (λ (l : List Entry). has (chunks_delivered l q) chunk) (sym ((went g at.After-take_desk-desk).own ∙ c.requires.seated.0.4)) ∙ ready_fresh s w q chunk old a.ready;
         taken = delivered_chunk w q chunk c.args.station.now.pass c.give.new.pass [] tt made;
       },
       subst (λ (l : List Entry). Legal s (past l)) (sym seen) c.turn-turn.ensures.legal,
       subst (λ (l : List Entry). IsAt s (past l) w q (Some out)) (sym seen)
-          (record { runs = a.runs; holds = held_after old new w q chunk a.added; loads_nothing = load_after s old new w q chunk a.added (may g at.After-book-book).idle.loads_nothing }),
+          (record { runs = a.runs; holds = held_after old new w q chunk a.added; loads_nothing = load_after s old new w q chunk a.added (may g at.After-take_desk-desk).idle.loads_nothing }),
       subst (λ (l : List Entry). IsGiven s c.args.shape.now (past l) q out) (sym seen)
           (record {
             chunk = (let low = ready_below s (past old) q chunk a.ready in omega (arith, low, c.requires.fits.chunks));
@@ -141,7 +141,7 @@ returns-in-Finished-clause-round g c =
     let s = g.S.Origin.origin.setting in
     let w : ℕ = c.args.station.now.number in
     let q : ℕ = c.args.query in
-    let old = c.take-desk.result in
+    let old = c.take_desk-desk.result in
     let new = c.turn-turn.new.self in
     let a = c.in-Finished.ensures.answer in
     let at = goal.at.returns-in-Finished-clause-round g c in
@@ -159,7 +159,7 @@ returns-in-Finished-clause-round g c =
         taken = delivered_nothing q c.args.station.now.pass c.give.new.pass [] (End w q ∷ []) tt made refl;
       },
       subst (λ (l : List Entry). IsAtRest s (past l) w q) (sym seen)
-          (record { legal = c.turn-turn.ensures.legal; inactive = ended_inactive old new w q a; idle = ended_idle s old new w q a (may g at.After-book-book).idle }),
+          (record { legal = c.turn-turn.ensures.legal; inactive = ended_inactive old new w q a; idle = ended_idle s old new w q a (may g at.After-take_desk-desk).idle }),
     )
 
 pub returns-in-Stopped-clause-round : goal.returns-in-Stopped-clause-round
@@ -167,7 +167,7 @@ returns-in-Stopped-clause-round g c =
     let s = g.S.Origin.origin.setting in
     let w : ℕ = c.args.station.now.number in
     let q : ℕ = c.args.query in
-    let old = c.take-desk.result in
+    let old = c.take_desk-desk.result in
     let a = c.in-Stopped.ensures.answer in
     let at = goal.at.returns-in-Stopped-clause-round g c in
     let seen = ap (λ (p : PassView). p.seen) c.give.ensures.pass in
@@ -181,7 +181,7 @@ returns-in-Stopped-clause-round g c =
         taken = delivered_nothing q c.args.station.now.pass c.give.new.pass [] [] tt made refl;
       },
       subst (λ (l : List Entry). IsAtRest s (past l) w q) (sym (seen ∙ a.0))
-          (record { legal = c.book-book.ensures.legal; inactive = stopped_inactive (past old) q stopped; idle = (may g at.After-book-book).idle }),
+          (record { legal = c.take_desk-desk.ensures.legal; inactive = stopped_inactive (past old) q stopped; idle = (may g at.After-take_desk-desk).idle }),
     )
 
 pub returns-in-NotYet-clause-round : goal.returns-in-NotYet-clause-round
@@ -189,7 +189,7 @@ returns-in-NotYet-clause-round g c =
     let s = g.S.Origin.origin.setting in
     let w : ℕ = c.args.station.now.number in
     let q : ℕ = c.args.query in
-    let old = c.take-desk.result in
+    let old = c.take_desk-desk.result in
     let a = c.in-NotYet.ensures.answer in
     let at = goal.at.returns-in-NotYet-clause-round g c in
     let seen = ap (λ (p : PassView). p.seen) c.give.ensures.pass ∙ a in
@@ -197,8 +197,8 @@ returns-in-NotYet-clause-round g c =
       loads = [];
       only_loads = tt;
       went = turned g at.After-give [] (a ∙ sym (append-nil old));
-      legal = subst (λ (l : List Entry). Legal s (past l)) (sym seen) c.book-book.ensures.legal;
-      may = subst (λ (l : List Entry). MayTurn s (past l) w q) (sym seen) (may g at.After-book-book);
+      legal = subst (λ (l : List Entry). Legal s (past l)) (sym seen) c.take_desk-desk.ensures.legal;
+      may = subst (λ (l : List Entry). MayTurn s (past l) w q) (sym seen) (may g at.After-take_desk-desk);
     }
 
 pub returns-in-Load-clause-round : goal.returns-in-Load-clause-round

@@ -13,15 +13,15 @@ use Rattle.cscan.proofs.Passing.{waits_again, went_on_since}
 use Rattle.cscan.proofs.Stories.{adds_these, went_turn}
 use Rattle.cscan.proofs.Scanning.{given_out}
 use Rattle.cscan.proofs.held.Held.release.Goals as goal
-use Rattle.cscan.proofs.held.Held.release.Goals.{After-book-book, Start}
+use Rattle.cscan.proofs.held.Held.release.Goals.{After-take_desk-desk, Start}
 
 -- what is out
 out : (g : _) (c : Start g) → IsGiven g.S.Origin.origin.setting c.args.scan.now.shape.now (past c.args.scan.now.station.now.pass.seen) c.args.scan.now.query c.args.self.given
 out g c = given_out g.S.Origin.origin g.C.Content.pieces c.args.scan.now c.args.self.given c.requires.scan c.requires.out
 
-went : (g : _) (c : After-book-book g) → WentOn g.S.Origin.origin.setting c.args.scan.now.station.now.number c.args.scan.now.station.now.pass.seen c.take-desk.result
+went : (g : _) (c : After-take_desk-desk g) → WentOn g.S.Origin.origin.setting c.args.scan.now.station.now.number c.args.scan.now.station.now.pass.seen c.take_desk-desk.result
 went g c =
-    went_on_since c.args.scan.now.baton.now g.S.Origin.origin c.args.scan.now.station.now.number c.args.scan.now.station.now.pass c.take-desk.result c.requires.scan.seated.0 c.book-book.ensures.legal c.take-desk.ensures.seen c.take-desk.ensures.mine
+    went_on_since c.args.scan.now.baton.now g.S.Origin.origin c.args.scan.now.station.now.number c.args.scan.now.station.now.pass c.take_desk-desk.result c.requires.scan.seated.0 c.take_desk-desk.ensures.legal c.take_desk-desk.ensures.seen c.take_desk-desk.ensures.mine
 
 pub unpin_all-requires-clause-pins : goal.unpin_all-requires-clause-pins
 unpin_all-requires-clause-pins g c = c.requires.scan.seated.1.1 ∙ ap (λ (o : Option Given). pins_of (slots_out o)) c.requires.out
@@ -34,14 +34,14 @@ pub release-requires-clause-holds : goal.release-requires-clause-holds
 release-requires-clause-holds g c κs within =
     let w : ℕ = c.args.scan.now.station.now.number in
     let q : ℕ = c.args.scan.now.query in
-    holds_stay g.S.Origin.origin.setting w c.args.scan.now.station.now.pass.seen c.take-desk.result (went g (goal.at.release-requires-clause-holds g c).After-book-book)
+    holds_stay g.S.Origin.origin.setting w c.args.scan.now.station.now.pass.seen c.take_desk-desk.result (went g (goal.at.release-requires-clause-holds g c).After-take_desk-desk)
     ∙ (c.requires.scan.at.holds ∙ ap (hold_of q) c.requires.out)
 
 pub give-requires-clause-story : goal.give-requires-clause-story
 give-requires-clause-story g c =
     let w : ℕ = c.args.scan.now.station.now.number in
-    adds_these c.args.scan.now.station.now.pass c.take-desk.new.pass w c.take-desk.result c.release.new.self (Release w c.args.scan.now.query c.args.self.given.chunk ∷ [])
-    c.take-desk.ensures.pass c.release.ensures.entries c.requires.scan.seated.0.1 (refl, tt)
+    adds_these c.args.scan.now.station.now.pass c.take_desk-desk.new.pass w c.take_desk-desk.result c.release.new.self (Release w c.args.scan.now.query c.args.self.given.chunk ∷ [])
+    c.take_desk-desk.ensures.pass c.release.ensures.entries c.requires.scan.seated.0.1 (refl, tt)
 
 pub returns-clause-scan : goal.returns-clause-scan
 returns-clause-scan g c =
@@ -50,12 +50,12 @@ returns-clause-scan g c =
     let q : ℕ = c.args.scan.now.query in
     let sits = c.requires.scan.seated in
     let u = c.unpin_all.ensures in
-    let b = (goal.at.returns-clause-scan g c).After-book-book in
+    let b = (goal.at.returns-clause-scan g c).After-take_desk-desk in
     let seen = ap (λ (p : PassView). p.seen) c.give.ensures.pass in
-    let may = c.release.ensures.may (runs_stay s w q c.args.scan.now.station.now.pass.seen c.take-desk.result (went g b) c.requires.scan.at.runs) in
+    let may = c.release.ensures.may (runs_stay s w q c.args.scan.now.station.now.pass.seen c.take_desk-desk.result (went g b) c.requires.scan.at.runs) in
     record {
       seated = (
-        waits_again c.args.scan.now.baton.now g.S.Origin.origin w c.args.scan.now.station.now.pass c.take-desk.new.pass c.give.new.pass c.take-desk.result c.release.new.self sits.0 c.take-desk.ensures.pass c.give.ensures.pass,
+        waits_again c.args.scan.now.baton.now g.S.Origin.origin w c.args.scan.now.station.now.pass c.take_desk-desk.new.pass c.give.new.pass c.take_desk-desk.result c.release.new.self sits.0 c.take_desk-desk.ensures.pass c.give.ensures.pass,
         ((ap (λ x. x.pool) u ∙ sits.1.0.0, ap (λ x. x.shape) u ∙ sits.1.0.1), ap (λ x. x.pins) u, ap (λ x. x.fill) u ∙ sits.1.2),
         sits.2,
       );
@@ -72,8 +72,8 @@ returns-clause-released g c =
     let q : ℕ = c.args.scan.now.query in
     let seen = ap (λ (p : PassView). p.seen) c.give.ensures.pass in
     record {
-      went = went_turn c.args.scan.now.station.now.pass c.take-desk.new.pass c.give.new.pass c.take-desk.result c.release.new.self (Release w q c.args.self.given.chunk ∷ [])
-          c.take-desk.ensures.pass c.give.ensures.pass c.give.ensures.mine c.take-desk.ensures.seen c.release.ensures.entries;
-      before = c.take-desk.result;
+      went = went_turn c.args.scan.now.station.now.pass c.take_desk-desk.new.pass c.give.new.pass c.take_desk-desk.result c.release.new.self (Release w q c.args.self.given.chunk ∷ [])
+          c.take_desk-desk.ensures.pass c.give.ensures.pass c.give.ensures.mine c.take_desk-desk.ensures.seen c.release.ensures.entries;
+      before = c.take_desk-desk.result;
       seen = seen ∙ c.release.ensures.entries;
     }

@@ -14,13 +14,13 @@ pub register-requires-clause-may : goal.register-requires-clause-may
 register-requires-clause-may g c κs within =
     let s = g.S.Origin.origin.setting in
     let p = c.args.station.now.pass in
-    registers_stay s c.args.station.now.number c.args.query p.seen c.take-desk.result c.book-book.ensures.start.setting
-    (went_on_since c.args.baton.now g.S.Origin.origin c.args.station.now.number p c.take-desk.result c.requires.seated.0 c.book-book.ensures.legal c.take-desk.ensures.seen c.take-desk.ensures.mine) c.requires.may
+    registers_stay s c.args.station.now.number c.args.query p.seen c.take_desk-desk.result c.take_desk-desk.ensures.start.setting
+    (went_on_since c.args.baton.now g.S.Origin.origin c.args.station.now.number p c.take_desk-desk.result c.requires.seated.0 c.take_desk-desk.ensures.legal c.take_desk-desk.ensures.seen c.take_desk-desk.ensures.mine) c.requires.may
 
 pub give-requires-clause-story : goal.give-requires-clause-story
 give-requires-clause-story g c =
-    adds_these c.args.station.now.pass c.take-desk.new.pass c.args.station.now.number c.take-desk.result c.register.new.self (Register c.args.station.now.number c.args.query ∷ [])
-    c.take-desk.ensures.pass c.register.ensures.entries c.requires.seated.0.1 (refl, tt)
+    adds_these c.args.station.now.pass c.take_desk-desk.new.pass c.args.station.now.number c.take_desk-desk.result c.register.new.self (Register c.args.station.now.number c.args.query ∷ [])
+    c.take_desk-desk.ensures.pass c.register.ensures.entries c.requires.seated.0.1 (refl, tt)
 
 pub returns-clause-scan : goal.returns-clause-scan
 returns-clause-scan g c =
@@ -29,7 +29,7 @@ returns-clause-scan g c =
     let may = c.register.ensures.may in
     record {
       seated = (
-        waits_again c.args.baton.now g.S.Origin.origin c.args.station.now.number c.args.station.now.pass c.take-desk.new.pass c.give.new.pass c.take-desk.result c.register.new.self c.requires.seated.0 c.take-desk.ensures.pass c.give.ensures.pass,
+        waits_again c.args.baton.now g.S.Origin.origin c.args.station.now.number c.args.station.now.pass c.take_desk-desk.new.pass c.give.new.pass c.take_desk-desk.result c.register.new.self c.requires.seated.0 c.take_desk-desk.ensures.pass c.give.ensures.pass,
         c.requires.seated.1,
         c.requires.seated.2,
       );
@@ -43,5 +43,5 @@ returns-clause-scan g c =
 
 pub returns-clause-went : goal.returns-clause-went
 returns-clause-went g c =
-    went_turn c.args.station.now.pass c.take-desk.new.pass c.give.new.pass c.take-desk.result c.register.new.self (Register c.args.station.now.number c.args.query ∷ [])
-    c.take-desk.ensures.pass c.give.ensures.pass c.give.ensures.mine c.take-desk.ensures.seen c.register.ensures.entries
+    went_turn c.args.station.now.pass c.take_desk-desk.new.pass c.give.new.pass c.take_desk-desk.result c.register.new.self (Register c.args.station.now.number c.args.query ∷ [])
+    c.take_desk-desk.ensures.pass c.give.ensures.pass c.give.ensures.mine c.take_desk-desk.ensures.seen c.register.ensures.entries
