@@ -6,7 +6,6 @@ use Rattle.std.proofs.lemmas.List.{length-map}
 use Rattle.std.proofs.lemmas.List.Elements.{recursion_from_All}
 use Rattle.std.proofs.lemmas.List.FromFn.{length-range_with_len}
 use Rattle.coop_outside.specs.Pieces.{Stored}
-use Rattle.table_core.specs.Dict.{Rises}
 use Rattle.table_core.specs.Sets.{Rising}
 use Rattle.table_core.specs.Table.{TableRows}
 use Rattle.table_core.specs.declared.cell.Cell.{Cell}
@@ -61,7 +60,7 @@ use Rattle.batch_run.proofs.Held.{table_put}
 use Rattle.batch_run.proofs.Matched.{matching_all}
 use Rattle.batch_run.proofs.Noted.{IsOpenAs, all_taken, has_room, opened, scans_are, zip_since}
 use Rattle.batch_run.proofs.Stories.{all_took, no_cause}
-use Rattle.batch_run.proofs.Tables.{fits_columns, is_plan, rows_wide, where_fits}
+use Rattle.batch_run.proofs.Tables.{dicts_rise, fits_columns, is_plan, rows_wide, where_fits}
 use Rattle.batch_run.proofs.Written.{read_written}
 
 -- the pieces of the table are put
@@ -133,13 +132,13 @@ module _ (table : TableRows) (dicts : List Fields) (tasks : List Task) (o : Opti
         pub agrees : Agrees (start_of setting mid) (past story) end
 
       module _ (old mid end : DepotView) (story : List Entry) (results : List Came) (put : IsPut s table.rows old mid) (run : HaveRun mid end story results) where
-        pub took_all : AllByRecursion (TookNeed zones o.parts story) ks
+        took_all : AllByRecursion (TookNeed zones o.parts story) ks
         took_all = all_took setting zones o.parts story is_setting has_room_for run.whole.legal ks (ap (map as_need) made.needs_are)
 
         few_zones : length zones ≤ 1024
         few_zones = omega (arith, count_zones, made.limits.few_chunks)
 
-        pub joinable_all : AreAllJoinable o.parts (length tasks) results
+        joinable_all : AreAllJoinable o.parts (length tasks) results
         joinable_all = all_joinable (start_of setting mid) (content_of s mid.held) s zones o.workers o.parts story some_rows made.options.parts.0 few_zones made.limits.few_rows 0 tasks results run.came took_all
 
         -- ---- what is noted
@@ -150,15 +149,15 @@ module _ (table : TableRows) (dicts : List Fields) (tasks : List Task) (o : Opti
               let Of = λ (l : List Need). AllZip (IsOpened o.parts) l before in
               opened zones o.parts story ks before (scans_are o.workers o.parts tasks 0 (some_queries tasks 1 257 (omega arith) made.numbers) (recursion_from_All (λ (t : Task). t.query * o.parts ≤ 256) tasks made.few_scans)) (subst Of made.needs_are open_)
 
-          pub room_for_all : All (HasRoomFor o.parts story) before
+          room_for_all : All (HasRoomFor o.parts story) before
           room_for_all = has_room zones o.parts story ks before took_all opened_as
 
-          pub taken_all : (after : List Taken) → AllZip (NotesAll o.parts story) before after → AllZip (IsTakenBy story) ks after
+          taken_all : (after : List Taken) → AllZip (NotesAll o.parts story) before after → AllZip (IsTakenBy story) ks after
           taken_all after noted = all_taken zones o.parts story ks before after opened_as noted
 
         -- ---- the story
 
-        pub story_over : IsStoryOver (batch_setting s zones tasks o name cursor) (is_some old.held) (counts old.gets old.faults) (counts end.gets end.faults) story
+        story_over : IsStoryOver (batch_setting s zones tasks o name cursor) (is_some old.held) (counts old.gets old.faults) (counts end.gets end.faults) story
         story_over =
             let Whole = λ (z : Setting). IsWholeStory z story in
             let Told = λ (b : Bool). Licensed b old.faults end.faults (past story) in
@@ -191,17 +190,18 @@ module _ (table : TableRows) (dicts : List Fields) (tasks : List Task) (o : Opti
           plans_each : AllByRecursion (λ (t : Task). IsPlanOfTable table.columns dicts t.plan) tasks
           plans_each = recursion_from_All (λ (t : Task). IsPlanOfTable table.columns dicts t.plan) tasks made.plans
 
-          pub lost_all : AllZip (λ (t : Task) (a : Answer). IsLostBy (past story) o.parts t.query (stop_of a)) tasks answers
+          lost_all : AllZip (λ (t : Task) (a : Answer). IsLostBy (past story) o.parts t.query (stop_of a)) tasks answers
           lost_all = zip_since (λ (t : Task). IsPlanOfTable table.columns dicts t.plan) IsAnswered (λ (t : Task) (a : Answer). IsLostBy (past story) o.parts t.query (stop_of a)) tasks answers plans_each (λ t a plan is. is.lost) each_answered
 
-          pub written_all : All Rises dicts → AllZip (λ (t : Task) (a : Answer). CanBeWritten dicts t.plan a) tasks answers
-          written_all rises =
+          written_all : AllZip (λ (t : Task) (a : Answer). CanBeWritten dicts t.plan a) tasks answers
+          written_all =
+              let rises = dicts_rise made.records table dicts o.layout o.per made.loaded in
               let Fits = λ (z : TableShape). (row : List Cell) → FitsShape z row → FitsRow table.columns dicts row in
               let fits = subst Fits (sym made.shape) (fits_columns made.records table dicts o.layout o.per made.loaded) in
               zip_since (λ (t : Task). IsPlanOfTable table.columns dicts t.plan) IsAnswered (λ (t : Task) (a : Answer). CanBeWritten dicts t.plan a) tasks answers plans_each
               (λ t a plan is. read_written s table.columns dicts t.plan is.read.rows a made.loaded.dict_count rises fits is.read.answer is.read.shaped) each_answered
 
-          pub answers_all : Tells old.held → AllZip (λ (t : Task) (a : Answer). IsAnswer t.plan table.rows a) tasks answers
+          answers_all : Tells old.held → AllZip (λ (t : Task) (a : Answer). IsAnswer t.plan table.rows a) tasks answers
           answers_all tells =
               let holds = table_put s table.rows old.held mid.held put.stored put.long put.words put.back put.sound tells in
               let of_shape : AreOfShape s table.rows = record { count = made.table_of.rows.count; width = rows_wide made.records table dicts o.layout o.per made.loaded s.kinds made.table_of.columns } in
@@ -212,3 +212,30 @@ module _ (table : TableRows) (dicts : List Fields) (tasks : List Task) (o : Opti
               let none = where_fits made.records table dicts o.layout o.per made.loaded Outside t.plan.cond plan.cond made.outside in
               answer_of_table t.plan table.rows a (subst Of (matching_all s table.rows zones made.table_of.rows.count count_zones t.plan some_rows none) (is.read.held table.rows of_shape holds)))
               each_answered
+
+        -- WHAT IS TOLD of a batch that has run: its results can be joined, its story is whole, each scan took its need, and what is
+        -- noted and answered then is so
+        pub record IsTold : Type 0 where
+          pub joinable : AreAllJoinable o.parts (length tasks) results
+          pub over : IsStoryOver (batch_setting s zones tasks o name cursor) (is_some old.held) (counts old.gets old.faults) (counts end.gets end.faults) story
+          pub took : AllByRecursion (TookNeed zones o.parts story) ks
+          pub room : (before : List Taken) → AllZip (IsOpened o.parts) ns before → All (HasRoomFor o.parts story) before
+          pub taken : (before : List Taken) → AllZip (IsOpened o.parts) ns before → (after : List Taken) → AllZip (NotesAll o.parts story) before after → AllZip (IsTakenBy story) ks after
+          pub lost : (answers : List Answer) (left : List Came) → length answers ≡ length tasks → AnswersSome o.parts results answers left
+              → AllZip (λ (t : Task) (a : Answer). IsLostBy (past story) o.parts t.query (stop_of a)) tasks answers
+          pub written : (answers : List Answer) (left : List Came) → length answers ≡ length tasks → AnswersSome o.parts results answers left
+              → AllZip (λ (t : Task) (a : Answer). CanBeWritten dicts t.plan a) tasks answers
+          pub right : (answers : List Answer) (left : List Came) → length answers ≡ length tasks → AnswersSome o.parts results answers left → Tells old.held
+              → AllZip (λ (t : Task) (a : Answer). IsAnswer t.plan table.rows a) tasks answers
+
+        pub told : IsTold
+        told = record {
+          joinable = joinable_all;
+          over = story_over;
+          took = took_all;
+          room = room_for_all;
+          taken = taken_all;
+          lost = lost_all;
+          written = written_all;
+          right = answers_all;
+        }

@@ -3,8 +3,9 @@ use Rattle.std.proofs.Common.{◌≡◌, ◌∙◌, ◌<◌, ◌≤◌, ◌+◌,
 use Rattle.std.specs.Prelude.{Option, Some, None, IfSome, All}
 use Rattle.std.proofs.Math.ListN.{get_or-map}
 use Rattle.std.proofs.lemmas.List.{length-map}
-use Rattle.std.proofs.lemmas.List.Elements.{All-get_or}
+use Rattle.std.proofs.lemmas.List.Elements.{All-from_get_or, All-get_or}
 use Rattle.table_core.specs.Chunk.{chunk_count}
+use Rattle.table_core.specs.Dict.{Rises}
 use Rattle.table_core.specs.Sets.{Rising}
 use Rattle.table_core.specs.Table.{TableRows}
 use Rattle.table_core.specs.Value.{FitsColumn}
@@ -16,6 +17,7 @@ use Rattle.table_core.specs.declared.schema.Kind.TheVariants as kinds
 use Rattle.csv_load.specs.Judged.{Fields}
 use Rattle.csv_load.specs.Loaded as loads
 use Rattle.csv_load.specs.Loaded.{IsLoaded}
+use Rattle.csv_load.specs.Meaning.{IsColumnDict}
 use Rattle.filter_zones.specs.Truth as codes
 use Rattle.filter_zones.specs.declared.cond.Cond.{Cond}
 use Rattle.piece_format.specs.Cells.{FitsKind, dict_len_at}
@@ -39,6 +41,12 @@ cond_fits : (o : Option Cond) (columns : List Column) (dicts : List (List (List 
 cond_fits None columns dicts row fits is = tt
 cond_fits (Some c) columns dicts row fits is = fits row is
 
+-- the dictionary of a column rises
+column_rises : (k : Kind) (fields dict : Fields) → IsColumnDict k fields dict → Rises dict
+column_rises kinds.Int fields dict is = subst Rises (sym is) (λ i j before low. absurd (omega (arith, low)))
+column_rises kinds.Text fields dict is = is.rises
+column_rises (kinds.Dec places) fields dict is = subst Rises (sym is) (λ i j before low. absurd (omega (arith, low)))
+
 module _ (records : List Fields) (table : TableRows) (dicts : List Fields) (layout : Layout) (per : ℕ) (loaded : IsLoaded records table dicts) where
   wide : length (map (λ (c : Column). c.kind) table.columns) ≡ length table.columns
   wide = length-map table.columns (λ (c : Column). c.kind)
@@ -53,6 +61,9 @@ module _ (records : List Fields) (table : TableRows) (dicts : List Fields) (layo
     few_rows = loaded.few_rows;
     few_chunks = few;
   }
+
+  pub dicts_rise : All Rises dicts
+  dicts_rise = All-from_get_or Rises dicts [] (λ k low. column_rises _ _ (get_or dicts k []) (loaded.dictionaries k (omega (arith, low, loaded.dict_count))))
 
   -- the rows of the table
   row_at : (row : ℕ) → row < length table.rows → loads.FitsRow table.columns dicts (get_or table.rows row [])

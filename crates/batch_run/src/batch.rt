@@ -21,7 +21,7 @@ use crate::answering::answer_all;
 use crate::batch_end::BatchEnd;
 use crate::picking::run_put;
 use crate::running::ScansEnd;
-use crate::setup::{Setup, all_rise, set_up};
+use crate::setup::{Setup, set_up};
 use crate::takings::note_all;
 use batch_plan::{Options, Task};
 use coop_outside::Depot;
@@ -99,8 +99,6 @@ pub fn run_batch<P: Policy, D: Depot + Send, T: Gate + Sync, R: Threads + Wait +
 {
     let mut depot = depot;
     let Loaded { table, dicts } = loaded;
-    // It says of the dictionaries what `written` rests on.
-    all_rise(&dicts);
     let setup = match set_up(alloc, &table, &dicts, tasks, options) {
         Ok(setup) => setup,
         Err(_) => return Err((depot, BatchRefusal::Memory)),

@@ -1,7 +1,6 @@
 // What a batch makes before its scans.
 ghost use Rattle.std.specs.Prelude.{◌≡◌, ◌≤◌, ◌*◌, [], All, IfOk, IfSome, IsOk, List, Some, ℕ, length, map, vec_capacity};
 ghost use Rattle.std.specs.List.{AllZip};
-ghost use Rattle.table_core.specs.Dict.{Rises};
 ghost use Rattle.table_core.specs.Sets.{Rising};
 ghost use Rattle.filter_zones.specs.Possible as possible;
 ghost use Rattle.filter_zones.specs.Truth.{FitsRow};
@@ -35,15 +34,6 @@ pub(crate) struct Setup {
     pub(crate) answers: Vec<Answer>,
     /// Who each scan is, with room for the chunks that it needs.
     pub(crate) taken: Vec<Taken>,
-}
-
-/// Each dictionary rises, as its `len` says.
-pub(crate) fn all_rise(dicts: &[Dict])
-    ensures { All Rises dicts.now }
-{
-    for dict in dicts {
-        let _count = dict.len();
-    }
 }
 
 /// Makes what the scans of a batch share, with room for an answer to each task.
