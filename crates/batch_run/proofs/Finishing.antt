@@ -49,7 +49,7 @@ use Rattle.batch_run.specs.Workers.{HasRun, Rests}
 use Rattle.batch_run.proofs.Coming.{came_later, came_over, over_inactive}
 use Rattle.batch_run.proofs.Delivered.{reverse-first}
 use Rattle.batch_run.proofs.Endings.{idle_at_end, none_underway}
-use Rattle.batch_run.proofs.Placing.{zip_length}
+use Rattle.baton.proofs.Zips.{zip_length}
 use Rattle.batch_run.proofs.Registered.{registered_by, registered_once}
 use Rattle.batch_run.proofs.Serving.{AreOn, all_on}
 use Rattle.batch_run.proofs.Sorting.{map_at}

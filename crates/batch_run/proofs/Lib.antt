@@ -23,5 +23,4 @@ mod Placing
 mod Endings
 mod Planned
 mod Finishing
-mod Zips
 mod Working

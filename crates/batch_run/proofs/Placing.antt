@@ -1,34 +1,10 @@
 -- The scans of a batch by their places: each task has as many of them as there are parts.
 use Rattle.std.proofs.Common.{◌≡◌, ◌<◌, ◌≤◌, ◌+◌, ◌-◌, ◌*◌, ◌/◌, ◌++◌, ◌∷◌, [], ℕ, zero, suc, List, get_or, length, add-one, arith, length-append, refl, sym, ap, ◌∙◌, subst, ⊎_elim}
-use Rattle.std.specs.List.{AllZip}
 use Rattle.std.proofs.Math.Nat.{add-mul, div-eq-sub-div, div-eq_of_lt, div-lt_iff_lt-mul}
 use Rattle.std.proofs.lemmas.Bool.{cases_lt}
 use Rattle.std.proofs.lemmas.List.{get_or-append_right, get_or_append_left}
 use Rattle.batch_plan.specs.declared.task.Task.{Task}
 use Rattle.batch_plan.specs.Scans.{Scan, scans, scans_from, scans_from_part}
-
-pub zip_length : {A B : Type 0} (R : A → B → Type 0) (xs : List A) (ys : List B) → AllZip R xs ys → length xs ≡ length ys
-zip_length R [] [] all = refl
-zip_length R [] (y ∷ ys) all = absurd all
-zip_length R (x ∷ xs) [] all = absurd all
-zip_length R (x ∷ xs) (y ∷ ys) all = ap suc (zip_length R xs ys all.1)
-
-pub zip_at : {A B : Type 0} (R : A → B → Type 0) (xs : List A) (ys : List B) (i : ℕ) (d : A) (e : B) → i < length ys → AllZip R xs ys → R (get_or xs i d) (get_or ys i e)
-zip_at R [] [] i d e low all = absurd (omega (arith, low))
-zip_at R [] (y ∷ ys) i d e low all = absurd all
-zip_at R (x ∷ xs) [] i d e low all = absurd all
-zip_at R (x ∷ xs) (y ∷ ys) zero d e low all = all.0
-zip_at R (x ∷ xs) (y ∷ ys) (suc i) d e low all = zip_at R xs ys i d e (omega (arith, low)) all.1
-
-pub zip_push : {A B : Type 0} (R : A → B → Type 0) (xs : List A) (ys : List B) (x : A) (y : B) → AllZip R xs ys → R x y → AllZip R (xs ++ x ∷ []) (ys ++ y ∷ [])
-zip_push R [] [] x y all here = (here, tt)
-zip_push R [] (b ∷ ys) x y all here = absurd all
-zip_push R (a ∷ xs) [] x y all here = absurd all
-zip_push R (a ∷ xs) (b ∷ ys) x y all here = (all.0, zip_push R xs ys x y all.1 here)
-
-pub zip_pushed : {A B : Type 0} (R : A → B → Type 0) (xs us : List A) (ys vs : List B) (x : A) (y : B) → us ≡ xs ++ x ∷ [] → vs ≡ ys ++ y ∷ [] → AllZip R xs ys → R x y → AllZip R us vs
-zip_pushed {A} {B} R xs us ys vs x y left right all here =
-    subst (λ (l : List B). AllZip R us l) (sym right) (subst (λ (l : List A). AllZip R l (ys ++ y ∷ [])) (sym left) (zip_push R xs ys x y all here))
 
 module _ (w m : ℕ) (some : 1 ≤ m) where
   part_count : (t : Task) (place part left : ℕ) → length (scans_from_part w m t place part left) ≡ left

@@ -20,6 +20,7 @@ use Rattle.story_laws.specs.Lists.{NoneTwice}
 use Rattle.story_laws.specs.Queries.{chunks_delivered}
 use Rattle.story_laws.proofs.Bools.{either, equal_number, if_not, not_both, or_false, or_off, same_number}
 use Rattle.baton.specs.Passes.{PassView}
+use Rattle.baton.proofs.Zips.{zip_push}
 use Rattle.frame_pool.specs.Berths.{PoolView}
 use Rattle.frame_pool.specs.Frames.{Told}
 use Rattle.piece_format.specs.Shape.{TableShape}
@@ -123,12 +124,6 @@ module _ (o : Start) (told : Told) (z : TableShape) (id : TableId) (w q : ℕ) (
       let same : chunks_delivered (entries_by w r.seen) j.number ≡ chunks_delivered (entries_by w p.seen) j.number =
       ap (λ (l : List Entry). chunks_delivered l j.number) waits.4 ∙ (ran.others j.number other ∙ ap (λ (l : List Entry). chunks_delivered l j.number) (sym was.4)) in
       (came_later o told z w j.number j.plan.now x p.seen r.seen on.0 legal ran.went.seen same came.0, came_all js rs on.1 parts.1 came.1)
-
-zip_push : (R : Job → Result Partial Cause → Type 0) (js : List Job) (rs : List (Result Partial Cause)) (j : Job) (x : Result Partial Cause) → AllZip R js rs → R j x → AllZip R (js ++ j ∷ []) (rs ++ x ∷ [])
-zip_push R [] [] j x all here = (here, tt)
-zip_push R [] (y ∷ rs) j x all here = absurd all
-zip_push R (k ∷ js) [] j x all here = absurd all
-zip_push R (k ∷ js) (y ∷ rs) j x all here = (all.0, zip_push R js rs j x all.1 here)
 
 -- and of one more
 pub came_more : (o : Start) (told : Told) (z : TableShape) (id : TableId) (w : ℕ) (js : List Job) (rs : List (Result Partial Cause)) (j : Job) (x : Result Partial Cause) (p r : PassView)

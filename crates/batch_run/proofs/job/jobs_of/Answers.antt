@@ -7,7 +7,8 @@ use Rattle.batch_plan.specs.Scans.{Scan, scan_of, scans}
 use Rattle.batch_run.specs.declared.job.Job.{Job}
 use Rattle.batch_run.specs.Came.{IsNeedOf}
 use Rattle.batch_run.specs.Jobs.{IsJobOf}
-use Rattle.batch_run.proofs.Placing.{plan_there, task_there, zip_at, zip_length, zip_pushed}
+use Rattle.baton.proofs.Zips.{zip_at, zip_length, zip_pushed}
+use Rattle.batch_run.proofs.Placing.{plan_there, task_there}
 use Rattle.batch_run.proofs.job.jobs_of.Goals as goal
 
 pub bounds-tasks-place : goal.bounds-tasks-place

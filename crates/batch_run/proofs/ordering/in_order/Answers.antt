@@ -7,7 +7,7 @@ use Rattle.query_gather.specs.declared.partial.Partial.{Partial}
 use Rattle.batch_run.specs.declared.job.Job.{Job}
 use Rattle.batch_run.specs.Jobs.{jobs_on}
 use Rattle.batch_run.specs.Lists.{AreCounted, AreSorted, CameOfAll, CameOfJob, list_of}
-use Rattle.batch_run.proofs.Placing.{zip_pushed}
+use Rattle.baton.proofs.Zips.{zip_pushed}
 use Rattle.batch_run.proofs.Sorting.{came_next, counted_next, map_at, not_empty, sorted_next}
 use Rattle.batch_run.proofs.ordering.in_order.Goals as goal
 use Rattle.batch_run.proofs.ordering.in_order.Goals.{After-pop_front}

@@ -5,7 +5,7 @@ use Rattle.batch_run.specs.declared.worker.Worker.{Worker}
 use Rattle.batch_run.specs.Crews.{IsFresh}
 use Rattle.batch_run.specs.Jobs.{jobs_on}
 use Rattle.batch_run.specs.Workers.{HasRun}
-use Rattle.batch_run.proofs.Placing.{zip_length}
+use Rattle.baton.proofs.Zips.{zip_length}
 use Rattle.batch_run.proofs.Working.{done_all, ready_all, run_seated, same_workers}
 use Rattle.batch_run.proofs.running.work.Goals as goal
 

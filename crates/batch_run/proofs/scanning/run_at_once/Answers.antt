@@ -7,7 +7,7 @@ use Rattle.sql_bind.specs.contracts.plan.Plan as plan
 use Rattle.batch_run.specs.contracts.job.Job as job
 use Rattle.batch_run.specs.declared.worker.Worker.{Worker}
 use Rattle.batch_run.specs.Workers.{HasDone}
-use Rattle.batch_run.proofs.Zips.{zip_each}
+use Rattle.baton.proofs.Zips.{zip_each}
 use Rattle.batch_run.proofs.scanning.run_at_once.Goals as goal
 
 -- a job may be shared where its plan may
