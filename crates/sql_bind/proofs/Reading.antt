@@ -1,8 +1,9 @@
 -- The columns that a plan reads are those that its query names.
 use Rattle.std.proofs.Common.{◌≡◌, ◌∙◌, ◌<◌, ◌≤◌, ℕ, zero, suc, Bool, true, false, List, [], ◌∷◌, ◌++◌, length, map, refl, sym, subst, arith, inl, inr}
-use Rattle.std.specs.Prelude.{All, Option, Some, None, IfOk, Result, Ok, Err, find, flat_map, option_map, ◌==◌, ◌||◌}
+use Rattle.std.specs.Prelude.{All, Option, Some, None, IfOk, Result, Ok, Err, find, flat_map, option_map, ◌==◌}
 use Rattle.std.specs.List.{AllByRecursion}
 use Rattle.std.proofs.lemmas.Bool.{cases_Bool, false≢true, lt-ltb, eq-eqb, eqb-true}
+use Rattle.std.proofs.Math.Bool.{or-true}
 use Rattle.std.proofs.lemmas.List.Elements.{All-from_recursion, All-append, All-weaker}
 use Rattle.table_core.specs.Sets.{has, numbers_below}
 use Rattle.table_core.proofs.Members.{has-numbers}
@@ -127,10 +128,6 @@ in_row n (Min x) r = r
 in_row n (Max x) r = r
 in_row n (Key j) r = tt
 
-or_true : (a : Bool) → (a || true) ≡ true
-or_true true = refl
-or_true false = refl
-
 -- a column that a place names is a member
 pub named_here : (columns : List Column) (ps : List Place) → length columns ≤ 16 → AllByRecursion (λ (p : Place). column_of columns p.0 < length columns) ps
     → AllByRecursion (λ (p : Place). has (named_columns columns ps) (column_of columns p.0) ≡ true) ps
@@ -144,7 +141,7 @@ named_here columns (p ∷ ps) few known = each (p ∷ ps) known (λ x h. h) wher
   each [] k some = tt
   each (r ∷ rest) k some = (
     member (column_of columns r.0) k.0 (some (column_of columns r.0) (rw (eq-eqb (column_of columns r.0) (column_of columns r.0) refl) refl)),
-    each rest k.1 (λ x h. some x (rw h (or_true (x == column_of columns r.0)))),
+    each rest k.1 (λ x h. some x (rw h (or-true (x == column_of columns r.0)))),
   )
 
 known_all : (columns : List Column) (ps : List Place) → find (is_unknown columns) ps ≡ None → AllByRecursion (λ (p : Place). column_of columns p.0 < length columns) ps

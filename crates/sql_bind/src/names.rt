@@ -30,14 +30,10 @@ pub fn column_of(columns: &[Column], name: &[u8]) -> u32
 
 /// The kind of the first column of this name, if there is one.
 pub fn kind_of(columns: &[Column], name: &[u8]) -> Option<Kind>
-    ensures { result ≡ spec.kind_of columns.entry.now name.now }
+    ensures { result ≡ spec.kind_of columns.now name.now }
 {
-    let mut left = columns;
-    while let [column, rest @ ..] = left {
-        if is_called(name, column) {
-            return Some(column.kind);
-        }
-        left = rest;
-    }
-    None
+    columns
+        .iter()
+        .find(|column| is_called(name, column))
+        .map(|column| column.kind)
 }
