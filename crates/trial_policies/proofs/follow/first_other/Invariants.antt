@@ -4,4 +4,4 @@ use Rattle.interest_book.specs.Stands.{Stands}
 use Rattle.trial_policies.proofs.follow.first_other.Given as goal
 
 abbrev pub invariant-loop-i : goal.invariant-loop-i
-invariant-loop-i l = Stands l.book l.s (past (take l.i l.entries))
+invariant-loop-i g l = Stands l.book l.s (past (take l.i l.entries))
