@@ -2,6 +2,13 @@
 //!
 //! A `Desk` keeps the book, the story, the policy and, while no load is underway, the depot. Each of its calls appends
 //! the entries that it names, and its type keeps that the story is legal. `docs/MANAGER.md` has the turn as a table.
+//!
+//!     let mut desk = Desk::new(alloc, needs, chunks, workers, frames, groups, Relevance, depot)?;
+//!     desk.register(worker, query);
+//!     match desk.turn(worker, query) {
+//!         Turn::Take { chunk, slots } => desk.release(worker, query, chunk),
+//!         Turn::Load(ticket, depot) => desk.filled(ticket, depot),    // once each piece is read
+//!         Turn::NotYet | Turn::Finished | Turn::Stopped(_) => {}
 #![tactic(auto)]
 
 mod cause;

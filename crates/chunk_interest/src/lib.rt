@@ -2,6 +2,13 @@
 //!
 //! The manager's book stands on it: `Clients` has what is kept of each query, and `Buffer` the frames and where each
 //! piece stands. Each follows the entries that touch it, and answers its numbers without a walk through a story.
+//!
+//!     let mut clients = Clients::new(alloc, &needs, groups)?;
+//!     let mut buffer = Buffer::new(alloc, frames, groups)?;
+//!     clients.register(query, noted);                   // each follows the entries that touch it
+//!     buffer.begin(frame, piece);
+//!     buffer.finish(frame, piece, true);
+//!     let scans = clients.interested(chunk);
 #![tactic(auto)]
 
 mod buffer;

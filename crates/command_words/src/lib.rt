@@ -1,6 +1,11 @@
 //! The words of the command line: what they ask for, or that they are refused.
 //!
 //! `clap` reads the words; numbers, names and what goes together are judged here. docs/COMMAND_LINE.md is the manual.
+//!
+//!     let words = ["--threads", "8", "orders.csv", "report.sql"];
+//!     let request = options_of(alloc, Call::Run, &words)?;    // or Refused::Usage
+//!     let table = request.table;                        // a file's name, or a generated table's seed and rows
+//!     let scratch = scratch_of(alloc, &words)?;         // None
 #![tactic(auto)]
 
 mod call;

@@ -2,6 +2,14 @@
 //! name, a sink takes bytes. Each device counts its faults, and a call may fail only where that count
 //! rose; so a caller can say why an answer is missing. The devices in memory tell all that they hold, and
 //! fail at the calls that a test lists; the real ones stand on files and on standard output.
+//!
+//!     let mut shelf = DiskShelf::new(rt);
+//!     let table = read_all(alloc, &mut shelf, "orders.csv", 268435456)?;    // or Fault, TooLong, Memory
+//!     let mut depot = MemDepot::new(alloc);
+//!     depot.put(0, &words)?;
+//!     depot.get(0, &mut buf)?;                          // a fault is counted: depot.faults()
+//!     write_all(&mut StdoutSink::new(rt), &text)?;      // or how many bytes are gone
+//!
 //! docs/DEVICES.md has the promises in one place.
 #![tactic(auto)]
 

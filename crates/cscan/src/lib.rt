@@ -2,6 +2,15 @@
 //!
 //! A `CScan` takes the chunks that a query needs, one after another, in whatever order the manager gives them. It loads
 //! pieces where the manager says so, pins the frames of the chunk that it has out, and reads cells under these pins.
+//!
+//!     let mut scan = CScan::begin(rt, &baton, &pool, &shape, &mut station, query);
+//!     while let Next::Chunk(held) = scan.next(rt) {
+//!         for row in 0..held.rows() {
+//!             let cell = held.cell(&mut scan, row, column);
+//!         }
+//!         held.release(rt, &mut scan);
+//!     }
+//!
 //! docs/SCANS.md has the life of a chunk as a picture.
 #![tactic(auto)]
 

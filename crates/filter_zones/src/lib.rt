@@ -1,4 +1,10 @@
 //! Conditions on the rows of a table, the zones of its chunks, and the chunks that a condition needs.
+//!
+//!     let cond = Cond::Compare { column: 0, op: Op::Lt, value: Bound::Number(20) };    // below 10
+//!     let truth = truth_of(&cond, row);                 // False, Unknown or True
+//!     let zones = zones_of(columns, cells);             // of one chunk, its cells row by row
+//!     let truths = may_be(&cond, &zones);               // those that a row of the chunk can have
+//!     let chunks = needed(Some(&cond), &all_zones);     // those in which a row may match
 #![tactic(auto)]
 
 mod cond;

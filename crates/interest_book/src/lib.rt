@@ -2,6 +2,12 @@
 //!
 //! A book follows a story entry by entry and answers each number of the story so far. `docs/MANAGER.md` tells the
 //! rules and how each number is kept.
+//!
+//!     let mut book = Book::new(alloc, needs, chunks, workers, frames, groups)?;
+//!     book.note(&Entry::Register { worker: 0, query: 1 });
+//!     let starved = book.starved(1);
+//!     let targets = book.targets(1);                    // the chunks that may be loaded for it
+//!     let free = book.free_frames();
 #![tactic(auto)]
 
 mod book;

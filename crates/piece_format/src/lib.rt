@@ -1,5 +1,11 @@
 //! Pieces: the chunks of a table as words of 64 bits and as bytes, row by row or column by column. docs/PIECES.md has the
 //! formats.
+//!
+//!     let piece = piece_of(&shape, chunk, group);
+//!     let words = encode(alloc, &shape, &table, piece)?;
+//!     let bytes = words_to_bytes(alloc, &words)?;       // what a depot holds
+//!     check(&shape, piece, bytes.as_slice())?;          // or the first word that is damaged
+//!     let cell = read_cell(&shape, Piece::of(&shape, piece), bytes.as_slice(), row, column);
 #![tactic(auto)]
 
 mod cells;

@@ -1,5 +1,8 @@
 //! A policy in a box, and the policy elevator.
 //!
+//!     policies.push(into_dyn_box(Elevator::new()))?;
+//!     let found = choose(policies, PolicyName::Elevator);    // Some(Boxed), a policy itself, or None
+//!
 //! `docs/POLICIES.md` tells the rules.
 #![tactic(auto)]
 

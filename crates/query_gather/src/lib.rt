@@ -1,5 +1,12 @@
 //! What a query's scan gathers of the rows that match, and what the query is answered.
 //!
+//!     let mut part = Partial::of(alloc, &plan)?;
+//!     part.add_row(&plan, number, row)?;                // takes the row where it matches
+//!     let whole = join_parts(part, others)?;
+//!     match whole.finish() {
+//!         Answer::Stopped(cause) => ..,
+//!         answer => ..,                                 // rows, or a sum that overflows
+//!
 //! `docs/ANSWERS.md` says what is gathered, and how parts are joined.
 #![tactic(auto)]
 

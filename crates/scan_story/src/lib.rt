@@ -2,6 +2,11 @@
 //!
 //! A manager of cooperative scans keeps a story: the list of the entries that its workers made. This crate has
 //! the entries, their text, and every definition by which a story is judged. `docs/MANAGER.md` tells the rules.
+//!
+//!     let mut story = Story::with_room(alloc, capacity(chunks, queries, groups))?;
+//!     story.push(Entry::Register { worker: 0, query: 1 });
+//!     let text = write_story(alloc, story.entries())?;  // a line for each entry
+//!     let again = read_story(alloc, text.as_slice())?;  // the same entries, or the line that is none
 #![tactic(auto)]
 
 mod bytes;

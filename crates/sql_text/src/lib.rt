@@ -1,5 +1,9 @@
 //! Reads the text of a query into a tree.
 //!
+//!     let query = read_query(alloc, b"SELECT COUNT(*) FROM t WHERE a < 10")?;    // or TextRefusal
+//!     let text = write_query(alloc, &query)?;           // in its one form
+//!     let again = read_query(alloc, text.as_slice())?;  // the same query
+//!
 //! `docs/SQL.md` has the language.
 #![tactic(auto)]
 

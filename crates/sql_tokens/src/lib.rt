@@ -1,5 +1,9 @@
 //! Cuts a batch of SQL into its statements, and a statement into tokens.
 //!
+//!     let spans = split(alloc, batch)?;                 // where each statement begins and ends
+//!     let tokens = lex(alloc, statement)?;              // or TextRefusal::Syntax
+//!     let keyword = keyword_of(b"select");              // Some(Keyword::Select)
+//!
 //! `docs/SQL.md` has the language.
 #![tactic(auto)]
 

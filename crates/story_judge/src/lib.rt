@@ -2,6 +2,10 @@
 //!
 //! It asks `story_views` what the list says before each entry, so it is slow, and meant for stories of tens of entries.
 //! It takes every policy and both layouts, and its contracts are the definitions. `docs/MANAGER.md` tells the rules.
+//!
+//!     let first = first_illegal(alloc, &setting, &entries)?;    // None: the story is legal
+//!     let whole = is_whole(alloc, &setting, &entries)?;    // and nothing is underway at its end
+//!     let calm = is_undisturbed(&setting, &entries);    // and nobody refilled a held frame
 #![tactic(auto)]
 
 mod choices;

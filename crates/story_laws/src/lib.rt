@@ -4,6 +4,9 @@
 //! Each law is the contract of a function that does nothing. A law speaks of every setting that a manager may be made
 //! for with three frames for each worker and one more, counted in chunks, and of every legal list of entries, the
 //! newest first. `docs/MANAGER.md` tells each in a sentence.
+//!
+//!     legal_stories_are_undisturbed();                  // from here on the prover has the law
+//!     chunks_are_delivered_once();
 #![tactic(auto)]
 
 mod bounds;

@@ -3,6 +3,12 @@
 //!
 //! Each definition walks the whole list anew, so it is slow, and meant for stories of tens of entries. It takes every
 //! policy and both layouts, and its contracts are the definitions. `docs/MANAGER.md` tells the rules.
+//!
+//!     let needs = needs_chunk(&setting, &entries, query, chunk);
+//!     let held = held_by(&entries, worker);             // its query and chunk
+//!     let starved = is_starved(&setting, &entries, query);
+//!     let load = underway(alloc, &setting, &entries)?;
+//!     let victim = is_victim(&setting, &entries, &load, chunk);
 #![tactic(auto)]
 
 mod candidates;

@@ -1,4 +1,10 @@
 //! A table as its pieces: its shape, its pieces put into a depot one after another, and the zones of its chunks.
+//!
+//!     let shape = shape_of(alloc, &table, &dicts, Layout::Row, 1024)?;
+//!     let zones = zones_of_chunks(alloc, &shape, &table)?;
+//!     put_pieces(alloc, &shape, &table, &mut depot)?;   // or the piece that was not stored
+//!     let chunks = chunks_of(&shape);
+//!
 //! docs/PIECES.md and docs/ZONES.md have the rules.
 #![tactic(auto)]
 

@@ -1,4 +1,10 @@
 //! The first rows in an order that a query asks for, in whatever order rows come.
+//!
+//!     let order = Order { column: 1, descending: true };
+//!     let mut top = TopRows::new(alloc, RowPlan { columns, order: orders, limit: 10 })?;
+//!     top.add(number, row)?;                            // in any order of the rows
+//!     top.merge(other)?;                                // what others kept
+//!     let rows = top.finish()?;                         // equal ones by their numbers
 #![tactic(auto)]
 
 mod order;
