@@ -32,6 +32,3 @@ pub use waiting::{
     active_queries_are_last, holds_stay, loads_stay, queries_run_on, registers_stay, turns_stay,
     workers_rest_alone,
 };
-
-#[cfg(test)]
-mod tests;

@@ -15,10 +15,6 @@ mod laws;
 mod needs;
 mod options;
 mod task;
-#[cfg(test)]
-mod tests;
-#[cfg(test)]
-mod tests_of_parts;
 
 pub use dealing::deal;
 pub use laws::all_are_dealt;

@@ -20,6 +20,3 @@ pub mod view;
 
 pub use baton::Baton;
 pub use pass::Pass;
-
-#[cfg(test)]
-mod tests;

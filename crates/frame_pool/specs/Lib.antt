@@ -3,4 +3,3 @@ pub mod Frames
 pub mod Steps
 pub mod Berths
 pub mod Pairs
-pub mod Games

@@ -21,8 +21,6 @@ mod pinning;
 mod plays;
 mod pool;
 mod rule;
-#[cfg(test)]
-mod tests;
 mod view;
 
 pub use berth::Berth;

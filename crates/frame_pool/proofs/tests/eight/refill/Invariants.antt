@@ -1,6 +1,0 @@
-use Rattle.std.proofs.Common.{◌≡◌, ℕ, List, length, Some}
-use Rattle.frame_pool.specs.Views.{filling}
-use Rattle.frame_pool.proofs.tests.eight.refill.Given as goal
-
-abbrev pub invariant-loop-i : goal.invariant-loop-i
-invariant-loop-i g l = (ws : List ℕ) × (l.berth ≡ record l.fn.berth { fill = Some (filling l.frame ws) }) × (length ws ≡ l.i)

@@ -1,5 +1,0 @@
-use Rattle.std.proofs.Common.{[], ◌∷◌, Some}
-use Rattle.frame_pool.proofs.tests.two.an_abandoned_frame_is_free_again.Given as goal
-
-abbrev pub ghosts-give_up : goal.ghosts-give_up
-ghosts-give_up g a = record { pieces = Some ((11 ∷ 12 ∷ []) ∷ (21 ∷ 22 ∷ []) ∷ []) }

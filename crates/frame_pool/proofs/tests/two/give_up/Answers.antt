@@ -1,8 +1,0 @@
-use Rattle.std.proofs.Common.{refl, subst}
-use Rattle.frame_pool.specs.Frames.{Told}
-use Rattle.frame_pool.specs.Pairs.{IsPair}
-use Rattle.frame_pool.proofs.tests.two.give_up.Goals as goal
-
-pub returns : goal.returns
-returns g c =
-    subst (λ (t : Told). IsPair t 1 c.read-words.result) c.requires c.read-words.ensures.words 21 22 refl

@@ -1,8 +1,0 @@
-use Rattle.std.proofs.Common.{refl, subst}
-use Rattle.frame_pool.specs.Frames.{Told}
-use Rattle.frame_pool.specs.Pairs.{IsPair}
-use Rattle.frame_pool.proofs.tests.two.share.Goals as goal
-
-pub returns : goal.returns
-returns g c =
-    subst (λ (t : Told). IsPair t 0 c.at_once.new.second.words) c.requires c.at_once.ensures.second.1 11 12 refl

@@ -1,5 +1,0 @@
-use Rattle.std.proofs.Common.{[], ◌∷◌, Some}
-use Rattle.frame_pool.proofs.tests.two.two_berths_fill_read_and_refill_a_frame.Given as goal
-
-abbrev pub ghosts-refill : goal.ghosts-refill
-ghosts-refill g a = record { pieces = Some ((11 ∷ 12 ∷ []) ∷ (21 ∷ 22 ∷ []) ∷ []) }

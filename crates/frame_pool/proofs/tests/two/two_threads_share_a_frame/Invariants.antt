@@ -1,5 +1,0 @@
-use Rattle.std.proofs.Common.{[], ◌∷◌, Some}
-use Rattle.frame_pool.proofs.tests.two.two_threads_share_a_frame.Given as goal
-
-abbrev pub ghosts-share : goal.ghosts-share
-ghosts-share g a = record { pieces = Some ((11 ∷ 12 ∷ []) ∷ []) }
