@@ -28,8 +28,6 @@ mod shelf;
 mod sink;
 mod spoilt_depot;
 mod stdout_sink;
-#[cfg(test)]
-mod tests;
 mod writing;
 
 pub use any_depot::AnyDepot;

@@ -13,8 +13,6 @@ mod machine;
 mod phase;
 mod state;
 mod step;
-#[cfg(test)]
-mod tests;
 mod word;
 
 pub use machine::{NotAllowed, apply};

@@ -30,6 +30,3 @@ pub use setting::{Need, PolicyName, Setting};
 pub use story::{Story, capacity};
 pub use view::{Hold, Load, Phase};
 pub use write::write_story;
-
-#[cfg(test)]
-mod tests;

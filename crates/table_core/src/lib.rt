@@ -24,8 +24,6 @@ mod memory;
 mod op;
 mod schema;
 mod table;
-#[cfg(test)]
-mod tests;
 mod texts;
 mod value_text;
 mod words;

@@ -1,10 +1,10 @@
 // What no contract says: that calls succeed with ample memory, and that the definitions mean what people expect.
-use crate::{
+use std::alloc::{AllocError, Global};
+use std::test::Fail;
+use table_core::{
     Bytes, Cell, ChunkSet, Column, ColumnSet, Dict, Kind, Schema, Table, Texts, chunk_count,
     chunk_span, write_quoted, write_value,
 };
-use std::alloc::{AllocError, Global};
-use std::test::Fail;
 
 fn bytes_of(alloc: Global, text: &[u8]) -> Result<Bytes, AllocError> {
     Ok(Bytes::new(Vec::from_slice(alloc, text)?))
