@@ -12,8 +12,6 @@ mod place;
 mod rows;
 mod running;
 mod table;
-#[cfg(test)]
-mod tests;
 mod text;
 
 pub use groups::Groups;

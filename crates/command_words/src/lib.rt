@@ -23,6 +23,3 @@ pub use names::{Batch, Table};
 pub use options::{options_of, scratch_of};
 pub use request::Request;
 pub use scan_story::{Memory, PolicyName};
-
-#[cfg(test)]
-mod tests;

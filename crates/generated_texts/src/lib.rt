@@ -12,6 +12,3 @@ mod table;
 
 pub use batch::batch_text;
 pub use table::table_text;
-
-#[cfg(test)]
-mod tests;

@@ -13,8 +13,6 @@
 mod answer;
 mod laws;
 mod partial;
-#[cfg(test)]
-mod tests;
 
 pub use answer::Answer;
 pub use laws::{alike_parts, answer_agrees, answer_of_table, any_order, can_be_written};

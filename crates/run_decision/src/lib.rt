@@ -19,8 +19,6 @@ mod decision;
 mod output;
 mod ran;
 mod tasks;
-#[cfg(test)]
-mod tests_of_counts;
 
 pub use answered::{Answered, Unanswered};
 pub use answering::answer;

@@ -13,8 +13,6 @@ mod inputs;
 mod reading;
 mod request;
 mod table;
-#[cfg(test)]
-mod tests;
 
 pub use inputs::{Inputs, ReadTexts};
 pub use reading::{inputs_again, inputs_of, one_batch, read_inputs};

@@ -18,10 +18,6 @@ mod statement;
 mod stop;
 mod stop_line;
 mod summary;
-#[cfg(test)]
-mod tests;
-#[cfg(test)]
-mod tests_of_lines;
 mod totals;
 
 pub use laws::{names_columns, one_output, output_alone};

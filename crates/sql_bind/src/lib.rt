@@ -23,8 +23,6 @@ mod places;
 mod plan;
 mod refusal;
 mod statement;
-#[cfg(test)]
-mod tests;
 
 pub use binding::bind;
 pub use laws::{one_meaning, readable_answers};

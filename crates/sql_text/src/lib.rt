@@ -23,6 +23,3 @@ pub use query::{QItem, QOrder, Query};
 pub use reading::{one_query, read_query};
 pub use sql_tokens::{Span, TextRefusal, Token, TokenKind, lex, split};
 pub use writing::write_query;
-
-#[cfg(test)]
-mod tests;

@@ -22,6 +22,3 @@ pub use refusal::TextRefusal;
 pub use span::Span;
 pub use statements::split;
 pub use token::{Token, TokenKind};
-
-#[cfg(test)]
-mod tests;

@@ -10,8 +10,6 @@
 mod order;
 mod plan;
 mod standing;
-#[cfg(test)]
-mod tests;
 mod text;
 mod top;
 

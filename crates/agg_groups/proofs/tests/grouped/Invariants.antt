@@ -1,9 +1,0 @@
-use Rattle.std.proofs.Common.{◌≡◌}
-use Rattle.agg_groups.proofs.tests.grouped.Given as goal
-
-abbrev pub invariant-loop-row : goal.invariant-loop-row
-invariant-loop-row l = record {
-  items : l.groups.items ≡ l.items;
-  keys : l.groups.keys ≡ l.keys;
-  rows : l.groups.rows ≡ l.row-index;
-}

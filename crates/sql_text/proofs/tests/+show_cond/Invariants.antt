@@ -1,4 +1,0 @@
-use Rattle.sql_text.proofs.tests.+show_cond.Given as goal
-
-abbrev pub decreases-show_cond : goal.decreases-show_cond
-decreases-show_cond l = l.depth

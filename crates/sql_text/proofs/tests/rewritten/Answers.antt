@@ -1,4 +1,0 @@
-use Rattle.sql_text.proofs.tests.rewritten.Goals as goal
-
-pub write_query-requires : goal.write_query-requires
-write_query-requires g c = (c.args.text.now, c.in_ok-query.ensures.found)

@@ -1,0 +1,239 @@
+// What no clause says: the worked answers, and that each call finds memory.
+ghost use Rattle.std.specs.Prelude.{◌≡◌, ◌≤◌, ◌<◌, length, All, IfOk};
+ghost use Rattle.agg_groups.specs.Running.{IsInRow};
+
+use crate::fitting::{are_rows, items_in, keys_in};
+use agg_groups::{FinishFault, Groups, Item, Rows, rows_text};
+use std::alloc::Global;
+use std::process::Abort;
+use std::test::Fail;
+use table_core::Cell::{self, Code, Int, Null};
+use table_core::{Bytes, Column, Dict, Kind, Memory, Schema};
+
+const MOST: i64 = 9223372036854775807;
+
+// The groups of rows of two cells.
+fn grouped(
+    alloc: Global,
+    items: &[Item],
+    keys: &[u32],
+    rows: &[[Cell; 2]],
+) -> Result<Groups, Memory>
+    requires items { All (λ i. IsInRow i 2) items.now }
+    requires keys { All (λ x. x < 2) keys.now }
+    requires few { length rows.now ≤ 100 }
+    ensures items { IfOk result (λ g. g.items ≡ items.now) }
+    ensures keys { IfOk result (λ g. g.keys ≡ keys.now) }
+    ensures rows { IfOk result (λ g. g.rows ≡ length rows.now) }
+{
+    let mut groups = Groups::new(
+        alloc,
+        Vec::from_slice(alloc, items)?,
+        Vec::from_slice(alloc, keys)?,
+    )?;
+    for row in rows {
+        groups.add_row(row)?;
+    }
+    Ok(groups)
+}
+
+type Answer = Result<&'static [&'static [Cell]], FinishFault>;
+
+fn is_wanted(got: Result<Rows, FinishFault>, wanted: Answer) -> bool {
+    match (got, wanted) {
+        (Ok(rows), Ok(lines)) => are_rows(rows.as_slice(), lines),
+        (Err(fault), Err(other)) => fault == other,
+        _ => false,
+    }
+}
+
+// A name, items, keys, rows of two cells, and the answer.
+type Case = (
+    &'static str,
+    &'static [Item],
+    &'static [u32],
+    &'static [[Cell; 2]],
+    Answer,
+);
+
+// Tests the answer, where the rows are cut in two parts at each place.
+fn check(rt: &impl Abort, alloc: Global, case: &Case) -> Result<(), Fail> {
+    let (name, items, keys, rows, wanted) = *case;
+    assert!(rt; items_in(items, 2) && keys_in(keys, 2));
+    assert!(rt; rows.len() <= 50);
+    for cut in 0..rows.len() + 1 {
+        let mut groups = grouped(alloc, items, keys, &rows[..cut])?;
+        let merged = groups.merge(grouped(alloc, items, keys, &rows[cut..])?);
+        assert!(rt; merged.is_ok(), "{name}");
+        assert!(rt; is_wanted(groups.finish(), wanted), "{name}, cut at {cut}");
+    }
+    Ok(())
+}
+
+const PAY: [[Cell; 2]; 5] = [
+    [Code(0), Int(10)],
+    [Code(1), Int(20)],
+    [Code(0), Null],
+    [Code(2), Int(40)],
+    [Code(1), Int(-5)],
+];
+
+const BY_DEPT: [Item; 3] = [Item::Key(0), Item::Sum(1), Item::Count(1)];
+
+const OF_EACH_ITEM: [Item; 5] = [
+    Item::CountAll,
+    Item::Count(0),
+    Item::Sum(0),
+    Item::Min(0),
+    Item::Max(1),
+];
+
+const CASES: [Case; 7] = [
+    (
+        "sums and counts by dept",
+        &BY_DEPT,
+        &[0],
+        &PAY,
+        Ok(&[
+            &[Code(0), Int(10), Int(1)],
+            &[Code(1), Int(15), Int(2)],
+            &[Code(2), Int(40), Int(1)],
+        ]),
+    ),
+    (
+        "all rows",
+        &[Item::CountAll, Item::Min(1), Item::Max(1)],
+        &[],
+        &PAY,
+        Ok(&[&[Int(5), Int(-5), Int(40)]]),
+    ),
+    (
+        "no rows",
+        &[Item::CountAll, Item::Sum(1), Item::Min(1)],
+        &[],
+        &[],
+        Ok(&[&[Int(0), Null, Null]]),
+    ),
+    ("no rows by dept", &BY_DEPT, &[0], &[], Ok(&[])),
+    (
+        "NULL keys form one group",
+        &[Item::Key(0), Item::Sum(1)],
+        &[0],
+        &[[Code(7), Int(2)], [Null, Int(1)], [Null, Int(3)]],
+        Ok(&[&[Null, Int(4)], &[Code(7), Int(2)]]),
+    ),
+    (
+        "no value is left",
+        &OF_EACH_ITEM,
+        &[],
+        &[[Null, Null], [Null, Null]],
+        Ok(&[&[Int(2), Int(0), Null, Null, Null]]),
+    ),
+    (
+        "two key columns",
+        &[Item::CountAll, Item::Key(1), Item::Key(0)],
+        &[0, 1],
+        &[
+            [Int(2), Int(1)],
+            [Int(1), Int(2)],
+            [Int(2), Int(0)],
+            [Int(1), Int(2)],
+        ],
+        Ok(&[
+            &[Int(2), Int(2), Int(1)],
+            &[Int(1), Int(0), Int(2)],
+            &[Int(1), Int(1), Int(2)],
+        ]),
+    ),
+];
+
+#[test]
+fn sums_counts_least_and_greatest_by_key(rt: HostRuntime) -> Result<(), Fail> {
+    for case in &CASES {
+        check(&rt, rt.alloc(), case)?;
+    }
+    Ok(())
+}
+
+const EDGES: [Case; 5] = [
+    (
+        "one above",
+        &[Item::Sum(0)],
+        &[],
+        &[[Int(MOST), Null], [Int(1), Null]],
+        Err(FinishFault::SumOverflow {
+            item: 1,
+            total: 9223372036854775808,
+        }),
+    ),
+    (
+        "back again",
+        &[Item::Sum(0)],
+        &[],
+        &[[Int(MOST), Null], [Int(1), Null], [Int(-1), Null]],
+        Ok(&[&[Int(MOST)]]),
+    ),
+    (
+        "the least",
+        &[Item::Sum(0)],
+        &[],
+        &[[Int(-MOST), Null], [Int(-1), Null]],
+        Ok(&[&[Int(-MOST - 1)]]),
+    ),
+    (
+        "merged sums",
+        &[Item::Sum(0)],
+        &[],
+        &[[Int(5), Null], [Int(-2), Null]],
+        Ok(&[&[Int(3)]]),
+    ),
+    (
+        "the first in key order",
+        &[Item::CountAll, Item::Sum(0)],
+        &[1],
+        &[
+            [Int(MOST), Int(8)],
+            [Int(-MOST), Int(2)],
+            [Int(-2), Int(2)],
+            [Int(1), Int(8)],
+        ],
+        Err(FinishFault::SumOverflow {
+            item: 2,
+            total: -9223372036854775809,
+        }),
+    ),
+];
+
+#[test]
+fn sums_at_the_edge_of_64_bits(rt: HostRuntime) -> Result<(), Fail> {
+    for case in &EDGES {
+        check(&rt, rt.alloc(), case)?;
+    }
+    Ok(())
+}
+
+// The text of one row with a count, a sum and a NULL over a column with two places.
+fn one_text(alloc: Global) -> Result<Bytes, Memory> {
+    let name = Bytes::new(Vec::from_slice(alloc, b"p")?);
+    let kind = Kind::Dec { places: 2 };
+    let schema = Schema::new(vec![in alloc; Column { name, kind }]?);
+    let dicts = vec![in alloc; Dict::new(alloc)]?;
+    let row = vec![in alloc; Int(3), Int(-25), Null]?;
+    let rows = Rows::new(vec![in alloc; row]?);
+    rows_text(
+        alloc,
+        7,
+        &[Item::CountAll, Item::Sum(0), Item::Max(0)],
+        &[],
+        &schema,
+        &dicts,
+        &rows,
+    )
+}
+
+#[test]
+fn counts_and_sums_are_printed(rt: HostRuntime) -> Result<(), Fail> {
+    let text = one_text(rt.alloc())?;
+    assert!(rt; text.as_slice() == b"query 7\n3, -0.25, NULL\n".as_slice());
+    Ok(())
+}

@@ -1,0 +1,226 @@
+// Which plan a statement has, or why it has none.
+use crate::plans::plan;
+use agg_groups::Item;
+use sql_bind::{BindRefusal, Plan, StatementRefusal};
+use sql_text::TextRefusal;
+use std::test::Fail;
+use top_rows::Order;
+
+fn text_word(why: TextRefusal) -> &'static [u8] {
+    match why {
+        TextRefusal::Syntax => b"syntax",
+        TextRefusal::TooNested => b"too nested",
+        TextRefusal::TooManyItems => b"too many items",
+        TextRefusal::Memory => b"memory",
+    }
+}
+
+// Why there is no plan, as a word and the name that it has; nothing where there is one.
+fn shown(plan: &Result<Plan, StatementRefusal>) -> (&'static [u8], &[u8]) {
+    let why = match plan {
+        Ok(_) => return (b"", b""),
+        Err(StatementRefusal::Text(why)) => return (text_word(*why), b""),
+        Err(StatementRefusal::Query(why)) => why,
+    };
+    match why {
+        BindRefusal::UnknownTable { name } => (b"table", name.as_slice()),
+        BindRefusal::UnknownColumn { name } => (b"column", name.as_slice()),
+        BindRefusal::WrongKind { name } => (b"kind", name.as_slice()),
+        BindRefusal::NotGrouped { name } => (b"plain", name.as_slice()),
+        BindRefusal::Memory => (b"memory", b""),
+    }
+}
+
+const REFUSALS: [(&[u8], &[u8], &[u8]); 38] = [
+    (b"SELECT COUNT(*) FROM u", b"table", b"u"),
+    (b"SELECT COUNT(*) FROM \"T\"", b"table", b"T"),
+    (b"SELECT zz FROM u", b"table", b"u"),
+    (b"SELECT zz FROM t", b"column", b"zz"),
+    (b"SELECT zz, yy FROM t WHERE dept = 1", b"column", b"zz"),
+    (b"SELECT SUM(dept), zz FROM t", b"column", b"zz"),
+    (
+        b"SELECT COUNT(*) FROM t WHERE dept = 1 AND zz = 1",
+        b"column",
+        b"zz",
+    ),
+    (
+        b"SELECT COUNT(*) FROM t WHERE (NOT yy IS NULL OR zz = 1) AND xx = 1",
+        b"column",
+        b"yy",
+    ),
+    (
+        b"SELECT COUNT(*) FROM t WHERE zz IS NOT NULL GROUP BY yy",
+        b"column",
+        b"zz",
+    ),
+    (
+        b"SELECT COUNT(*) FROM t GROUP BY dept, yy, zz",
+        b"column",
+        b"yy",
+    ),
+    (b"SELECT COUNT(yy) FROM t WHERE zz = 1", b"column", b"yy"),
+    (
+        b"SELECT id FROM t ORDER BY yy, zz LIMIT 1",
+        b"column",
+        b"yy",
+    ),
+    (
+        b"SELECT id FROM t WHERE zz = 1 ORDER BY yy LIMIT 1",
+        b"column",
+        b"zz",
+    ),
+    (b"SELECT zz FROM t ORDER BY yy LIMIT 1", b"column", b"zz"),
+    (b"SELECT ID FROM t LIMIT 1", b"column", b"ID"),
+    (b"SELECT MIN(\"id \") FROM t", b"column", b"id "),
+    (b"SELECT SUM(dept) FROM t", b"kind", b"dept"),
+    (
+        b"SELECT SUM(id), SUM(code), SUM(dept) FROM t",
+        b"kind",
+        b"code",
+    ),
+    (b"SELECT SUM(dept) FROM t WHERE code = 1", b"kind", b"dept"),
+    (b"SELECT COUNT(*) FROM t WHERE id = 'a'", b"kind", b"id"),
+    (
+        b"SELECT COUNT(*) FROM t WHERE price < 'a'",
+        b"kind",
+        b"price",
+    ),
+    (b"SELECT COUNT(*) FROM t WHERE dept = 1.5", b"kind", b"dept"),
+    (
+        b"SELECT COUNT(*) FROM t WHERE id = 1 AND NOT (code = 1 OR dept = 1)",
+        b"kind",
+        b"code",
+    ),
+    (b"SELECT id FROM t WHERE dept = 1", b"kind", b"dept"),
+    (b"SELECT id FROM t WHERE dept = 1 LIMIT 1", b"kind", b"dept"),
+    (b"SELECT id FROM t", b"plain", b"id"),
+    (
+        b"SELECT dept, id, pay FROM t GROUP BY dept",
+        b"plain",
+        b"id",
+    ),
+    (
+        b"SELECT COUNT(*), pay, dept, id FROM t GROUP BY pay",
+        b"plain",
+        b"dept",
+    ),
+    (b"SELECT x FROM", b"syntax", b""),
+    (b"SELECT zz FROM t LIMIT 4097", b"too many items", b""),
+    (b"SELECT id, pay FROM t LIMIT 0", b"", b""),
+    (
+        b"SELECT dept, dept, COUNT(*) FROM t GROUP BY dept, dept",
+        b"",
+        b"",
+    ),
+    (
+        b"SELECT COUNT(dept), MIN(dept), MAX(code), SUM(price) FROM t",
+        b"",
+        b"",
+    ),
+    (
+        b"SELECT COUNT(*) FROM t WHERE id = 1.5 AND price = 1 AND dept = '' AND code IS NULL",
+        b"",
+        b"",
+    ),
+    (b"SELECT COUNT(*) FROM t GROUP BY id", b"", b""),
+    (b"SELECT \"dept\" FROM t GROUP BY dept", b"", b""),
+    (
+        b"SELECT id FROM t ORDER BY dept DESC, price LIMIT 4096",
+        b"",
+        b"",
+    ),
+    (b"SELECT COUNT(*) FROM \"t\"", b"", b""),
+];
+
+#[test]
+fn a_query_is_refused_for_its_first_cause_at_the_first_place(rt: HostRuntime) -> Result<(), Fail> {
+    for (text, word, name) in REFUSALS {
+        let plan = plan(&rt, rt.alloc(), text)?;
+        assert!(rt; shown(&plan) == (word, name), "{text:?}");
+    }
+    Ok(())
+}
+
+// The columns of a plan, as bits.
+fn named(plan: &Plan) -> u32 {
+    let mut bits = 0;
+    for column in 0..16 {
+        if plan.columns.has(column) {
+            bits |= 1 << column;
+        }
+    }
+    bits
+}
+
+const PLANS: [(&[u8], &[Item], &[u32], u32); 7] = [
+    (b"SELECT COUNT(*) FROM t", &[Item::CountAll], &[], 0b1),
+    (b"SELECT SUM(pay) FROM t", &[Item::Sum(2)], &[], 0b100),
+    (
+        b"SELECT dept, SUM(pay), COUNT(pay) FROM t GROUP BY dept",
+        &[Item::Key(0), Item::Sum(2), Item::Count(2)],
+        &[1],
+        0b110,
+    ),
+    (
+        b"SELECT MAX(code), id, dept, MIN(id) FROM t GROUP BY dept, id, dept",
+        &[Item::Max(4), Item::Key(1), Item::Key(0), Item::Min(0)],
+        &[1, 0, 1],
+        0b10011,
+    ),
+    (
+        b"SELECT COUNT(*) FROM t WHERE price > 1 OR NOT pay IS NULL",
+        &[Item::CountAll],
+        &[],
+        0b1100,
+    ),
+    (b"SELECT pay, id FROM t LIMIT 3", &[], &[], 0b101),
+    (
+        b"SELECT pay FROM t WHERE dept = 'a' ORDER BY price DESC, code LIMIT 3",
+        &[],
+        &[],
+        0b11110,
+    ),
+];
+
+#[test]
+fn a_plan_has_the_columns_that_its_query_names(rt: HostRuntime) -> Result<(), Fail> {
+    for (text, items, keys, columns) in PLANS {
+        let Ok(plan) = plan(&rt, rt.alloc(), text)? else {
+            panic!(rt; "{text:?}")
+        };
+        let found = (plan.items.as_slice(), plan.keys.as_slice(), named(&plan));
+        assert!(rt; found == (items, keys, columns), "{text:?}");
+        assert!(rt; plan.rows.is_some() == items.is_empty(), "{text:?}");
+    }
+    Ok(())
+}
+
+const ORDERS: [Order; 3] = [
+    Order {
+        column: 2,
+        descending: true,
+    },
+    Order {
+        column: 1,
+        descending: false,
+    },
+    Order {
+        column: 4,
+        descending: false,
+    },
+];
+
+#[test]
+fn a_query_with_a_limit_asks_for_columns_in_an_order(rt: HostRuntime) -> Result<(), Fail> {
+    let text = b"SELECT pay, id, pay FROM t ORDER BY pay DESC, dept, code ASC LIMIT 30";
+    let Ok(plan) = plan(&rt, rt.alloc(), text)? else {
+        panic!(rt; "no plan")
+    };
+    let Some(rows) = &plan.rows else {
+        panic!(rt; "no rows")
+    };
+    assert!(rt; rows.columns.as_slice() == [2, 0, 2].as_slice());
+    assert!(rt; rows.order.as_slice() == ORDERS.as_slice());
+    assert_eq!(rt; rows.limit, 30);
+    Ok(())
+}
