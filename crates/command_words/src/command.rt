@@ -27,10 +27,10 @@ pub(crate) fn matches_in<'a>(
     }
     let command = command(alloc, call)?;
     match command.try_get_matches_from(words) {
-        Ok(matches) => return Ok(matches),
+        Ok(matches) => Ok(matches),
         Err(error) => match error.kind() {
-            ErrorKind::OutOfMemory => return Err(Refused::Memory),
-            _ => return Err(Refused::Usage),
+            ErrorKind::OutOfMemory => Err(Refused::Memory),
+            _ => Err(Refused::Usage),
         },
     }
 }
@@ -80,11 +80,11 @@ fn with_known<'a>(
 {
     let plain = with_plain(alloc, command)?;
     match call {
-        Call::Run => return Ok(plain),
+        Call::Run => Ok(plain),
         Call::RunBoxed => {
             let policy = plain.arg(option(alloc, "policy"))?;
             let compare = policy.arg(flag(alloc, "compare"))?;
-            return Ok(compare);
+            Ok(compare)
         }
     }
 }

@@ -10,7 +10,7 @@
 
 mod call;
 mod command;
-mod layout;
+mod limits;
 mod names;
 mod numbers;
 mod options;
@@ -18,8 +18,9 @@ mod request;
 mod values;
 
 pub use call::{Call, Refused};
-pub use layout::Layout;
+pub use limits::{MOST_FRAMES, MOST_GENERATED_ROWS, MOST_PARTS, MOST_WORKERS};
 pub use names::{Batch, Table};
 pub use options::{options_of, scratch_of};
+pub use piece_format::Layout;
 pub use request::Request;
 pub use scan_story::{Memory, PolicyName};

@@ -3,14 +3,16 @@ ghost use Rattle.std.specs.Prelude.{◌≡◌, option_map};
 ghost use Rattle.command_words.specs.Options.{layout_or, policy_or, scratch_or, table_of, batch_of};
 ghost use Rattle.command_words.specs.Views.{table_view, batch_view};
 
-use crate::layout::Layout;
+use crate::limits::MOST_GENERATED_ROWS;
 use crate::numbers::{number_in, small_number};
+use piece_format::Layout;
 use scan_story::PolicyName;
 
 /// What a TABLE names.
 #[derive(Clone, Copy, Debug, PartialEq, Eq)]
 pub enum Table<'a> {
-    /// The table that is generated from the seed, with so many rows, at most 1048576: `gen:SEED:ROWS`.
+    /// The table that is generated from the seed, with so many rows, at most `MOST_GENERATED_ROWS`:
+    /// `gen:SEED:ROWS`.
     Generated { seed: u64, rows: u32 },
     /// The file of this name.
     File(&'a str),
@@ -28,7 +30,7 @@ impl<'a> Table<'a> {
             return None;
         };
         let seed = number_in(seed, 20, 0, u64::MAX)?;
-        let rows = small_number(rows, 0, 1048576)?;
+        let rows = small_number(rows, 0, MOST_GENERATED_ROWS)?;
         Some(Table::Generated { seed, rows })
     }
 }

@@ -26,8 +26,8 @@ pub fn options_of<'a>(
 {
     let matches = matches_in(alloc, call, words)?;
     match Request::of(Values::found(&matches)) {
-        Some(request) => return Ok(request),
-        None => return Err(Refused::Usage),
+        Some(request) => Ok(request),
+        None => Err(Refused::Usage),
     }
 }
 
@@ -37,8 +37,8 @@ pub fn scratch_of<'a>(alloc: Global, words: &'a [String]) -> Result<Option<&'a s
     ensures { IfOk result (λ o. option_map (λ s. s.now) o ≡ scratch_of (texts words.now)) }
 {
     match options_of(alloc, Call::RunBoxed, words) {
-        Ok(request) => return Ok(request.scratch),
-        Err(Refused::Usage) => return Ok(None),
-        Err(Refused::Memory) => return Err(Memory),
+        Ok(request) => Ok(request.scratch),
+        Err(Refused::Usage) => Ok(None),
+        Err(Refused::Memory) => Err(Memory),
     }
 }

@@ -3,23 +3,25 @@ ghost use Rattle.command_words.specs.Options.{request_of, workers_of};
 ghost use Rattle.command_words.specs.Limits.{IsWithinLimits};
 ghost use Rattle.command_words.specs.Views.{request_view, values_view};
 
-use crate::layout::Layout;
+use crate::limits::{MOST_FRAMES, MOST_PARTS, MOST_WORKERS};
 use crate::names::{Table, layout_or, policy_or, scratch_or};
 use crate::numbers::{number_or, optional_number};
 use crate::values::Values;
+use piece_format::Layout;
 use scan_story::PolicyName;
+use table_core::MOST_CHUNK_ROWS;
 
 /// What the words ask for.
 #[derive(Clone, Copy, Debug, PartialEq, Eq)]
 pub struct Request<'a> {
-    /// How many workers run, from 1 to 32.
+    /// How many workers run, from 1 to `MOST_WORKERS`.
     pub workers: u32,
-    /// How many frames there are, from 1 to 33554432; `None` asks for the least number that is enough.
+    /// How many frames there are, from 1 to `MOST_FRAMES`; `None` asks for the least number that is enough.
     pub frames: Option<u32>,
-    /// How many rows a chunk has, from 1 to 16384.
+    /// How many rows a chunk has, from 1 to `MOST_CHUNK_ROWS`.
     pub per: u32,
     pub layout: Layout,
-    /// In how many parts each query runs, from 1 to 32.
+    /// In how many parts each query runs, from 1 to `MOST_PARTS`.
     pub parts: u32,
     /// The file that keeps the pieces; `None` keeps them in memory. The name isn't empty.
     pub scratch: Option<&'a str>,
@@ -54,10 +56,10 @@ impl<'a> Request<'a> {
             }
         }
         let workers = workers_of(&values)?;
-        let frames = optional_number(values.frames, 1, 33554432)?;
-        let per = number_or(values.rows, 1, 16384, 1024)?;
+        let frames = optional_number(values.frames, 1, MOST_FRAMES)?;
+        let per = number_or(values.rows, 1, MOST_CHUNK_ROWS, 1024)?;
         let layout = layout_or(values.layout)?;
-        let parts = number_or(values.parts, 1, 32, 1)?;
+        let parts = number_or(values.parts, 1, MOST_PARTS, 1)?;
         let scratch = scratch_or(values.scratch)?;
         let policy = policy_or(values.policy)?;
         let table = values.table?;
@@ -83,11 +85,11 @@ impl<'a> Request<'a> {
 // How many workers run: one where policies are compared.
 fn workers_of(values: &Values<'_>) -> Option<u32>
     ensures number { result ≡ workers_of (values_view values.now) }
-    ensures within { IfSome result (λ n. (1 ≤ n) × (n ≤ 32)) }
+    ensures within { IfSome result (λ n. (1 ≤ n) × (n ≤ MOST_WORKERS)) }
 {
     if values.compare {
         let one = number_or(values.threads, 1, 1, 1)?;
         return Some(one);
     }
-    number_or(values.threads, 1, 32, 4)
+    number_or(values.threads, 1, MOST_WORKERS, 4)
 }

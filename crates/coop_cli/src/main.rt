@@ -11,7 +11,7 @@ ghost use Rattle.coop_outside.specs.Either.{any_gets};
 
 use command_words::scratch_of;
 use coop_outside::{AnyDepot, DiskShelf, MemDepot, ScratchDepot, StdoutSink, write_all};
-pub use coop_run::{BoxedEnd, Ended, PolicyRun, run, run_boxed, run_settings};
+pub use coop_run::{BoxedEnd, Ended, PolicyRun, Settings, run, run_boxed, run_settings};
 use cscan::NoGate;
 use policy_box::Elevator;
 use policy_plain::{Attach, Normal};

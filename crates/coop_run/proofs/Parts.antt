@@ -89,7 +89,7 @@ module _ (r : Request) (files : List ℕ → Option (List ℕ)) (w : Work) (ends
         let trace = tasks.trace_of r.trace w.story in
         let zones = zones_in h.given in
         let queries = queries_in h.given in
-        let causes : (q : ℕ) → 1 ≤ q → q < 1 + length h.given.outcomes.items → cause_of_query (past w.story) h.given.parts q ≡ None = λ q low high.
+        let causes : (q : ℕ) → 1 ≤ q → q < 1 + length h.given.outcomes.items → cause_of_query (past w.story) h.given.options.parts q ≡ None = λ q low high.
         rw h.is_given.parts (no-causes (past w.story) r.parts 1 h.losses none h.lost q low (omega (arith, high, long, as-many))) in
         record {
           alone = alone;
@@ -101,9 +101,9 @@ module _ (r : Request) (files : List ℕ → Option (List ℕ)) (w : Work) (ends
             bytes = sym (append-nil alone);
             status = h.output.status;
           };
-          once = All-from_recursion (λ (t : Task). IsPermutation (needed t.plan.cond zones) (delivered_to w.story h.given.parts t.query h.given.parts)) queries
-              (each-once zones h.given.parts w.story queries (recursion_from_All (TookEachOnce zones h.given.parts w.story) queries h.worked.once)
-              (within-none (past w.story) h.given.parts (length h.given.outcomes.items) causes queries (tasks_within 1 h.given.outcomes.items)));
+          once = All-from_recursion (λ (t : Task). IsPermutation (needed t.plan.cond zones) (delivered_to w.story h.given.options.parts t.query h.given.options.parts)) queries
+              (each-once zones h.given.options.parts w.story queries (recursion_from_All (TookEachOnce zones h.given.options.parts w.story) queries h.worked.once)
+              (within-none (past w.story) h.given.options.parts (length h.given.outcomes.items) causes queries (tasks_within 1 h.given.outcomes.items)));
         }
 
   pub for-any-parts : AllByRecursion OnlyForMemory h.losses → SomeForMemory h.losses ⊎ IsForAnyParts h.table h.batch h.given w ends text

@@ -79,7 +79,7 @@ pub record IsForAnyParts (table batch : List ℕ) (i : Inputs) (w : Work) (statu
   pub rest : List ℕ
   pub begins : text ≡ alone ++ rest
   pub answers : AreAnswersAlone table batch status alone
-  pub once : All (λ (t : Task). IsPermutation (needed t.plan.cond (zones_in i)) (delivered_to w.story i.parts t.query i.parts)) (queries_in i)
+  pub once : All (λ (t : Task). IsPermutation (needed t.plan.cond (zones_in i)) (delivered_to w.story i.options.parts t.query i.options.parts)) (queries_in i)
 
 -- the output is written; memory was wanting for a query, or the answers are those of any number of parts
 pub record WritesForAnyParts (r : Request) (files : List ℕ → Option (List ℕ)) (w : Work) (status : ℕ) (sink : OverSink) : Type 0 where

@@ -6,3 +6,4 @@ pub mod Ending
 pub mod Jobs
 pub mod Promises
 pub mod Runs
+pub mod Settings

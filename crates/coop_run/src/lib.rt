@@ -7,7 +7,7 @@
 //!     let ended = run(&rt, alloc, keys, &words, &mut shelf, depot, Relevance, &NoGate, &mut out);
 //!     Ok(ExitCode::from(ended.status))
 //!
-//! `run` takes the words of the command line and carries the theorem; `run_settings` takes what they ask for;
+//! `run` takes the words of the command line and carries the theorem; `run_settings` takes `Settings` in their place;
 //! `run_boxed` takes a list of policies in boxes, of which the words name one, or compares all. docs/COMMAND_LINE.md
 //! is the manual.
 #![tactic(auto)]
@@ -17,6 +17,7 @@ mod boxed_end;
 mod ended;
 mod one_policy;
 mod print;
+mod settings;
 mod settle;
 mod taken_policy;
 
@@ -24,4 +25,6 @@ pub use boxed::run_boxed;
 pub use boxed_end::BoxedEnd;
 pub use ended::Ended;
 pub use one_policy::{run, run_settings};
+pub use piece_format::Layout;
 pub use run_policies::PolicyRun;
+pub use settings::Settings;

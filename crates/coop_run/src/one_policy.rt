@@ -8,8 +8,10 @@ ghost use Rattle.run_decision.specs.Answering.{story_in, taken_in};
 ghost use Rattle.coop_run.specs.Devices.{devices};
 ghost use Rattle.coop_run.specs.Did.{did_with, policy_of};
 ghost use Rattle.coop_run.specs.Promises.{DecidesAndPrints, KeepsPromises};
+ghost use Rattle.coop_run.specs.Settings.{asked_in_settings};
 
 use crate::ended::Ended;
+use crate::settings::Settings;
 use crate::settle::{Settled, settle, settle_words};
 use command_words::Request;
 use coop_outside::{Depot, Shelf, Sink};
@@ -48,7 +50,8 @@ pub fn run<F: Shelf, P: Policy, D: Depot + Send, O: Sink, T: Gate + Sync, R: Thr
     run_words(rt, alloc, keys, words, shelf, depot, policy, gate, out)
 }
 
-/// Does all that `run` does after the words were read, for a request whose numbers lie within the limits.
+/// Does all that `run` does after the words were read, for settings in their place, whose numbers lie within the limits.
+/// A table or a batch with the name of a generated one is that one.
 pub fn run_settings<
     F: Shelf,
     P: Policy,
@@ -60,23 +63,24 @@ pub fn run_settings<
     rt: &R,
     alloc: Global,
     keys: RandomState,
-    request: &Request<'_>,
+    settings: &Settings,
     shelf: &mut F,
     depot: D,
     policy: P,
     gate: &T,
     out: &mut O,
 ) -> Ended<D>
-    requires limits { IsWithinLimits (request_view request.now) }
+    requires limits { IsWithinLimits (asked_in_settings settings.now) }
     requires gets { D.gets depot ≤ 2 ^ 63 }
     // the same as of `run`
-    ensures promises { KeepsPromises (Some (request_view request.now))
+    ensures promises { KeepsPromises (Some (asked_in_settings settings.now))
         (devices F.Shelf shelf.old shelf.new D.Depot depot result.depot O.Sink out.old out.new)
         (did_with (policy_of P.Policy policy) result.status result.story.items result.taken.items) }
     // 2 never comes
     ensures usage { result.status ≢ 2 }
 {
-    run_request(rt, alloc, keys, request, shelf, depot, policy, gate, out)
+    let request = settings.request();
+    run_request(rt, alloc, keys, &request, shelf, depot, policy, gate, out)
 }
 
 // What a run leaves, of what it came to.

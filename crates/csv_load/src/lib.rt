@@ -35,5 +35,6 @@ mod tests_of_rows;
 mod tests_of_types;
 mod typed;
 
+pub use limits::MOST_TEXT_BYTES;
 pub use loading::{Loaded, load};
 pub use refusal::LoadRefusal;

@@ -31,7 +31,7 @@ use Rattle.run_output.specs.declared.totals.Totals.{Totals}
 use Rattle.run_decision.specs.Deciding.{ComesOf, shown}
 use Rattle.run_decision.specs.declared.output.Output.{Output}
 use Rattle.run_decision.specs.Tasks.{totals_of, trace_of}
-use Rattle.run_decision.specs.Running.{AreAnswers, CanRun, IsWorked, options_in, queries_in, scans_in, setting_in, shape_in, zones_in}
+use Rattle.run_decision.specs.Running.{AreAnswers, CanRun, IsWorked, queries_in, scans_in, setting_in, shape_in, zones_in}
 use Rattle.run_decision.specs.Work.{Work}
 use Rattle.run_decision.proofs.Dealt.{each_once}
 
@@ -46,14 +46,14 @@ fits-rows columns dicts rows h = λ k d below. fits-row columns dicts _ (h k d b
 -- ---- what the workers did
 
 pub is-worked : (i : Inputs) (w : Work) → CanRun i → IsStoryOver (setting_in i w.policy w.cursor) (is_some w.old.held) (counts w.old.gets w.old.faults) (counts w.new.gets w.new.faults) w.story
-    → AllZip (IsTakenBy w.story) (scans_in i) w.taken → All (TookNeed (zones_in i) i.parts w.story) (scans_in i)
+    → AllZip (IsTakenBy w.story) (scans_in i) w.taken → All (TookNeed (zones_in i) i.options.parts w.story) (scans_in i)
     → ArePut (shape_in i) i.loaded.table.rows (pieces (shape_in i)) (pieces (shape_in i)) w.old.held w.new.held → IsWorked i w
 is-worked i w can story taken took stored = record {
   room = can.room;
   story = story;
   taken = taken;
   took = took;
-  once = each_once (zones_in i) i.workers i.parts w.story (let z = count_zones (shape_in i) i.loaded.table.rows in omega (arith, z, can.chunks)) (omega (arith, can.parts.0)) (queries_in i) story.whole.whole.finished took;
+  once = each_once (zones_in i) i.options.workers i.options.parts w.story (let z = count_zones (shape_in i) i.loaded.table.rows in omega (arith, z, can.chunks)) (omega (arith, can.parts.0)) (queries_in i) story.whole.whole.finished took;
   stored = stored;
 }
 

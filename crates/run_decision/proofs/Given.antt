@@ -20,7 +20,7 @@ use Rattle.table_core.specs.Table.{TableRows}
 use Rattle.table_core.specs.Value.{row_values}
 use Rattle.table_core.specs.declared.schema.Column.{Column}
 use Rattle.run_inputs.specs.Ending.{AreInputs}
-use Rattle.run_inputs.specs.Order.{batch_stop, first_stop, frames_given, layout_of, stop_in, table_stop}
+use Rattle.run_inputs.specs.Order.{batch_stop, first_stop, frames_given, stop_in, table_stop}
 use Rattle.run_inputs.specs.Statements.{part, spans_in, statements_in}
 use Rattle.run_inputs.specs.declared.inputs.Inputs.{Inputs}
 use Rattle.batch_run.specs.Tasks.{IsPlanOfTable}
@@ -79,6 +79,6 @@ can-run r table batch i limits none is =
       scans = rw (is.parts, parted) (few-scans r statements batch_passes);
       workers = rw is.workers limits.workers;
       room = rw (is.workers, is.layout, is.table_is.frames_are, kinds, columns) frames.0;
-      frames = rw is.table_is.frames_are (few-frames r.workers r.frames (layout_of r.layout) (length i.loaded.table.columns) limits.workers.1 loaded.few_columns limits.frames);
+      frames = rw is.table_is.frames_are (few-frames r.workers r.frames r.layout (length i.loaded.table.columns) limits.workers.1 loaded.few_columns limits.frames);
       words = rw (is.layout, is.per, is.table_is.frames_are, kinds, columns, rows) frames.1;
     }

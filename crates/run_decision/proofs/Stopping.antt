@@ -10,7 +10,7 @@ use Rattle.run_output.specs.Stops.{status_of}
 use Rattle.run_output.specs.declared.stop.Stop.{Stop}
 use Rattle.run_output.specs.declared.stop.Stop.TheVariants as stop
 use Rattle.table_core.specs.Chunk.{chunk_count}
-use Rattle.run_inputs.specs.Order.{batch_stop, chunks_stop, count_stop, first_stop, frames_given, frames_needed, frames_stop, layout_of, load_stop, long_batch, long_table, past, stop_in, table_size_stop, table_stop, words_given}
+use Rattle.run_inputs.specs.Order.{batch_stop, chunks_stop, count_stop, first_stop, frames_given, frames_needed, frames_stop, load_stop, long_batch, long_table, past, stop_in, table_size_stop, table_stop, words_given}
 use Rattle.run_inputs.specs.Statements.{spans_in}
 
 pub or-none : {T : Type 0} (a b : Option T) → or_else a b ≡ None → (a ≡ None) × (b ≡ None)
@@ -44,7 +44,7 @@ few-chunks r text h =
     let t = table_of (table_records text) in
     let short = or-none (long_table text) (or_else (load_stop (refusal_of (table_records text))) (table_size_stop r t)) h in
     let loads = or-none (load_stop (refusal_of (table_records text))) (table_size_stop r t) short.1 in
-    let size = or-none (chunks_stop r.per (length t.rows)) (frames_stop r.workers r.frames (layout_of r.layout) (length t.columns) r.per (length t.rows)) loads.1 in
+    let size = or-none (chunks_stop r.per (length t.rows)) (frames_stop r.workers r.frames r.layout (length t.columns) r.per (length t.rows)) loads.1 in
     past-none 1024 (chunk_count (length t.rows) r.per) (stop.Chunks (chunk_count (length t.rows) r.per)) size.0
 
 pub few-statements : (r : Request) (text : List ℕ) → batch_stop r text ≡ None → length (spans_in text) ≤ 256
@@ -63,11 +63,11 @@ few-scans r text h =
 
 -- there are frames enough, within the pool's limit
 pub enough-frames : (r : Request) (text : List ℕ) → table_stop r text ≡ None → let t = table_of (table_records text) in
-    (frames_needed r.workers (layout_of r.layout) (length t.columns) ≤ frames_given r.workers r.frames (layout_of r.layout) (length t.columns))
-    × (words_given r.workers r.frames (layout_of r.layout) (length t.columns) r.per (length t.rows) ≤ 33554432)
+    (frames_needed r.workers r.layout (length t.columns) ≤ frames_given r.workers r.frames r.layout (length t.columns))
+    × (words_given r.workers r.frames r.layout (length t.columns) r.per (length t.rows) ≤ 33554432)
 enough-frames r text h =
     let t = table_of (table_records text) in
-    let layout = layout_of r.layout in
+    let layout = r.layout in
     let short = or-none (long_table text) (or_else (load_stop (refusal_of (table_records text))) (table_size_stop r t)) h in
     let loads = or-none (load_stop (refusal_of (table_records text))) (table_size_stop r t) short.1 in
     let size = or-none (chunks_stop r.per (length t.rows)) (frames_stop r.workers r.frames layout (length t.columns) r.per (length t.rows)) loads.1 in
@@ -102,7 +102,7 @@ size-before : (r : Request) (t : Values) (s : Stop) → table_size_stop r t ≡ 
 size-before r t s h =
     let rows = length t.rows in
     let columns = length t.columns in
-    let layout = layout_of r.layout in
+    let layout = r.layout in
     let count = chunk_count rows r.per in
     let needed = frames_needed r.workers layout columns in
     let words = words_given r.workers r.frames layout columns r.per rows in

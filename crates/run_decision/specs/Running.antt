@@ -21,7 +21,6 @@ use Rattle.run_output.specs.declared.stop.Stop.TheVariants as stop
 use Rattle.run_inputs.specs.declared.inputs.Inputs.{Inputs}
 use Rattle.batch_plan.specs.Scans.{Scan, scan_number, scans}
 use Rattle.batch_plan.specs.Setting.{batch_setting}
-use Rattle.batch_plan.specs.declared.options.Options.{Options}
 use Rattle.batch_plan.specs.declared.task.Task.{Task}
 use Rattle.batch_run.specs.Lost.{Tells, cause_of_query}
 use Rattle.batch_run.specs.Story.{IsStoryOver, counts}
@@ -40,13 +39,10 @@ abbrev pub Text : Type 0
 Text = ℕ × List ℕ
 
 abbrev pub shape_in : Inputs → TableShape
-shape_in i = shape_of i.loaded.table i.loaded.dicts.items i.layout i.per
+shape_in i = shape_of i.loaded.table i.loaded.dicts.items i.options.layout i.options.per
 
 abbrev pub zones_in : Inputs → List ChunkZones
 zones_in i = chunk_zones (shape_in i) i.loaded.table.rows
-
-abbrev pub options_in : Inputs → Options
-options_in i = record { workers = i.workers; frames = i.frames; per = i.per; layout = i.layout; parts = i.parts }
 
 -- a task for each statement that isn't refused
 abbrev pub queries_in : Inputs → List Task
@@ -54,28 +50,28 @@ queries_in i = tasks_in 1 i.outcomes.items
 
 -- THE SCANS of what a run is given: one for each part of each query
 abbrev pub scans_in : Inputs → List Scan
-scans_in i = scans i.workers i.parts (queries_in i)
+scans_in i = scans i.options.workers i.options.parts (queries_in i)
 
 -- THE SETTING of what a run is given, under a policy and its first cursor: each scan needs its part of the chunks that its query needs
 abbrev pub setting_in : Inputs → PolicyName → List ℕ → Setting
-setting_in i name cursor = batch_setting (shape_in i) (zones_in i) (queries_in i) (options_in i) name cursor
+setting_in i name cursor = batch_setting (shape_in i) (zones_in i) (queries_in i) i.options name cursor
 
 -- what a run is given can run: a loaded table of at most 1024 chunks of 1 to 16384 rows, at most 256 statements and scans, and
 -- frames enough within the pool's limit
 pub record CanRun (i : Inputs) : Type 0 where
-  pub some : 1 ≤ i.per
-  pub short : i.per ≤ 16384
-  pub chunks : chunk_count (length i.loaded.table.rows) i.per ≤ 1024
+  pub some : 1 ≤ i.options.per
+  pub short : i.options.per ≤ 16384
+  pub chunks : chunk_count (length i.loaded.table.rows) i.options.per ≤ 1024
   pub loaded : CanBeLoaded i.loaded.table i.loaded.dicts.items
   pub places : All (λ c. places_of c.kind ≤ 9) i.loaded.table.columns
   pub statements : (texts : List (List ℕ)) × ComeTo i.loaded.table.columns i.loaded.dicts.items texts i.outcomes.items
   pub few : length i.outcomes.items ≤ 256
-  pub parts : (1 ≤ i.parts) × (i.parts ≤ 32)
-  pub scans : i.parts * length i.outcomes.items ≤ 256
-  pub workers : (1 ≤ i.workers) × (i.workers ≤ 32)
-  pub room : (3 * i.workers + 1) * groups (shape_in i) ≤ i.frames
-  pub frames : i.frames ≤ 33554432
-  pub words : i.frames * frame_words (shape_in i) ≤ 33554432
+  pub parts : (1 ≤ i.options.parts) × (i.options.parts ≤ 32)
+  pub scans : i.options.parts * length i.outcomes.items ≤ 256
+  pub workers : (1 ≤ i.options.workers) × (i.options.workers ≤ 32)
+  pub room : (3 * i.options.workers + 1) * groups (shape_in i) ≤ i.options.frames
+  pub frames : i.options.frames ≤ 33554432
+  pub words : i.options.frames * frame_words (shape_in i) ≤ 33554432
 
 -- the chunks that the story delivered to the first parts of a query, one part after another
 abbrev pub delivered_to : List Entry → ℕ → ℕ → ℕ → List ℕ
@@ -97,9 +93,9 @@ pub record IsWorked (i : Inputs) (w : Work) : Type 0 where
   -- one element for each scan, in their order, with exactly the chunks that the story delivered to it
   pub taken : AllZip (IsTakenBy w.story) (scans_in i) w.taken
   -- each scan took chunks of its part, each once, and where it ended all of them
-  pub took : All (TookNeed (zones_in i) i.parts w.story) (scans_in i)
+  pub took : All (TookNeed (zones_in i) i.options.parts w.story) (scans_in i)
   -- so the scans of a query that wasn't stopped took each chunk that it needs exactly once among them
-  pub once : All (TookEachOnce (zones_in i) i.parts w.story) (queries_in i)
+  pub once : All (TookEachOnce (zones_in i) i.options.parts w.story) (queries_in i)
   -- the table's pieces are put, and stay
   pub stored : ArePut (shape_in i) i.loaded.table.rows (pieces (shape_in i)) (pieces (shape_in i)) w.old.held w.new.held
 
@@ -107,7 +103,7 @@ pub record IsWorked (i : Inputs) (w : Work) : Type 0 where
 pub record AreAnswers (i : Inputs) (w : Work) (answers : List Answer) : Type 0 where
   pub each : length answers ≡ length (plans_of i.outcomes.items)
   pub worked : IsWorked i w
-  pub lost : AreLostBy (past w.story) i.parts 1 (losses i.outcomes.items answers)
+  pub lost : AreLostBy (past w.story) i.options.parts 1 (losses i.outcomes.items answers)
 
 -- what is printed of answers
 abbrev pub text_of : Inputs → Work → List Answer → Text

@@ -10,7 +10,7 @@ ghost use Rattle.run_decision.specs.Work.{work};
 use crate::answered::{Answered, Unanswered};
 use crate::ran::Ran;
 use crate::tasks::{Parted, join, part};
-use batch_run::{BatchEnd, BatchRefusal, Options, plans_fit, run_batch};
+use batch_run::{BatchEnd, BatchRefusal, plans_fit, run_batch};
 use coop_outside::Depot;
 use cscan::Gate;
 use relevance::Policy;
@@ -61,22 +61,11 @@ pub fn answer<P: Policy, D: Depot + Send, T: Gate + Sync, R: Threads + Wait + Sy
     // It says of plans what a batch asks of them.
     plans_fit();
     let Inputs {
-        workers,
-        frames,
-        per,
-        layout,
-        parts,
+        options,
         loaded,
         outcomes,
         ..
     } = inputs;
-    let options = Options {
-        workers,
-        frames,
-        per,
-        layout,
-        parts,
-    };
     let Parted { tasks, refusals } = match part(alloc, outcomes) {
         Ok(parted) => parted,
         Err(_) => {

@@ -73,6 +73,9 @@ load-stops r bytes s (inr memory) = inr memory
 
 -- ---- both
 
+pub same-err : {T : Type 0} (s t : Stop) → ◌≡◌ {A = Result T Stop} (Err s) (Err t) → s ≡ t
+same-err s t h = cc h
+
 rose-since : (before mid now : ℕ) → before ≤ mid → Rose mid now → Rose before now
 rose-since before mid now h rose = omega arith
 

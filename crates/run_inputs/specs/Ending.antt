@@ -4,17 +4,19 @@ use Rattle.coop_outside.specs.Causes.{Rose}
 use Rattle.coop_outside.specs.Held.{Held, Lacks, ReadFails, told}
 use Rattle.command_words.specs.Options.{Request}
 use Rattle.csv_load.specs.Loaded.{IsLoaded}
+use Rattle.csv_load.specs.declared.limits.TheConstants.{MOST_TEXT_BYTES}
 use Rattle.csv_load.specs.Rows.{table_records}
 use Rattle.run_output.specs.declared.stop.Stop.{Stop}
 use Rattle.run_output.specs.declared.stop.Stop.TheVariants as stop
 use Rattle.table_core.specs.Value.{places_of}
-use Rattle.run_inputs.specs.Order.{first_stop, frames_given, layout_of, stop_in}
+use Rattle.run_inputs.specs.Order.{first_stop, frames_given, stop_in}
 use Rattle.run_inputs.specs.Sources.{Source, made, stored, batch_source, table_source}
 use Rattle.run_inputs.specs.Statements.{statements_in}
 use Rattle.run_output.specs.Outcomes.{ComeTo}
 use Rattle.run_output.specs.declared.outcome.Outcome.{Outcome}
 use Rattle.run_inputs.specs.declared.inputs.Inputs.{Inputs}
 use Rattle.run_inputs.specs.declared.inputs.ReadTexts.{ReadTexts}
+use Rattle.run_inputs.specs.declared.limits.TheConstants.{MOST_BATCH_BYTES}
 use Rattle.csv_load.specs.declared.loading.Loaded.{Loaded}
 
 -- a call ends as it should: with such a value where nothing stops it, else with what stops it; or memory is wanting, or
@@ -63,7 +65,7 @@ pub record IsTable (r : Request) (text : Option (List ℕ)) (table : Loaded) (fr
   pub text_is : text ≡ Some bytes
   pub loaded : IsLoaded (table_records bytes) table.table table.dicts.items
   pub places : All (λ c. places_of c.kind ≤ 9) table.table.columns
-  pub frames_are : frames ≡ frames_given r.workers r.frames (layout_of r.layout) (length table.table.columns)
+  pub frames_are : frames ≡ frames_given r.workers r.frames r.layout (length table.table.columns)
 
 -- what the statements of a text come to over a table
 pub record IsBatch (text : Option (List ℕ)) (table : Loaded) (outcomes : List Outcome) : Type 0 where
@@ -73,21 +75,21 @@ pub record IsBatch (text : Option (List ℕ)) (table : Loaded) (outcomes : List 
 
 -- what a request gives a run, with these texts of its table and its batch
 pub record AreInputs (r : Request) (table batch : Option (List ℕ)) (i : Inputs) : Type 0 where
-  pub workers : i.workers ≡ r.workers
-  pub per : i.per ≡ r.per
-  pub layout : i.layout ≡ layout_of r.layout
-  pub parts : i.parts ≡ r.parts
+  pub workers : i.options.workers ≡ r.workers
+  pub per : i.options.per ≡ r.per
+  pub layout : i.options.layout ≡ r.layout
+  pub parts : i.options.parts ≡ r.parts
   pub summary : i.summary ≡ r.summary
   pub trace : i.trace ≡ r.trace
-  pub table_is : IsTable r table i.loaded i.frames
+  pub table_is : IsTable r table i.loaded i.options.frames
   pub batch_is : IsBatch batch i.loaded i.outcomes.items
 
 -- these texts were kept
 pub record AreKept (table batch : Option (List ℕ)) (texts : ReadTexts) : Type 0 where
   pub table_is : table ≡ Some texts.table
   pub batch_is : batch ≡ Some texts.batch
-  pub table_within : length texts.table ≤ 268435456
-  pub batch_within : length texts.batch ≤ 1048576
+  pub table_within : length texts.table ≤ MOST_TEXT_BYTES
+  pub batch_within : length texts.batch ≤ MOST_BATCH_BYTES
 
 -- over every shelf: some texts were read, which are those that it tells where it tells any, and they decide
 pub record IsReadWith {T : Type 0} (Is : Option (List ℕ) → Option (List ℕ) → T → Type 0) (r : Request) (held : Held) (before now : ℕ) (result : Result T Stop) : Type 0 where

@@ -1,33 +1,29 @@
 -- Why a run stops before its batch runs: the first refusal in the order of the work.
 use Rattle.std.specs.Prelude.{◌+◌, ◌*◌, ℕ, nat_lt, min, List, length, Option, Some, None, if◌then◌else◌}
 use Rattle.command_words.specs.Options.{Request}
-use Rattle.command_words.specs.declared.layout.Layout as asked
-use Rattle.command_words.specs.declared.layout.Layout.TheVariants as asked_layout
 use Rattle.csv_load.specs.Meaning.{Values, table_of}
 use Rattle.csv_load.specs.Judged.{or_else, refusal_of}
 use Rattle.csv_load.specs.Rows.{table_records}
+use Rattle.csv_load.specs.declared.limits.TheConstants.{MOST_TEXT_BYTES}
 use Rattle.csv_load.specs.declared.refusal.LoadRefusal.{LoadRefusal}
 use Rattle.csv_load.specs.declared.refusal.LoadRefusal.TheVariants as refusal
 use Rattle.piece_format.specs.Shape.{groups_in, word_count}
 use Rattle.piece_format.specs.declared.layout.Layout.{Layout}
-use Rattle.piece_format.specs.declared.layout.Layout.TheVariants as layouts
 use Rattle.run_output.specs.declared.stop.Stop.{Stop}
 use Rattle.run_output.specs.declared.stop.Stop.TheVariants as stop
 use Rattle.table_core.specs.Chunk.{chunk_count}
+use Rattle.table_core.specs.declared.limits.TheConstants.{MOST_CHUNKS}
 use Rattle.run_inputs.specs.Statements.{spans_in}
+use Rattle.run_inputs.specs.declared.limits.TheConstants.{MOST_BATCH_BYTES, MOST_POOL_WORDS, MOST_SCANS, MOST_STATEMENTS}
 
 -- the run stops for this where a number passes its limit
 abbrev pub past : ℕ → ℕ → Stop → Option Stop
 past limit n s = if nat_lt limit n then Some s else None
 
-abbrev pub layout_of : asked.Layout → Layout
-layout_of asked_layout.Row = layouts.Row
-layout_of asked_layout.Column = layouts.Column
-
 -- ---- the table
 
 abbrev pub long_table : List ℕ → Option Stop
-long_table text = past 268435456 (length text) stop.TableTooLong
+long_table text = past MOST_TEXT_BYTES (length text) stop.TableTooLong
 
 -- why a list of records is no table
 abbrev pub load_stop : Option LoadRefusal → Option Stop
@@ -40,9 +36,9 @@ load_stop (Some (refusal.Ragged row fields)) = Some (stop.Ragged row fields)
 load_stop (Some refusal.TooManyRows) = Some stop.TooManyRows
 load_stop (Some refusal.Memory) = Some stop.Memory
 
--- the table has at most 1024 chunks
+-- the table has at most MOST_CHUNKS chunks
 abbrev pub chunks_stop : ℕ → ℕ → Option Stop
-chunks_stop per rows = past 1024 (chunk_count rows per) (stop.Chunks (chunk_count rows per))
+chunks_stop per rows = past MOST_CHUNKS (chunk_count rows per) (stop.Chunks (chunk_count rows per))
 
 -- ---- the frames
 
@@ -59,15 +55,15 @@ frames_given workers (Some frames) layout columns = frames
 abbrev pub words_given : ℕ → Option ℕ → Layout → ℕ → ℕ → ℕ → ℕ
 words_given workers frames layout columns per rows = frames_given workers frames layout columns * word_count layout columns (min per rows)
 
--- the frames are enough, and have at most 33554432 words
+-- the frames are enough, and have at most MOST_POOL_WORDS words
 abbrev pub frames_stop : ℕ → Option ℕ → Layout → ℕ → ℕ → ℕ → Option Stop
 frames_stop workers frames layout columns per rows =
     or_else (past (frames_given workers frames layout columns) (frames_needed workers layout columns) (stop.FramesNeeded (frames_needed workers layout columns)))
-    (past 33554432 (words_given workers frames layout columns per rows) (stop.FrameWords (words_given workers frames layout columns per rows)))
+    (past MOST_POOL_WORDS (words_given workers frames layout columns per rows) (stop.FrameWords (words_given workers frames layout columns per rows)))
 
 -- why a table with so many columns and rows stops the run
 abbrev pub size_stop : Request → ℕ → ℕ → Option Stop
-size_stop r columns rows = or_else (chunks_stop r.per rows) (frames_stop r.workers r.frames (layout_of r.layout) columns r.per rows)
+size_stop r columns rows = or_else (chunks_stop r.per rows) (frames_stop r.workers r.frames r.layout columns r.per rows)
 
 abbrev pub table_size_stop : Request → Values → Option Stop
 table_size_stop r t = size_stop r (length t.columns) (length t.rows)
@@ -83,11 +79,11 @@ table_stop r text = or_else (long_table text) (short_table_stop r text)
 -- ---- the batch
 
 abbrev pub long_batch : List ℕ → Option Stop
-long_batch text = past 1048576 (length text) stop.BatchTooLong
+long_batch text = past MOST_BATCH_BYTES (length text) stop.BatchTooLong
 
--- there are at most 256 statements, and at most 256 scans
+-- there are at most MOST_STATEMENTS statements, and at most MOST_SCANS scans
 abbrev pub count_stop : ℕ → ℕ → Option Stop
-count_stop parts statements = or_else (past 256 statements (stop.Statements statements)) (past 256 (parts * statements) (stop.Scans (parts * statements)))
+count_stop parts statements = or_else (past MOST_STATEMENTS statements (stop.Statements statements)) (past MOST_SCANS (parts * statements) (stop.Scans (parts * statements)))
 
 -- why a text that is short enough stops the run as its batch
 abbrev pub short_batch_stop : Request → List ℕ → Option Stop

@@ -1,5 +1,6 @@
 -- Where the texts of the table and of the batch come from.
 use Rattle.std.specs.Prelude.{ℕ, ◌≤◌, List, Option, Some, None}
+use Rattle.command_words.specs.declared.limits.TheConstants.{MOST_GENERATED_ROWS}
 use Rattle.command_words.specs.Options.{TableIs, generated, file, BatchIs, generated_batch, batch_file, table_of, batch_of}
 use Rattle.generated_texts.specs.Table.{table_text}
 use Rattle.generated_texts.specs.Batch.{batch_text}
@@ -21,9 +22,9 @@ source_named word (Some t) = source_of_table t
 abbrev pub table_source : List ℕ → Source
 table_source word = source_named word (table_of word)
 
--- a generated table has at most 1048576 rows
+-- a generated table has at most MOST_GENERATED_ROWS rows
 abbrev pub HasFewRows : TableIs → Type 0
-HasFewRows (generated seed rows) = rows ≤ 1048576
+HasFewRows (generated seed rows) = rows ≤ MOST_GENERATED_ROWS
 HasFewRows (file name) = Unit {0}
 
 abbrev pub source_of_batch : BatchIs → Source

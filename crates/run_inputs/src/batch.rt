@@ -11,20 +11,15 @@ ghost use Rattle.sql_bind.specs.Statements.{IsRefusedFor, TextCause};
 ghost use Rattle.table_core.specs.Value.{places_of};
 ghost use Rattle.table_core.specs.declared.schema.Column.{Column};
 
-use command_words::Batch;
+use crate::limits::{MOST_BATCH_BYTES, MOST_SCANS, MOST_STATEMENTS};
+use command_words::{Batch, MOST_PARTS};
 use coop_outside::{Bytes, ReadFault, Shelf, read_all};
 use generated_texts::batch_text;
 use run_output::{Outcome, Stop};
 use sql_bind::{BindRefusal, StatementRefusal, plan_of};
 use sql_tokens::{Span, TextRefusal, split};
 use std::alloc::Global;
-use table_core::{Dict, Schema};
-
-const BATCH_LIMIT: u64 = 1048576;
-
-const MAX_STATEMENTS: u32 = 256;
-
-const MAX_SCANS: u32 = 256;
+use table_core::{Dict, MOST_COLUMNS, Schema};
 
 /// The text of a batch: it is generated, or read from the shelf.
 pub(crate) fn batch_bytes<F: Shelf>(
@@ -38,7 +33,7 @@ pub(crate) fn batch_bytes<F: Shelf>(
     ensures cause { IfErr result (λ s. s ≡ stop.BatchFault
         → SourceFails (F.held shelf.old) (source_of_batch (batch_view batch.entry)) (F.faults shelf.old)
         (F.faults shelf.new)) }
-    ensures within { IfOk result (λ b. length b ≤ 1048576) }
+    ensures within { IfOk result (λ b. length b ≤ MOST_BATCH_BYTES) }
     ensures held { F.held shelf.new ≡ F.held shelf.old }
     ensures later { F.faults shelf.old ≤ F.faults shelf.new }
 {
@@ -47,7 +42,7 @@ pub(crate) fn batch_bytes<F: Shelf>(
             Ok(text) => Ok(Bytes::new(text)),
             Err(_) => Err(Stop::Memory),
         },
-        Batch::File(name) => match read_all(alloc, shelf, name, BATCH_LIMIT) {
+        Batch::File(name) => match read_all(alloc, shelf, name, MOST_BATCH_BYTES) {
             Ok(text) => Ok(text),
             Err(ReadFault::Fault) => Err(Stop::BatchFault),
             Err(ReadFault::TooLong { limit: _ }) => Err(Stop::BatchTooLong),
@@ -58,8 +53,8 @@ pub(crate) fn batch_bytes<F: Shelf>(
 
 /// Where the statements of a batch stand; or that they are too many, alone or in so many parts.
 pub(crate) fn statements_of(alloc: Global, parts: u32, text: &[u8]) -> Result<Vec<Span>, Stop>
-    requires long { length text.now ≤ 1048576 }
-    requires parts { parts ≤ 32 }
+    requires long { length text.now ≤ MOST_BATCH_BYTES }
+    requires parts { parts ≤ MOST_PARTS }
     ensures ok { IfOk result (λ spans. (count_stop parts (length (spans_in text.now)) ≡ None)
         × (spans.items ≡ spans_in text.now)) }
     ensures there { IfOk result (λ spans. All (IsSpanIn (length text.now)) spans.items) }
@@ -71,11 +66,11 @@ pub(crate) fn statements_of(alloc: Global, parts: u32, text: &[u8]) -> Result<Ve
         Err(_) => return Err(Stop::Memory),
     };
     let statements = spans.len() as u32;
-    if statements > MAX_STATEMENTS {
+    if statements > MOST_STATEMENTS {
         return Err(Stop::Statements { statements });
     }
     let scans = parts * statements;
-    if scans > MAX_SCANS {
+    if scans > MOST_SCANS {
         return Err(Stop::Scans { scans });
     }
     Ok(spans)
@@ -96,7 +91,7 @@ fn is_memory(refusal: &StatementRefusal) -> bool
 // What a statement comes to, unless memory is wanting.
 fn outcome_of(alloc: Global, text: &[u8], schema: &Schema, dicts: &[Dict]) -> Result<Outcome, Stop>
     requires short { length text.now < 2 ^ 32 }
-    requires few { length schema.now ≤ 16 }
+    requires few { length schema.now ≤ MOST_COLUMNS }
     requires places { All (λ c. places_of c.kind ≤ 9) schema.now }
     requires dicts { length dicts.now ≡ length schema.now }
     ensures ok { IfOk result (λ o. ComesTo schema.now dicts.now text.now o) }
@@ -123,7 +118,7 @@ pub(crate) fn outcomes_of(
 ) -> Result<Vec<Outcome>, Stop>
     requires there { All (IsSpanIn (length text.now)) spans.now }
     requires short { length text.now < 2 ^ 32 }
-    requires few { length schema.now ≤ 16 }
+    requires few { length schema.now ≤ MOST_COLUMNS }
     requires places { All (λ c. places_of c.kind ≤ 9) schema.now }
     requires dicts { length dicts.now ≡ length schema.now }
     ensures ok { IfOk result (λ v. ComeTo schema.now dicts.now (map (part text.now) spans.now) v.items) }
@@ -132,10 +127,7 @@ pub(crate) fn outcomes_of(
     let mut outcomes = Vec::new(alloc);
     for span in spans {
         let statement = &text[span.from as usize..span.to as usize];
-        let outcome = match outcome_of(alloc, statement, schema, dicts) {
-            Ok(outcome) => outcome,
-            Err(stop) => return Err(stop),
-        };
+        let outcome = outcome_of(alloc, statement, schema, dicts)?;
         match outcomes.push(outcome) {
             Ok(()) => {}
             Err(_) => return Err(Stop::Memory),

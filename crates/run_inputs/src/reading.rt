@@ -12,15 +12,18 @@ ghost use Rattle.sql_tokens.specs.declared.span.Span.{Span};
 ghost use Rattle.table_core.specs.Value.{places_of};
 
 use crate::batch::{batch_bytes, outcomes_of, statements_of};
-use crate::frames::{frames_for, layout_of};
+use crate::frames::frames_for;
 use crate::inputs::{Inputs, ReadTexts};
+use crate::limits::MOST_BATCH_BYTES;
 use crate::table::{load_table, table_bytes, table_named};
+use batch_plan::Options;
 use command_words::{Batch, Request};
 use coop_outside::{Bytes, Shelf};
-use csv_load::Loaded;
+use csv_load::{Loaded, MOST_TEXT_BYTES};
 use run_output::{Outcome, Stop};
 use std::alloc::Global;
 use std::hash::RandomState;
+use table_core::MOST_COLUMNS;
 
 /// What a request and the shelf give a run, or why the run stops: the first refusal in the order table, chunks, frames,
 /// batch, statements. The numbers of the request lie within their limits.
@@ -80,10 +83,8 @@ fn drop_texts<F: Shelf>(
     ensures held { F.held shelf.new ≡ F.held shelf.old }
     ensures later { F.faults shelf.old ≤ F.faults shelf.new }
 {
-    match read_inputs(alloc, keys, request, shelf) {
-        Ok((inputs, _)) => Ok(inputs),
-        Err(stop) => Err(stop),
-    }
+    let (inputs, _) = read_inputs(alloc, keys, request, shelf)?;
+    Ok(inputs)
 }
 
 /// The same, and the texts that were read, for runs to come: `inputs_again` makes the inputs of them once more.
@@ -106,14 +107,8 @@ pub fn read_inputs<F: Shelf>(
     ensures held { F.held shelf.new ≡ F.held shelf.old }
     ensures later { F.faults shelf.old ≤ F.faults shelf.new }
 {
-    let (loaded, frames, table) = match read_table(alloc, keys, request, shelf) {
-        Ok(table) => table,
-        Err(stop) => return Err(stop),
-    };
-    let (outcomes, batch) = match read_batch(alloc, request, &loaded, shelf) {
-        Ok(batch) => batch,
-        Err(stop) => return Err(stop),
-    };
+    let (loaded, frames, table) = read_table(alloc, keys, request, shelf)?;
+    let (outcomes, batch) = read_batch(alloc, request, &loaded, shelf)?;
     let inputs = inputs_with(request, loaded, frames, outcomes);
     Ok((inputs, ReadTexts { table, batch }))
 }
@@ -130,22 +125,16 @@ pub fn inputs_again(
     texts: &ReadTexts,
 ) -> Result<Inputs, Stop>
     requires limits { IsWithinLimits (request_view request.now) }
-    requires table { length texts.now.table ≤ 268435456 }
-    requires batch { length texts.now.batch ≤ 1048576 }
+    requires table { length texts.now.table ≤ MOST_TEXT_BYTES }
+    requires batch { length texts.now.batch ≤ MOST_BATCH_BYTES }
     ensures ok { IfOk result (λ i. (first_stop (request_view request.now) (Some texts.now.table)
         (Some texts.now.batch) ≡ None)
         × AreInputs (request_view request.now) (Some texts.now.table) (Some texts.now.batch) i) }
     ensures err { IfErr result (λ s. (first_stop (request_view request.now) (Some texts.now.table)
         (Some texts.now.batch) ≡ Some s) ⊎ (s ≡ stop.Memory)) }
 {
-    let (loaded, frames) = match table_in(alloc, keys, request, texts.table.as_slice()) {
-        Ok(table) => table,
-        Err(stop) => return Err(stop),
-    };
-    let outcomes = match batch_in(alloc, request, &loaded, texts.batch.as_slice()) {
-        Ok(outcomes) => outcomes,
-        Err(stop) => return Err(stop),
-    };
+    let (loaded, frames) = table_in(alloc, keys, request, texts.table.as_slice())?;
+    let outcomes = batch_in(alloc, request, &loaded, texts.batch.as_slice())?;
     Ok(inputs_with(request, loaded, frames, outcomes))
 }
 
@@ -156,11 +145,13 @@ fn inputs_with(request: &Request<'_>, loaded: Loaded, frames: u32, outcomes: Vec
         → AreInputs (request_view request.now) table batch result }
 {
     Inputs {
-        workers: request.workers,
-        frames,
-        per: request.per,
-        layout: layout_of(request.layout),
-        parts: request.parts,
+        options: Options {
+            workers: request.workers,
+            frames,
+            per: request.per,
+            layout: request.layout,
+            parts: request.parts,
+        },
         summary: request.summary,
         trace: request.trace,
         loaded,
@@ -178,7 +169,7 @@ fn read_table<F: Shelf>(
     requires limits { IsWithinLimits (request_view request.now) }
     ensures read { (text : Option (List ℕ)) × IsTextOf (F.held shelf.old) (table_source request.now.table.now) text
         × Ends (stop_in stop.TableFault (table_stop (request_view request.now)) text) (λ p. IsTable (request_view request.now) text p.0 p.1 × (text ≡ Some p.2)) (λ s. s ≡ stop.TableFault) (F.faults shelf.old) (F.faults shelf.new) result }
-    ensures within { IfOk result (λ p. length p.2 ≤ 268435456) }
+    ensures within { IfOk result (λ p. length p.2 ≤ MOST_TEXT_BYTES) }
     ensures of_table { IfErr result IsOfTable }
     ensures cause { IfErr result (λ s. s ≡ stop.TableFault
         → SourceFails (F.held shelf.old) (table_source request.now.table.now) (F.faults shelf.old)
@@ -186,14 +177,8 @@ fn read_table<F: Shelf>(
     ensures held { F.held shelf.new ≡ F.held shelf.old }
     ensures later { F.faults shelf.old ≤ F.faults shelf.new }
 {
-    let text = match table_bytes(alloc, table_named(request.table), shelf) {
-        Ok(text) => text,
-        Err(stop) => return Err(stop),
-    };
-    let (loaded, frames) = match table_in(alloc, keys, request, text.as_slice()) {
-        Ok(table) => table,
-        Err(stop) => return Err(stop),
-    };
+    let text = table_bytes(alloc, table_named(request.table), shelf)?;
+    let (loaded, frames) = table_in(alloc, keys, request, text.as_slice())?;
     Ok((loaded, frames, text))
 }
 
@@ -205,21 +190,15 @@ fn table_in(
     text: &[u8],
 ) -> Result<(Loaded, u32), Stop>
     requires limits { IsWithinLimits (request_view request.now) }
-    requires small { length text.now ≤ 268435456 }
+    requires small { length text.now ≤ MOST_TEXT_BYTES }
     ensures ok { IfOk result (λ p. (short_table_stop (request_view request.now) text.now ≡ None)
         × IsTable (request_view request.now) (Some text.now) p.0 p.1) }
     ensures err { IfErr result (λ s. (short_table_stop (request_view request.now) text.now ≡ Some s)
         ⊎ (s ≡ stop.Memory)) }
     ensures of_table { IfErr result (λ s. IsOfTable s × (s ≢ stop.TableFault)) }
 {
-    let loaded = match load_table(alloc, keys, text) {
-        Ok(loaded) => loaded,
-        Err(stop) => return Err(stop),
-    };
-    let frames = match frames_for(alloc, request, &loaded) {
-        Ok(frames) => frames,
-        Err(stop) => return Err(stop),
-    };
+    let loaded = load_table(alloc, keys, text)?;
+    let frames = frames_for(alloc, request, &loaded)?;
     Ok((loaded, frames))
 }
 
@@ -231,12 +210,12 @@ fn read_batch<F: Shelf>(
     shelf: &mut F,
 ) -> Result<(Vec<Outcome>, Bytes), Stop>
     requires limits { IsWithinLimits (request_view request.now) }
-    requires few { length loaded.now.table.columns ≤ 16 }
+    requires few { length loaded.now.table.columns ≤ MOST_COLUMNS }
     requires places { All (λ c. places_of c.kind ≤ 9) loaded.now.table.columns }
     requires dicts { length loaded.now.dicts.items ≡ length loaded.now.table.columns }
     ensures read { (text : Option (List ℕ)) × IsTextOf (F.held shelf.old) (batch_source request.now.batch.now) text
         × Ends (stop_in stop.BatchFault (batch_stop (request_view request.now)) text) (λ p. IsBatch text loaded.now p.0.items × (text ≡ Some p.1)) (λ s. s ≡ stop.BatchFault) (F.faults shelf.old) (F.faults shelf.new) result }
-    ensures within { IfOk result (λ p. length p.1 ≤ 1048576) }
+    ensures within { IfOk result (λ p. length p.1 ≤ MOST_BATCH_BYTES) }
     ensures of_batch { IfErr result IsOfBatch }
     ensures cause { IfErr result (λ s. s ≡ stop.BatchFault
         → SourceFails (F.held shelf.old) (batch_source request.now.batch.now) (F.faults shelf.old)
@@ -244,14 +223,8 @@ fn read_batch<F: Shelf>(
     ensures held { F.held shelf.new ≡ F.held shelf.old }
     ensures later { F.faults shelf.old ≤ F.faults shelf.new }
 {
-    let text = match batch_bytes(alloc, Batch::named(request.batch), shelf) {
-        Ok(text) => text,
-        Err(stop) => return Err(stop),
-    };
-    let outcomes = match batch_in(alloc, request, loaded, text.as_slice()) {
-        Ok(outcomes) => outcomes,
-        Err(stop) => return Err(stop),
-    };
+    let text = batch_bytes(alloc, Batch::named(request.batch), shelf)?;
+    let outcomes = batch_in(alloc, request, loaded, text.as_slice())?;
     Ok((outcomes, text))
 }
 
@@ -263,8 +236,8 @@ fn batch_in(
     text: &[u8],
 ) -> Result<Vec<Outcome>, Stop>
     requires limits { IsWithinLimits (request_view request.now) }
-    requires long { length text.now ≤ 1048576 }
-    requires few { length loaded.now.table.columns ≤ 16 }
+    requires long { length text.now ≤ MOST_BATCH_BYTES }
+    requires few { length loaded.now.table.columns ≤ MOST_COLUMNS }
     requires places { All (λ c. places_of c.kind ≤ 9) loaded.now.table.columns }
     requires dicts { length loaded.now.dicts.items ≡ length loaded.now.table.columns }
     ensures ok { IfOk result (λ v. (short_batch_stop (request_view request.now) text.now ≡ None)
@@ -273,10 +246,7 @@ fn batch_in(
         ⊎ (s ≡ stop.Memory)) }
     ensures of_batch { IfErr result (λ s. IsOfBatch s × (s ≢ stop.BatchFault)) }
 {
-    let spans = match statements_of(alloc, request.parts, text) {
-        Ok(spans) => spans,
-        Err(stop) => return Err(stop),
-    };
+    let spans = statements_of(alloc, request.parts, text)?;
     outcomes_of(
         alloc,
         text,

@@ -12,13 +12,11 @@ ghost use Rattle.table_core.specs.Value.{places_of};
 
 use command_words::Table;
 use coop_outside::{Bytes, ReadFault, Shelf, read_all};
-use csv_load::{LoadRefusal, Loaded, load};
+use csv_load::{LoadRefusal, Loaded, MOST_TEXT_BYTES, load};
 use generated_texts::table_text;
 use run_output::Stop;
 use std::alloc::Global;
 use std::hash::RandomState;
-
-const TABLE_LIMIT: u64 = 268435456;
 
 /// What a word names as a table.
 pub(crate) fn table_named<'a>(word: &'a str) -> Table<'a>
@@ -44,7 +42,7 @@ pub(crate) fn table_bytes<F: Shelf>(
     ensures cause { IfErr result (λ s. s ≡ stop.TableFault
         → SourceFails (F.held shelf.old) (source_of_table (table_view table.entry)) (F.faults shelf.old)
         (F.faults shelf.new)) }
-    ensures within { IfOk result (λ b. length b ≤ 268435456) }
+    ensures within { IfOk result (λ b. length b ≤ MOST_TEXT_BYTES) }
     ensures held { F.held shelf.new ≡ F.held shelf.old }
     ensures later { F.faults shelf.old ≤ F.faults shelf.new }
 {
@@ -53,7 +51,7 @@ pub(crate) fn table_bytes<F: Shelf>(
             Ok(text) => Ok(Bytes::new(text)),
             Err(_) => Err(Stop::Memory),
         },
-        Table::File(name) => match read_all(alloc, shelf, name, TABLE_LIMIT) {
+        Table::File(name) => match read_all(alloc, shelf, name, MOST_TEXT_BYTES as u64) {
             Ok(text) => Ok(text),
             Err(ReadFault::Fault) => Err(Stop::TableFault),
             Err(ReadFault::TooLong { limit: _ }) => Err(Stop::TableTooLong),
@@ -79,7 +77,7 @@ fn stop_of(refusal: LoadRefusal) -> Stop
 
 /// The table of a text.
 pub(crate) fn load_table(alloc: Global, keys: RandomState, text: &[u8]) -> Result<Loaded, Stop>
-    requires small { length text.now ≤ 268435456 }
+    requires small { length text.now ≤ MOST_TEXT_BYTES }
     ensures loaded { IfOk result (λ l. IsLoaded (table_records text.now) l.table l.dicts.items) }
     ensures places { IfOk result (λ l. All (λ c. places_of c.kind ≤ 9) l.table.columns) }
     ensures refused { IfErr result (λ s. (load_stop (refusal_of (table_records text.now)) ≡ Some s)

@@ -129,27 +129,27 @@ module _ (i : Inputs) (can : CanRun i) (name : PolicyName) (cursor : List ℕ) w
   tasks_some : AllByRecursion (λ (t : Task). 1 ≤ t.query) (queries_in i)
   tasks_some = somes 1 (queries_in i) (λ t. (1 ≤ t.query) × (t.query < 1 + length i.outcomes.items)) (λ t. 1 ≤ t.query) (λ t h. h.0) (tasks_within 1 i.outcomes.items)
 
-  tasks_numbered : AllByRecursion (λ (t : Task). t.query * i.parts ≤ 256) (queries_in i)
+  tasks_numbered : AllByRecursion (λ (t : Task). t.query * i.options.parts ≤ 256) (queries_in i)
   tasks_numbered =
       let n = length i.outcomes.items in
-      let few : n * i.parts ≤ 256 = omega (arith, can.scans) in
-      recursion_from_All (λ (t : Task). t.query * i.parts ≤ 256) (queries_in i) (scans-few i.parts n 1 i.outcomes.items few (omega arith))
+      let few : n * i.options.parts ≤ 256 = omega (arith, can.scans) in
+      recursion_from_All (λ (t : Task). t.query * i.options.parts ≤ 256) (queries_in i) (scans-few i.options.parts n 1 i.outcomes.items few (omega arith))
 
   all_small : AllByRecursion IsSmall s.needs
-  all_small = needs_small (zones_in i) i.parts (scans_from i.workers i.parts 0 (queries_in i)) (scans_numbers i.workers i.parts 0 (queries_in i) tasks_some tasks_numbered)
+  all_small = needs_small (zones_in i) i.options.parts (scans_from i.options.workers i.options.parts 0 (queries_in i)) (scans_numbers i.options.workers i.options.parts 0 (queries_in i) tasks_some tasks_numbered)
 
   needs_few : length s.needs ≤ 256
   needs_few =
-      let ks = scans_from i.workers i.parts 0 (queries_in i) in
-      let tasks = mul-le-mul_right i.parts (tasks_few 1 i.outcomes.items) in
-      omega (arith, length-map (plan.needs (zones_in i) i.parts ks) as_need, length-map ks (plan.need_of (zones_in i) i.parts), scans_long i.workers i.parts 0 (queries_in i), tasks, can.scans)
+      let ks = scans_from i.options.workers i.options.parts 0 (queries_in i) in
+      let tasks = mul-le-mul_right i.options.parts (tasks_few 1 i.outcomes.items) in
+      omega (arith, length-map (plan.needs (zones_in i) i.options.parts ks) as_need, length-map ks (plan.need_of (zones_in i) i.options.parts), scans_long i.options.workers i.options.parts 0 (queries_in i), tasks, can.scans)
 
   capacity_few : capacity_for s ≤ 9464064
   capacity_few =
       let n = needs_few in
       let size = sizes_few s.needs all_small in
       let kinds = length-map i.loaded.table.columns (λ c. c.kind) in
-      let g : s.groups ≤ 16 = groups_few i.layout _ (omega (arith, kinds, can.loaded.1.few_columns)) in
+      let g : s.groups ≤ 16 = groups_few i.options.layout _ (omega (arith, kinds, can.loaded.1.few_columns)) in
       let most = mul-le-mul {n₁ = sizes s + 3 * length s.needs} {m₁ = 2 + 2 * s.groups} {n₂ = 262912} {m₂ = 34} (omega (arith, n, size)) (omega (arith, g)) in
       omega (arith, most, n, size)
 

@@ -275,11 +275,11 @@ type Settings = (u32, u32, u32, Layout, u32);
 
 fn settings_of(inputs: &Inputs) -> Settings {
     (
-        inputs.workers,
-        inputs.frames,
-        inputs.per,
-        inputs.layout,
-        inputs.parts,
+        inputs.options.workers,
+        inputs.options.frames,
+        inputs.options.per,
+        inputs.options.layout,
+        inputs.options.parts,
     )
 }
 
@@ -413,7 +413,7 @@ fn inputs_are_made_again_of_the_texts_that_were_read(rt: HostRuntime) -> Result<
         panic!(rt; "stopped again")
     };
     for inputs in [&first, &second] {
-        assert!(rt; (inputs.workers, inputs.frames) == (1, 4));
+        assert!(rt; (inputs.options.workers, inputs.options.frames) == (1, 4));
         assert!(rt; (inputs.loaded.table.len(), inputs.outcomes.len()) == (5, 1));
     }
     Ok(())

@@ -1,8 +1,7 @@
 // Each device fails at each call.
 use super::{COUNT, COUNT_TWICE, TABLE_A, WORDS, run_on, shelf_of, sink_of, words_of};
-use command_words::{Call, options_of};
 use coop_outside::{MemDepot, SpoiltDepot};
-use coop_run::{run, run_settings};
+use coop_run::{Layout, Settings, run, run_settings};
 use cscan::NoGate;
 use relevance::Relevance;
 use scan_story::{Entry, Why};
@@ -173,12 +172,19 @@ fn a_stop_line_that_fails_keeps_its_status(rt: HostRuntime) -> Result<(), Fail> 
 }
 
 #[test]
-fn a_request_in_place_of_words(rt: HostRuntime) -> Result<(), Fail> {
+fn settings_in_place_of_words(rt: HostRuntime) -> Result<(), Fail> {
     let alloc = rt.alloc();
-    let words = words_of(alloc, WORDS)?;
-    let Ok(request) = options_of(alloc, Call::Run, &words) else {
-        assert!(rt; false);
-        return Ok(());
+    // What `WORDS` ask for.
+    let settings = Settings {
+        workers: 1,
+        frames: Some(4),
+        per: 2,
+        layout: Layout::Row,
+        parts: 1,
+        summary: false,
+        trace: false,
+        table: String::from_str(alloc, "a.csv")?,
+        batch: String::from_str(alloc, "b.sql")?,
     };
     let mut shelf = shelf_of(alloc, TABLE_A.as_bytes(), COUNT.as_bytes())?;
     let mut out = sink_of(alloc, 100);
@@ -187,7 +193,7 @@ fn a_request_in_place_of_words(rt: HostRuntime) -> Result<(), Fail> {
         &rt,
         alloc,
         keys,
-        &request,
+        &settings,
         &mut shelf,
         MemDepot::new(alloc),
         Relevance,

@@ -15,8 +15,8 @@ returns-in-Ok-clause-ok c =
     let not_bare : list_any is_bare (texts c.args.words.now) ≡ false = sym c.has_bare.ensures ∙ c.if-has_bare.false in
     read_ok c.args.call c.args.words.now not_bare (app_of c.in_ok-command.command) c.in-Ok.matches c.in_ok-command.ensures c.in-Ok.ensures.kinds c.in-Ok.ensures.matches
 
-pub returns-in_default : goal.returns-in_default
-returns-in_default c =
+pub returns : goal.returns
+returns c =
     let not_bare : list_any is_bare (texts c.args.words.now) ≡ false = sym c.has_bare.ensures ∙ c.if-has_bare.false in
     record {
       ok = tt;

@@ -11,8 +11,8 @@ returns-in-Some-clause-ok c =
     let values = c.found.ensures (known_to c.args.call) ok.0 ok.2 (knows_values c.args.call) in
     asks c.args.call (texts c.args.words.now) ok.0 (values_view c.found.result) ok.1 values ∙ sym c.in-Some.ensures.request
 
-pub returns-in-None-clause-usage : goal.returns-in-None-clause-usage
-returns-in-None-clause-usage c =
+pub returns-clause-usage : goal.returns-clause-usage
+returns-clause-usage c =
     let ok = c.in_ok-matches.ensures.ok in
     let values = c.found.ensures (known_to c.args.call) ok.0 ok.2 (knows_values c.args.call) in
     λ _. asks c.args.call (texts c.args.words.now) ok.0 (values_view c.found.result) ok.1 values ∙ sym c.in-None.ensures.request

@@ -1,10 +1,11 @@
 use Rattle.std.proofs.Common.{Some}
-use Rattle.command_words.specs.Views.{request_view}
+use Rattle.coop_run.specs.Settings.{asked_in_settings}
 use Rattle.coop_run.proofs.Endings.{keeps-promises}
 use Rattle.coop_run.proofs.one_policy.run_settings.Goals as goal
 
 pub returns-clause-promises : goal.returns-clause-promises
-returns-clause-promises g c = keeps-promises (Some (request_view c.args.request.now)) _ _ c.run_request.ensures.decides
+returns-clause-promises g c = keeps-promises (Some (asked_in_settings c.args.settings.now)) _ _ (rw c.request-request.ensures at c.run_request.ensures.decides)
 
 pub returns-clause-usage : goal.returns-clause-usage
-returns-clause-usage g c two = let none = (keeps-promises (Some (request_view c.args.request.now)) _ _ c.run_request.ensures.decides).usage.only two in cc none
+returns-clause-usage g c two =
+    let none = (keeps-promises (Some (asked_in_settings c.args.settings.now)) _ _ (rw c.request-request.ensures at c.run_request.ensures.decides)).usage.only two in cc none

@@ -30,8 +30,8 @@ pub run_batch-requires-clause-scans : goal.run_batch-requires-clause-scans
 run_batch-requires-clause-scans g c κs within =
     let i = c.args.inputs in
     let n = length i.outcomes.items in
-    let few : n * i.parts ≤ 256 = omega (arith, c.requires.can.scans) in
-    rw (c.deref.ensures.value, c.in-Ok.ensures.tasks) (scans-few i.parts n 1 i.outcomes.items few (omega arith))
+    let few : n * i.options.parts ≤ 256 = omega (arith, c.requires.can.scans) in
+    rw (c.deref.ensures.value, c.in-Ok.ensures.tasks) (scans-few i.options.parts n 1 i.outcomes.items few (omega arith))
 
 pub returns-in-Ok-join-clause-answered : goal.returns-in-Ok-join-clause-answered
 returns-in-Ok-join-clause-answered g c =
@@ -50,7 +50,7 @@ returns-in-Ok-join-clause-answered g c =
       are = record {
         each = zip-length (CanBeWritten i.loaded.dicts.items) (plans_of os) end.answers.items written;
         worked = is-worked i w c.requires.can (rw tasks at told.story) (rw tasks at told.taken) (rw tasks at told.took) told.stored;
-        lost = lost_by (past end.story.items) (zones_in i) i.workers i.parts os
+        lost = lost_by (past end.story.items) (zones_in i) i.options.workers i.options.parts os
             (λ q none. only_asked (setting_in i (g.P.Policy.name c.args.policy) (g.P.Policy.cursor c.args.policy)) (past end.story.items) q (rw tasks at told.story).whole.legal none)
             end.answers.items (rw tasks at told.lost);
       };

@@ -14,6 +14,6 @@ loop-span-preserved c =
     let d : Span = record { from = 0; to = 0 } in
     let low : i < length spans = omega (arith, c.loop-span-test.true) in
     let more = ap (map (part text)) (take_more spans i d low) ∙ map-append (part text) (take i spans) (get_or spans i d ∷ []) in
-    let whole = zip-push (ComesTo c.args.schema.now c.args.dicts.now) (map (part text) (take i spans)) c.loop-span.outcomes.items (part text (get_or spans i d)) c.in-Ok.outcome c.loop-span.invariant
-    c.in-Ok.ensures.ok in
-    rw (more, c.in-Ok-push.ensures.items) whole
+    let whole = zip-push (ComesTo c.args.schema.now c.args.dicts.now) (map (part text) (take i spans)) c.loop-span.outcomes.items (part text (get_or spans i d)) c.in_ok-outcome.outcome c.loop-span.invariant
+    c.in_ok-outcome.ensures.ok in
+    rw (more, c.in-Ok.ensures.items) whole

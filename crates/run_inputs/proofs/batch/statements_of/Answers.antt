@@ -10,23 +10,23 @@ overflow_cast-statements c =
     let same = only-spans c.args.text.now c.in-Ok.spans.items c.in-Ok.ensures in
     omega (arith, c.len-statements.ensures, c.in-Ok.spans.ok.0, ap length same, spans-few c.args.text.now, c.requires.long)
 
-pub returns-then-statements-gt-MAX_STATEMENTS-clause-err : goal.returns-then-statements-gt-MAX_STATEMENTS-clause-err
-returns-then-statements-gt-MAX_STATEMENTS-clause-err c =
+pub returns-then-statements-gt-MOST_STATEMENTS-clause-err : goal.returns-then-statements-gt-MOST_STATEMENTS-clause-err
+returns-then-statements-gt-MOST_STATEMENTS-clause-err c =
     let same = only-spans c.args.text.now c.in-Ok.spans.items c.in-Ok.ensures in
     inl (too-many c.args.parts (length (spans_in c.args.text.now)) c.len-statements.result (omega (arith, c.len-statements.ensures, c.in-Ok.spans.ok.0, ap length same))
-    (omega (arith, c.if-statements-gt-MAX_STATEMENTS.true)))
+    (omega (arith, c.if-statements-gt-MOST_STATEMENTS.true)))
 
-pub returns-then-scans-gt-MAX_SCANS-clause-err : goal.returns-then-scans-gt-MAX_SCANS-clause-err
-returns-then-scans-gt-MAX_SCANS-clause-err c =
+pub returns-then-scans-gt-MOST_SCANS-clause-err : goal.returns-then-scans-gt-MOST_SCANS-clause-err
+returns-then-scans-gt-MOST_SCANS-clause-err c =
     let same = only-spans c.args.text.now c.in-Ok.spans.items c.in-Ok.ensures in
     inl (too-many-scans c.args.parts (length (spans_in c.args.text.now)) c.len-statements.result (omega (arith, c.len-statements.ensures, c.in-Ok.spans.ok.0, ap length same))
-    (omega (arith, c.if-statements-gt-MAX_STATEMENTS.false)) (omega (arith, c.if-scans-gt-MAX_SCANS.true)))
+    (omega (arith, c.if-statements-gt-MOST_STATEMENTS.false)) (omega (arith, c.if-scans-gt-MOST_SCANS.true)))
 
 pub returns-clause-ok : goal.returns-clause-ok
 returns-clause-ok c =
     let same = only-spans c.args.text.now c.in-Ok.spans.items c.in-Ok.ensures in (
       not-too-many c.args.parts (length (spans_in c.args.text.now)) c.len-statements.result (omega (arith, c.len-statements.ensures, c.in-Ok.spans.ok.0, ap length same))
-          (omega (arith, c.if-statements-gt-MAX_STATEMENTS.false)) (omega (arith, c.if-scans-gt-MAX_SCANS.false)),
+          (omega (arith, c.if-statements-gt-MOST_STATEMENTS.false)) (omega (arith, c.if-scans-gt-MOST_SCANS.false)),
       same,
     )
 

@@ -8,6 +8,6 @@ returns-clause-ok c =
     let r = request_view c.args.request.now in
     let same = c.as_slice.ensures.same in
     let same' = c.as_slice-2.ensures.same in
-    let ok = rw same at c.in-Ok.ensures.ok in
-    let ok' = rw same' at c.in-Ok-batch_in.ensures.ok in
+    let ok = rw same at c.in_ok-loaded.ensures.ok in
+    let ok' = rw same' at c.in_ok-outcomes.ensures.ok in
     (none-stops r c.args.texts.now.table c.args.texts.now.batch c.requires.table c.requires.batch ok.0 ok'.0, c.inputs_with.ensures.given (Some c.args.texts.now.table) (Some c.args.texts.now.batch) ok.1 ok'.1)
