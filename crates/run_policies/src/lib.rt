@@ -16,8 +16,6 @@ mod lines;
 mod made;
 mod policy_run;
 mod single;
-#[cfg(test)]
-mod tests;
 
 pub use compared::Compared;
 pub use comparing::compare;

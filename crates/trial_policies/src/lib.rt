@@ -1,13 +1,11 @@
 //! Trials of the policies: what each picks along a story, beside the judge's choices.
 //!
-//! `docs/POLICIES.md` tells the rules.
+//! All of it is tests. `docs/POLICIES.md` tells the rules.
 #![tactic(auto)]
 
+#[cfg(test)]
 mod counted;
+#[cfg(test)]
 mod follow;
-
-pub use counted::Counted;
-pub use follow::{first_other, takes};
-
 #[cfg(test)]
 mod tests;

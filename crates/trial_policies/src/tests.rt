@@ -3,7 +3,8 @@ ghost use Rattle.scan_story.specs.Views.{past};
 ghost use Rattle.interest_book.specs.Stands.{Stands};
 ghost use Rattle.story_views.specs.Small.{IsSmall};
 
-use super::*;
+use crate::counted::Counted;
+use crate::follow::{first_other, takes};
 use interest_book::Book;
 use policy_box::{Elevator, choose};
 use policy_plain::{Attach, Normal};
@@ -25,25 +26,32 @@ fn parting<P: Policy>(alloc: Global, policy: P, printed: &Printed) -> Result<Opt
     Ok(first_other(alloc, &mut policy, &s, &entries)?)
 }
 
+/// Where relevance, elevator, normal and attach do so.
+fn partings(alloc: Global, printed: &Printed) -> Result<[Option<usize>; 4], Fail> {
+    Ok([
+        parting(alloc, Relevance, printed)?,
+        parting(alloc, Elevator::new(), printed)?,
+        parting(alloc, Normal::new(), printed)?,
+        parting(alloc, Attach::new(), printed)?,
+    ])
+}
+
+// Attach begins the second query elsewhere than the others, and relevance has another last victim.
+const PARTINGS: [(Printed, [Option<usize>; 4]); 4] = [
+    (SIX_RELEVANCE, [None, Some(50), Some(50), Some(35)]),
+    (SIX_ELEVATOR, [Some(50), None, None, Some(35)]),
+    (SIX_NORMAL, [Some(50), None, None, Some(35)]),
+    (SIX_ATTACH, [Some(35), Some(35), Some(35), None]),
+];
+
 #[test]
 fn each_policy_takes_its_own_story_and_parts_from_another_s(rt: HostRuntime) -> Result<(), Fail> {
-    let alloc = rt.alloc();
-    // attach begins the second query elsewhere than the others, and relevance has another last victim
-    for (printed, relevance, elevator, normal, attach) in [
-        (SIX_RELEVANCE, None, Some(50), Some(50), Some(35)),
-        (SIX_ELEVATOR, Some(50), None, None, Some(35)),
-        (SIX_NORMAL, Some(50), None, None, Some(35)),
-        (SIX_ATTACH, Some(35), Some(35), Some(35), None),
-    ] {
-        let by = printed.policy;
-        assert_eq!(rt; parting(alloc, Relevance, &printed)?, relevance, "{by:?}");
-        assert_eq!(rt;
-            parting(alloc, Elevator::new(), &printed)?,
-            elevator,
-            "{by:?}"
+    for (printed, wanted) in PARTINGS {
+        assert!(rt;
+            partings(rt.alloc(), &printed)? == wanted,
+            "{:?}",
+            printed.policy
         );
-        assert_eq!(rt; parting(alloc, Normal::new(), &printed)?, normal, "{by:?}");
-        assert_eq!(rt; parting(alloc, Attach::new(), &printed)?, attach, "{by:?}");
     }
     Ok(())
 }
@@ -61,14 +69,12 @@ fn boxes(alloc: Global) -> Result<Vec<Box<dyn Policy + Send>>, Fail> {
 #[test]
 fn a_box_is_taken_by_its_name(rt: HostRuntime) -> Result<(), Fail> {
     let alloc = rt.alloc();
-    let by = PolicyName::Attach;
-    let attach = choose(boxes(alloc)?, by).expect(&rt, "a box");
-    assert_eq!(rt; attach.named(), by);
-    assert_eq!(rt; parting(alloc, attach, &SIX_ATTACH)?, None);
+    let attach = choose(boxes(alloc)?, PolicyName::Attach).expect(&rt, "a box");
+    assert!(rt; attach.named() == PolicyName::Attach);
+    assert!(rt; parting(alloc, attach, &SIX_ATTACH)?.is_none());
     // a policy of the caller's own
-    let by = PolicyName::Relevance;
-    let counted = choose(boxes(alloc)?, by).expect(&rt, "a box");
-    assert_eq!(rt; parting(alloc, counted, &SIX_RELEVANCE)?, None);
+    let counted = choose(boxes(alloc)?, PolicyName::Relevance).expect(&rt, "a box");
+    assert!(rt; parting(alloc, counted, &SIX_RELEVANCE)?.is_none());
     assert!(rt; choose(boxes(alloc)?, PolicyName::Normal).is_none());
     Ok(())
 }

@@ -1,12 +1,14 @@
 // The program over devices in memory, by the worked examples.
 ghost use Rattle.std.specs.Prelude.{◌≤◌, ◌^◌};
 
+use batch_run::Taken;
 use coop_outside::{Bytes, Depot, MemDepot, MemShelf, MemSink};
 use coop_run::{Ended, run};
 use cscan::{Gate, NoGate};
 use relevance::Relevance;
 use std::alloc::Global;
 use std::hash::RandomState;
+use std::process::Abort;
 use std::random::RandomSource;
 use std::sync::Wait;
 use std::test::Fail;
@@ -21,9 +23,6 @@ mod layouts;
 mod meeting;
 mod refusals;
 mod stories;
-
-// Five rows of three columns.
-const TABLE_A: &str = "id,dept,pay\n1,a,10\n2,b,20\n3,a,\n4,c,40\n5,b,-5\n";
 
 // Two rows a chunk, one worker, and no frame more than it needs.
 const WORDS: &str = "--threads 1 --frames 4 --rows 2 a.csv b.sql";
@@ -92,6 +91,31 @@ fn wrong_case<R: RandomSource + Threads + Wait + Sync>(
         }
     }
     Ok(0)
+}
+
+// Each case ends as it should, over a depot in memory.
+fn expect_cases<R: Abort + RandomSource + Threads + Wait + Sync>(
+    rt: &R,
+    alloc: Global,
+    cases: &[Case<'_>],
+) -> Result<(), Fail> {
+    let wrong = wrong_case(rt, alloc, cases)?;
+    assert!(rt; wrong == 0, "case {wrong}");
+    Ok(())
+}
+
+// Who took which chunks: a query, a part, a worker, and the chunks in their order.
+type Took<'a> = (u32, u32, u32, &'a [u32]);
+
+// Whether there is one scan for each of these, in their order.
+fn are_taken(taken: &[Taken], wanted: &[Took<'_>]) -> bool {
+    taken.len() == wanted.len()
+        && taken.iter().zip(wanted).all(|(scan, (query, part, worker, chunks))| {
+            scan.query == *query
+                && scan.part == *part
+                && scan.worker == *worker
+                && scan.chunks.as_slice() == *chunks
+        })
 }
 
 // A run of these words over a table, a batch and a depot: what it leaves, and what it wrote.

@@ -11,8 +11,8 @@ use Rattle.cscan.specs.declared.scan.CScan.{CScan}
 use Rattle.cscan.specs.declared.station.Station.{Station}
 use Rattle.cscan.specs.Scans.{IsOver, IsScan}
 use Rattle.cscan.specs.Stations.{IsSeated}
-use Rattle.trial_scans.specs.declared.steps.At.{At}
-use Rattle.trial_scans.specs.declared.steps.At.TheVariants as at
+use Rattle.trial_scans.specs.declared.at.At.{At}
+use Rattle.trial_scans.specs.declared.at.At.TheVariants as at
 
 -- the setting under a policy of this name and first cursor
 abbrev pub under : Setting → PolicyName → List ℕ → Setting

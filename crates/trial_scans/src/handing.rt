@@ -33,8 +33,7 @@ fn register<S: Origin, P: Policy, D: Depot, R: Wait>(
     ensures waits { Waits baton.now S.origin worker pass.new }
 {
     let mut desk = baton.take(rt, pass);
-    // It says that the story is legal.
-    let _book = desk.book();
+    desk.is_legal();
     desk.register(worker, query);
     baton.give(rt, pass, desk);
 }

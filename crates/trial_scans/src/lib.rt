@@ -1,26 +1,33 @@
 //! Trials of scans: scans over a pool and a baton made for them, step by step, with everything that they answer
 //! written down.
 //!
-//! `docs/SCANS.md` tells the rules.
+//! All of it is tests, but for a type that specs/ names. `docs/SCANS.md` tells the rules.
 #![tactic(auto)]
 
+mod at;
+
+pub use at::At;
+
+#[cfg(test)]
 mod desks;
+#[cfg(test)]
 mod fitting;
+#[cfg(test)]
 mod handing;
+#[cfg(test)]
 mod notes;
+#[cfg(test)]
 mod outcome;
+#[cfg(test)]
 mod pair;
+#[cfg(test)]
 mod reading;
+#[cfg(test)]
 mod seats;
+#[cfg(test)]
 mod single;
+#[cfg(test)]
 mod steps;
-
-pub use handing::hand_on;
-pub use notes::{Notes, Saw};
-pub use outcome::Outcome;
-pub use pair::by_turns;
-pub use single::alone;
-
 #[cfg(test)]
 mod tables;
 #[cfg(test)]

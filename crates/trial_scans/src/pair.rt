@@ -9,12 +9,13 @@ ghost use Rattle.cscan.specs.Scans.{Fits, HasColumns, IsOver, IsSameScan};
 ghost use Rattle.cscan.specs.Stations.{IsSeated};
 ghost use Rattle.trial_scans.specs.Trials.{MayGoOn, StandsAt, under};
 
+use crate::at::At;
 use crate::desks::desk_of;
 use crate::fitting::{columns_of, fit_each_other, has_columns, is_on};
 use crate::notes::Notes;
 use crate::outcome::{Outcome, ended};
 use crate::seats::{seated, unseated};
-use crate::steps::{At, end, let_go, step};
+use crate::steps::{end, let_go, step};
 use abm_policy::Desk;
 use baton::Baton;
 use coop_outside::{Depot, SpoiltDepot};

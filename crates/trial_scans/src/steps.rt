@@ -4,25 +4,16 @@ ghost use Rattle.cscan.specs.Rows.{ReadsColumns};
 ghost use Rattle.cscan.specs.Scans.{IsOver, IsSameScan};
 ghost use Rattle.trial_scans.specs.Trials.{MayGoOn, StandsAt};
 
+use crate::at::At;
 use crate::notes::{Notes, Saw};
 use crate::reading::read_rows;
 use coop_outside::Depot;
-use cscan::{CScan, Held, Next};
+use cscan::{CScan, Next};
 use frame_pool::Content;
 use relevance::Policy;
 use scan_story::Origin;
 use std::sync::Wait;
 use table_core::{Cell, ColumnSet};
-
-/// Where a scan stands between two steps.
-pub(crate) enum At {
-    /// Nothing is out.
-    Ready,
-    /// This chunk is out.
-    Holds(Held),
-    /// It is over.
-    Over,
-}
 
 // Takes the next chunk, or comes to the end.
 fn take<S: Origin, C: Content, P: Policy, D: Depot, R: Wait>(

@@ -1,7 +1,7 @@
 // Runs with policies in boxes, by the worked examples.
-ghost use Rattle.std.specs.Prelude.{◌≤◌, IfOk, length};
+ghost use Rattle.std.specs.Prelude.{◌≡◌, ◌≤◌, IfOk, length};
 
-use super::{COUNT, TABLE_A, WORDS, shelf_of, sink_of, words_of};
+use super::{COUNT, COUNT_TWICE, WORDS, shelf_of, sink_of, words_of};
 use coop_outside::{Bytes, MemDepot};
 use coop_run::{BoxedEnd, PolicyRun, run_boxed};
 use cscan::NoGate;
@@ -15,6 +15,8 @@ use std::random::RandomSource;
 use std::sync::Wait;
 use std::test::Fail;
 use std::thread::Threads;
+use trial_stories::POLICIES;
+use trial_stories::tables::{SIX_ROWS, TABLE_A};
 
 type Boxes = Vec<Box<dyn Policy + Send>>;
 
@@ -40,7 +42,42 @@ fn two(alloc: Global) -> Result<Boxes, Fail>
     Ok(policies)
 }
 
-// A run of these words over a table and a batch: what it leaves, and what it wrote.
+// What a run leaves, what it wrote, and how often the shelf was called.
+#[derive(Drop)]
+struct Left {
+    ended: BoxedEnd<MemDepot>,
+    written: Bytes,
+    calls: u64,
+}
+
+// A run of these words over a table, a batch and a depot.
+fn run_over<R: RandomSource + Threads + Wait + Sync>(
+    rt: &R,
+    alloc: Global,
+    policies: Boxes,
+    line: &str,
+    table: &str,
+    batch: &str,
+    depot: MemDepot,
+) -> Result<Left, Fail>
+    requires few { length policies.items ≤ 16 }
+    requires gets { depot.gets ≡ 0 }
+{
+    let words = words_of(alloc, line)?;
+    let keys = RandomState::new(rt)?;
+    let mut shelf = shelf_of(alloc, table.as_bytes(), batch.as_bytes())?;
+    let mut out = sink_of(alloc, 100);
+    let ended = run_boxed(
+        rt, alloc, keys, &words, &mut shelf, depot, policies, &NoGate, &mut out,
+    );
+    Ok(Left {
+        ended,
+        written: out.taken,
+        calls: shelf.calls,
+    })
+}
+
+// The same with a new depot: what it leaves, and what it wrote.
 fn run_on<R: RandomSource + Threads + Wait + Sync>(
     rt: &R,
     alloc: Global,
@@ -51,15 +88,9 @@ fn run_on<R: RandomSource + Threads + Wait + Sync>(
 ) -> Result<(BoxedEnd<MemDepot>, Bytes), Fail>
     requires few { length policies.items ≤ 16 }
 {
-    let words = words_of(alloc, line)?;
-    let keys = RandomState::new(rt)?;
-    let mut shelf = shelf_of(alloc, table.as_bytes(), batch.as_bytes())?;
-    let mut out = sink_of(alloc, 100);
     let depot = MemDepot::new(alloc);
-    let ended = run_boxed(
-        rt, alloc, keys, &words, &mut shelf, depot, policies, &NoGate, &mut out,
-    );
-    Ok((ended, out.taken))
+    let left = run_over(rt, alloc, policies, line, table, batch, depot)?;
+    Ok((left.ended, left.written))
 }
 
 // Whether the chunks that left the buffer are these, in this order.
@@ -86,11 +117,11 @@ struct TwoCounts<'a> {
     evicted: &'a [u32],
 }
 
-const SIX_CHUNKS: &str = "v\n1\n2\n3\n4\n5\n6\n";
-
-const COUNT_TWICE: &str = "SELECT COUNT(*) FROM t; SELECT COUNT(*) FROM t;";
-
-fn is_as_told(case: &TwoCounts<'_>, run: &PolicyRun) -> bool {
+// Whether there is one run, which is as is told.
+fn are_as_told(case: &TwoCounts<'_>, runs: &[PolicyRun]) -> bool {
+    let [run] = runs else {
+        return false;
+    };
     let [one, other] = run.taken.as_slice() else {
         return false;
     };
@@ -100,45 +131,41 @@ fn is_as_told(case: &TwoCounts<'_>, run: &PolicyRun) -> bool {
         && are_evicted(&run.story, case.evicted)
 }
 
+const EACH_POLICY: [TwoCounts<'static>; 4] = [
+    TwoCounts {
+        words: "--threads 1 --frames 4 --rows 1 a.csv b.sql",
+        name: PolicyName::Relevance,
+        second: &[2, 3, 4, 5, 0, 1],
+        evicted: &[0, 1, 2, 0],
+    },
+    TwoCounts {
+        words: "--threads 1 --frames 4 --rows 1 --policy elevator a.csv b.sql",
+        name: PolicyName::Elevator,
+        second: &[2, 3, 4, 5, 0, 1],
+        evicted: &[0, 1, 2, 3],
+    },
+    TwoCounts {
+        words: "--threads 1 --frames 4 --rows 1 --policy normal a.csv b.sql",
+        name: PolicyName::Normal,
+        second: &[2, 3, 4, 5, 0, 1],
+        evicted: &[0, 1, 2, 3],
+    },
+    TwoCounts {
+        words: "--threads 1 --frames 4 --rows 1 --policy attach a.csv b.sql",
+        name: PolicyName::Attach,
+        second: &[5, 2, 3, 4, 0, 1],
+        evicted: &[0, 1, 2, 0],
+    },
+];
+
 #[test]
 fn two_counts_under_each_policy(rt: HostRuntime) -> Result<(), Fail> {
-    let cases = [
-        TwoCounts {
-            words: "--threads 1 --frames 4 --rows 1 a.csv b.sql",
-            name: PolicyName::Relevance,
-            second: &[2, 3, 4, 5, 0, 1],
-            evicted: &[0, 1, 2, 0],
-        },
-        TwoCounts {
-            words: "--threads 1 --frames 4 --rows 1 --policy elevator a.csv b.sql",
-            name: PolicyName::Elevator,
-            second: &[2, 3, 4, 5, 0, 1],
-            evicted: &[0, 1, 2, 3],
-        },
-        TwoCounts {
-            words: "--threads 1 --frames 4 --rows 1 --policy normal a.csv b.sql",
-            name: PolicyName::Normal,
-            second: &[2, 3, 4, 5, 0, 1],
-            evicted: &[0, 1, 2, 3],
-        },
-        TwoCounts {
-            words: "--threads 1 --frames 4 --rows 1 --policy attach a.csv b.sql",
-            name: PolicyName::Attach,
-            second: &[5, 2, 3, 4, 0, 1],
-            evicted: &[0, 1, 2, 0],
-        },
-    ];
-    for case in &cases {
+    for case in &EACH_POLICY {
         let boxes = four(rt.alloc())?;
-        let (ended, written) = run_on(&rt, rt.alloc(), boxes, case.words, SIX_CHUNKS, COUNT_TWICE)?;
-        assert_eq!(rt; ended.status, 0);
-        assert_eq!(rt; ended.depot.gets, 8);
-        assert_eq!(rt; written.as_slice(), b"query 1\n6\nquery 2\n6\n".as_slice());
-        let [run] = ended.runs.as_slice() else {
-            assert!(rt; false);
-            return Ok(());
-        };
-        assert!(rt; is_as_told(case, run));
+        let (ended, written) = run_on(&rt, rt.alloc(), boxes, case.words, SIX_ROWS, COUNT_TWICE)?;
+        assert!(rt; ended.status == 0 && ended.depot.gets == 8);
+        assert!(rt; written.as_slice() == b"query 1\n6\nquery 2\n6\n".as_slice());
+        assert!(rt; are_as_told(case, &ended.runs));
     }
     Ok(())
 }
@@ -147,8 +174,7 @@ fn two_counts_under_each_policy(rt: HostRuntime) -> Result<(), Fail> {
 fn all_rows_are_counted_under_relevance(rt: HostRuntime) -> Result<(), Fail> {
     let boxes = four(rt.alloc())?;
     let (ended, written) = run_on(&rt, rt.alloc(), boxes, WORDS, TABLE_A, COUNT)?;
-    assert_eq!(rt; ended.status, 0);
-    assert_eq!(rt; written.as_slice(), b"query 1\n5\n".as_slice());
+    assert!(rt; ended.status == 0 && written.as_slice() == b"query 1\n5\n".as_slice());
     Ok(())
 }
 
@@ -199,78 +225,132 @@ normal: 8 reads, 4 evictions, 13 deliveries, 0 stops
 attach: 9 reads, 5 evictions, 13 deliveries, 0 stops
 ";
 
+const THREE_COUNTS: &str =
+    "SELECT COUNT(*) FROM t; SELECT COUNT(*) FROM t; SELECT COUNT(*) FROM t WHERE v = 1;";
+
+// The names of the policies of the runs.
+fn names(alloc: Global, runs: &[PolicyRun]) -> Result<Vec<PolicyName>, Fail> {
+    Ok(runs.iter().map(|run| run.name).collect(alloc)?)
+}
+
 #[test]
 fn four_policies_compared(rt: HostRuntime) -> Result<(), Fail> {
-    let batch =
-        "SELECT COUNT(*) FROM t; SELECT COUNT(*) FROM t; SELECT COUNT(*) FROM t WHERE v = 1;";
-    let boxes = four(rt.alloc())?;
-    let (ended, written) = run_on(&rt, rt.alloc(), boxes, COMPARED, SIX_CHUNKS, batch)?;
-    assert_eq!(rt; ended.status, 0);
-    assert_eq!(rt; ended.depot.gets, 34);
-    assert_eq!(rt; written.as_slice(), FOUR_LINES.as_bytes());
-    let [relevance, elevator, normal, attach] = ended.runs.as_slice() else {
-        assert!(rt; false);
-        return Ok(());
-    };
-    assert_eq!(rt; relevance.name, PolicyName::Relevance);
-    assert_eq!(rt; elevator.name, PolicyName::Elevator);
-    assert_eq!(rt; normal.name, PolicyName::Normal);
-    assert_eq!(rt; attach.name, PolicyName::Attach);
+    let alloc = rt.alloc();
+    let depot = MemDepot::new(alloc);
+    let boxes = four(alloc)?;
+    let left = run_over(&rt, alloc, boxes, COMPARED, SIX_ROWS, THREE_COUNTS, depot)?;
+    // each of the two texts, and its end
+    assert!(rt; left.calls == 4 && left.ended.status == 0 && left.ended.depot.gets == 34);
+    assert!(rt; left.written.as_slice() == FOUR_LINES.as_bytes());
+    let names = names(alloc, &left.ended.runs)?;
+    assert!(rt; names.as_slice() == POLICIES.as_slice());
+    assert!(rt; left.ended.runs.iter().all(|run| run.taken.len() == 3));
     Ok(())
 }
+
+// The second read fails, which stops the first query of the first run.
+const ONE_STOP: &str = "relevance: 8 reads, 3 evictions, 8 deliveries, 1 stops
+elevator: 8 reads, 4 evictions, 13 deliveries, 0 stops
+normal: 8 reads, 4 evictions, 13 deliveries, 0 stops
+attach: 9 reads, 5 evictions, 13 deliveries, 0 stops
+";
+
+#[test]
+fn a_query_that_one_run_loses(rt: HostRuntime) -> Result<(), Fail> {
+    let mut depot = MemDepot::new(rt.alloc());
+    depot.fail_gets.push(2)?;
+    let boxes = four(rt.alloc())?;
+    let left = run_over(
+        &rt,
+        rt.alloc(),
+        boxes,
+        COMPARED,
+        SIX_ROWS,
+        THREE_COUNTS,
+        depot,
+    )?;
+    assert!(rt; left.ended.status == 1 && left.written.as_slice() == ONE_STOP.as_bytes());
+    Ok(())
+}
+
+#[test]
+fn a_piece_that_the_third_run_does_not_store(rt: HostRuntime) -> Result<(), Fail> {
+    let mut depot = MemDepot::new(rt.alloc());
+    depot.fail_puts.push(14)?;
+    let boxes = four(rt.alloc())?;
+    let left = run_over(
+        &rt,
+        rt.alloc(),
+        boxes,
+        COMPARED,
+        SIX_ROWS,
+        THREE_COUNTS,
+        depot,
+    )?;
+    let Left { ended, written, .. } = left;
+    assert!(rt; ended.status == 5 && ended.runs.len() == 2 && ended.depot.gets == 17);
+    assert!(rt; written.as_slice() == b"stopped 5: piece 1 not stored\n".as_slice());
+    Ok(())
+}
+
+const TWO_LINES: &str = "attach: 6 reads, 2 evictions, 6 deliveries, 0 stops
+elevator: 6 reads, 2 evictions, 6 deliveries, 0 stops
+";
 
 #[test]
 fn a_refused_query_in_a_comparison(rt: HostRuntime) -> Result<(), Fail> {
     let boxes = two(rt.alloc())?;
     let batch = "SELECT COUNT(*) FROM t; SELECT w FROM t;";
-    let (ended, written) = run_on(&rt, rt.alloc(), boxes, COMPARED, SIX_CHUNKS, batch)?;
-    assert_eq!(rt; ended.status, 1);
-    assert_eq!(rt; ended.runs.len() as u64, 2);
-    assert_eq!(rt;
-        written.as_slice(),
-        b"attach: 6 reads, 2 evictions, 6 deliveries, 0 stops\nelevator: 6 reads, 2 evictions, 6 deliveries, 0 stops\n".as_slice()
-    );
+    let (ended, written) = run_on(&rt, rt.alloc(), boxes, COMPARED, SIX_ROWS, batch)?;
+    assert!(rt; ended.status == 1 && ended.runs.len() == 2);
+    assert!(rt; written.as_slice() == TWO_LINES.as_bytes());
     Ok(())
 }
 
 #[test]
 fn no_policies_compared(rt: HostRuntime) -> Result<(), Fail> {
-    // neither file is there, and neither is read
-    let words = "--compare none.csv none.sql";
-    let boxes = Vec::new(rt.alloc());
-    let (ended, written) = run_on(&rt, rt.alloc(), boxes, words, SIX_CHUNKS, COUNT)?;
-    assert_eq!(rt; ended.status, 0);
-    assert!(rt; ended.runs.is_empty() && written.as_slice().is_empty());
+    // no file is read, whether it is there or not
+    for (words, batch) in [
+        ("--compare none.csv none.sql", COUNT),
+        (COMPARED, THREE_COUNTS),
+    ] {
+        let depot = MemDepot::new(rt.alloc());
+        let boxes = Vec::new(rt.alloc());
+        let left = run_over(&rt, rt.alloc(), boxes, words, SIX_ROWS, batch, depot)?;
+        assert!(rt; left.calls == 0 && left.ended.status == 0 && left.ended.depot.puts == 0);
+        assert!(rt; left.ended.runs.is_empty() && left.written.as_slice().is_empty());
+    }
     Ok(())
 }
 
+// Words, the status and the line.
+const STOPPED: [(&str, u8, &str); 5] = [
+    (
+        "--compare --policy attach a.csv b.sql",
+        2,
+        "stopped 2: usage\n",
+    ),
+    ("--compare --summary a.csv b.sql", 2, "stopped 2: usage\n"),
+    ("--compare --threads 2 a.csv b.sql", 2, "stopped 2: usage\n"),
+    (
+        "--compare none.csv b.sql",
+        4,
+        "stopped 4: table read fault\n",
+    ),
+    (
+        "--compare --frames 3 a.csv b.sql",
+        8,
+        "stopped 8: 4 frames needed\n",
+    ),
+];
+
 #[test]
 fn comparisons_that_stop(rt: HostRuntime) -> Result<(), Fail> {
-    let cases = [
-        (
-            "--compare --policy attach a.csv b.sql",
-            2,
-            "stopped 2: usage\n",
-        ),
-        ("--compare --summary a.csv b.sql", 2, "stopped 2: usage\n"),
-        ("--compare --threads 2 a.csv b.sql", 2, "stopped 2: usage\n"),
-        (
-            "--compare none.csv b.sql",
-            4,
-            "stopped 4: table read fault\n",
-        ),
-        (
-            "--compare --frames 3 a.csv b.sql",
-            8,
-            "stopped 8: 4 frames needed\n",
-        ),
-    ];
-    for (words, status, line) in cases {
+    for (words, status, line) in STOPPED {
         let boxes = two(rt.alloc())?;
-        let (ended, written) = run_on(&rt, rt.alloc(), boxes, words, SIX_CHUNKS, COUNT)?;
-        assert_eq!(rt; ended.status, status);
-        assert!(rt; ended.runs.is_empty());
-        assert_eq!(rt; written.as_slice(), line.as_bytes());
+        let (ended, written) = run_on(&rt, rt.alloc(), boxes, words, SIX_ROWS, COUNT)?;
+        assert!(rt; ended.status == status && ended.runs.is_empty());
+        assert!(rt; written.as_slice() == line.as_bytes());
     }
     Ok(())
 }

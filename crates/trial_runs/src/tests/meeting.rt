@@ -1,13 +1,14 @@
 // Workers that meet: two hold chunks at once, and the manager lies free while a piece is read.
 ghost use Rattle.std.specs.Prelude.{◌≡◌};
 
-use super::{COUNT_TWICE, TABLE_A, run_beside};
+use super::{COUNT_TWICE, run_beside};
 use coop_outside::{Depot, DepotFault, Failed, MemDepot};
 use cscan::Gate;
 use std::sync::Wait;
 use std::sync::atomic::{AtomicU64, Ordering};
 use std::test::Fail;
 use std::thread;
+use trial_stories::tables::TABLE_A;
 
 const TWO_WORKERS: &str = "--threads 2 --frames 7 --rows 2 a.csv b.sql";
 
@@ -57,9 +58,8 @@ fn two_workers_hold_chunks_at_once(rt: HostRuntime) -> Result<(), Fail> {
     let (table, batch) = (TABLE_A.as_bytes(), COUNT_TWICE.as_bytes());
     let depot = MemDepot::new(rt.alloc());
     let (ended, taken) = run_beside(&rt, rt.alloc(), TWO_WORKERS, table, batch, depot, &gate)?;
-    assert_eq!(rt; ended.status, 0);
-    assert_eq!(rt; taken.as_slice(), b"query 1\n5\nquery 2\n5\n".as_slice());
-    assert_eq!(rt; gate.met.load(Ordering::SeqCst), 1);
+    assert!(rt; ended.status == 0 && gate.met.load(Ordering::SeqCst) == 1);
+    assert!(rt; taken.as_slice() == b"query 1\n5\nquery 2\n5\n".as_slice());
     Ok(())
 }
 
@@ -143,11 +143,7 @@ fn the_baton_lies_free_during_a_get(rt: HostRuntime) -> Result<(), Fail> {
         .as_slice();
     let table = TABLE_A.as_bytes();
     let (ended, taken) = run_beside(&rt, rt.alloc(), TWO_WORKERS, table, batch, depot, &gate)?;
-    assert_eq!(rt; ended.status, 0);
-    assert_eq!(rt;
-        taken.as_slice(),
-        b"query 1\n5\nquery 2\n2\nquery 3\n0\nquery 4\n2\n".as_slice()
-    );
-    assert_eq!(rt; signs.late.load(Ordering::SeqCst), 0);
+    assert!(rt; ended.status == 0 && signs.late.load(Ordering::SeqCst) == 0);
+    assert!(rt; taken.as_slice() == b"query 1\n5\nquery 2\n2\nquery 3\n0\nquery 4\n2\n".as_slice());
     Ok(())
 }

@@ -1,5 +1,5 @@
 // What is expected of a trial.
-use crate::notes::Saw;
+use crate::notes::{Notes, Saw};
 use crate::outcome::Outcome;
 use scan_story::write_story;
 use std::alloc::Global;
@@ -34,24 +34,20 @@ pub fn expect<R: Abort>(
         story.push_str(part)?;
     }
     let text = write_story(alloc, &out.story)?;
+    let Notes {
+        saw,
+        cells,
+        differs,
+        lost,
+    } = &out.notes;
+    assert!(rt; text.as_slice() == story.as_bytes(), "{name}: the story");
+    assert!(rt; saw.as_slice() == expected.saw, "{name}: the answers");
+    assert!(rt; cells.as_slice() == expected.cells, "{name}: the rows");
+    assert!(rt; !*differs && !*lost, "{name}: the notes");
     assert!(rt;
-        text.as_slice() == story.as_bytes(),
-        "{name}: {:?}",
-        out.story
+        out.gets == expected.gets && out.faults == expected.faults,
+        "{name}: the counts"
     );
-    assert!(rt;
-        out.notes.saw.as_slice() == expected.saw,
-        "{name}: {:?}",
-        out.notes.saw
-    );
-    assert!(rt;
-        out.notes.cells.as_slice() == expected.cells,
-        "{name}: {:?}",
-        out.notes.cells
-    );
-    assert!(rt; !out.notes.differs && !out.notes.lost, "{name}");
-    assert_eq!(rt; out.gets, expected.gets, "{name}");
-    assert_eq!(rt; out.faults, expected.faults, "{name}");
     Ok(())
 }
 

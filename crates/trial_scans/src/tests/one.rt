@@ -1,8 +1,8 @@
 // One scan, with one berth and one pass.
 ghost use Rattle.std.specs.Prelude.{◌<◌, ◌≤◌};
 
-use crate::alone;
 use crate::notes::Saw;
+use crate::single::alone;
 use crate::tables::{COLUMNS, NO_PIECE, ROWS, SIX, column_shape, depot, row_shape, six_shape};
 use crate::tests::expected::{Expected, expect, took};
 use piece_format::Shape;

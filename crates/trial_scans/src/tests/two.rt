@@ -1,8 +1,8 @@
 // Two scans by turns, on one thread. No load is underway when a call of a scan returns, so no turn of another one waits.
 ghost use Rattle.std.specs.Prelude.{◌<◌, ◌≤◌};
 
-use crate::by_turns;
 use crate::notes::Saw;
+use crate::pair::by_turns;
 use crate::tables::{COLUMNS, NO_PIECE, ROWS, column_shape, depot, row_shape};
 use crate::tests::expected::{Expected, expect, took};
 use crate::tests::two::Did::{Done, GaveUp, Released, Stopped, Took};

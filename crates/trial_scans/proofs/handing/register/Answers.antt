@@ -8,8 +8,8 @@ use Rattle.trial_scans.proofs.handing.register.Goals as goal
 pub register-requires-clause-may : goal.register-requires-clause-may
 register-requires-clause-may g c κs within =
     let pass = c.args.pass.now in
-    let went = went_on_since c.args.baton.now g.S.Origin.origin c.args.worker pass c.take-desk.result c.requires.waits c.book-book.ensures.legal c.take-desk.ensures.seen c.take-desk.ensures.mine in
-    registers_stay g.S.Origin.origin.setting c.args.worker c.args.query pass.seen c.take-desk.result c.book-book.ensures.start.setting went c.requires.may
+    let went = went_on_since c.args.baton.now g.S.Origin.origin c.args.worker pass c.take-desk.result c.requires.waits c.is_legal.ensures.legal c.take-desk.ensures.seen c.take-desk.ensures.mine in
+    registers_stay g.S.Origin.origin.setting c.args.worker c.args.query pass.seen c.take-desk.result c.is_legal.ensures.start.setting went c.requires.may
 
 pub give-requires-clause-story : goal.give-requires-clause-story
 give-requires-clause-story g c =
