@@ -1,30 +1,30 @@
 -- The setting of a batch is one that a manager may be made for.
 use Rattle.std.proofs.Common.{◌≡◌, ◌∙◌, ◌<◌, ◌≤◌, ◌+◌, ◌-◌, ◌*◌, ◌%◌, ◌++◌, ◌∷◌, ◌&&◌, ◌==◌, ℕ, zero, suc, Bool, true, false, List, [], length, arith, refl, sym, ap, inl, inr}
-use Rattle.std.specs.Prelude.{◌≢◌, ◌⊎◌, map, nat_lt, Option}
+use Rattle.std.specs.Prelude.{◌≢◌, map, nat_lt, Option}
 use Rattle.std.specs.List.{All, AllByRecursion}
-use Rattle.std.proofs.lemmas.List.Elements.{recursion_from_All, All-from_recursion}
-use Rattle.std.proofs.lemmas.Bool.{cases_Bool, cases_eq, cases_lt, le-ltb}
+use Rattle.std.proofs.lemmas.List.Elements.{recursion_from_All}
+use Rattle.std.proofs.lemmas.Bool.{cases_lt, le-ltb}
 use Rattle.std.proofs.Math.Nat.{mod-lt, mul-le-mul_right, add-mul}
-use Rattle.table_core.specs.Sets.{has, numbers_below, Rising, AreMembers}
+use Rattle.table_core.specs.Sets.{has, Rising, AreMembers}
 use Rattle.table_core.proofs.Members.{has-numbers, numbers-rise}
 use Rattle.filter_zones.specs.declared.cond.Cond.{Cond}
 use Rattle.filter_zones.specs.declared.zone.ChunkZones.{ChunkZones}
 use Rattle.filter_zones.specs.Possible.{needed, is_needed, chunk_at}
-use Rattle.piece_format.specs.Shape.{TableShape, chunks, groups, groups_in}
+use Rattle.piece_format.specs.Shape.{TableShape, chunks, groups_in}
 use Rattle.piece_format.specs.declared.layout.Layout.{Layout}
 use Rattle.piece_format.specs.declared.layout.Layout.TheVariants as layouts
 use Rattle.scan_story.specs.declared.setting.Need as asked
 use Rattle.scan_story.specs.declared.setting.PolicyName.{PolicyName}
 use Rattle.scan_story.specs.declared.setting.Setting.{Setting}
-use Rattle.scan_story.specs.Setting.{IsSetting, IsNeed, IsRising, AreColumns, AreDistinct}
+use Rattle.scan_story.specs.Setting.{IsSetting, IsNeed, AreColumns, AreDistinct}
 use Rattle.chunk_interest.specs.Fresh.{as_need}
 use Rattle.batch_plan.specs.Deal as dealing
 use Rattle.batch_plan.specs.Deal.{deal, is_dealt}
 use Rattle.batch_plan.specs.declared.task.Task.{Task}
 use Rattle.batch_plan.specs.declared.options.Options.{Options}
-use Rattle.batch_plan.specs.Scans.{Scan, scan_number, scan_of, scans_from_part, scans_from, scans, need_of, needs}
-use Rattle.batch_plan.specs.Setting.{NamesColumns, AreOptions, IsBatch, batch_setting}
-use Rattle.batch_plan.proofs.Rises.{rises_from, rises_to, rises_on, all_above, is_rising, passing_all}
+use Rattle.batch_plan.specs.Scans.{Scan, scan_number, scans_from_part, scans_from, scans, need_of, needs}
+use Rattle.batch_plan.specs.Setting.{NamesColumns, IsBatch, batch_setting}
+use Rattle.batch_plan.proofs.Rises.{rises_from, rises_to, rises_on, is_rising, passing_all}
 
 -- Numbers
 

@@ -1,9 +1,8 @@
 -- Rising numbers, as sets, settings and scans have them.
-use Rattle.std.proofs.Common.{◌≡◌, ◌∙◌, ◌<◌, ◌≤◌, ◌+◌, ◌*◌, ◌++◌, ◌∷◌, ℕ, zero, suc, Bool, true, false, List, [], length, arith, refl, sym, ap, inl, inr}
-use Rattle.std.specs.Prelude.{◌≢◌, map, nat_lt, if◌then◌else◌}
+use Rattle.std.proofs.Common.{◌≡◌, ◌<◌, ◌≤◌, ◌+◌, ◌++◌, ◌∷◌, ℕ, zero, suc, Bool, true, List, [], arith, inl, inr}
 use Rattle.std.specs.List.{AllByRecursion}
 use Rattle.std.proofs.lemmas.Bool.{cases_Bool}
-use Rattle.table_core.specs.Sets.{has, numbers_below, Rising}
+use Rattle.table_core.specs.Sets.{numbers_below, Rising}
 use Rattle.scan_story.specs.Setting.{IsRising}
 
 -- a later start, and an earlier one

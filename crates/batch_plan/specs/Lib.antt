@@ -1,3 +1,4 @@
+pub mod Asked
 pub mod Scans
 pub mod Setting
 pub mod Deal

@@ -1,7 +1,7 @@
 //! The plan of a batch: its scans, which chunks each part of a query takes, what each scan needs, and on which worker
 //! it runs.
 //!
-//!     let tasks = [Task { query: 1, plan }];
+//!     let tasks = [Task { query: 1, plan: &plan }];
 //!     let options = Options { workers: 2, frames: 7, per: 1024, layout: Layout::Row, parts: 2 };
 //!     let needs = needs_of(alloc, &shape, &zones, &tasks, &options)?;    // of two scans, on workers 0 and 1
 //!     let second = scan_number(options.parts, 1, 1);                     // 2

@@ -33,7 +33,7 @@ pub fn scan_number(parts: u32, query: u32, part: u32) -> u32
 fn push_parts(
     needs: &mut Vec<Need>,
     chunks: &ChunkSet,
-    task: &Task,
+    task: &Task<'_>,
     workers: u32,
     parts: u32,
 ) -> Result<(), Memory>
@@ -66,7 +66,7 @@ pub fn needs_of(
     alloc: Global,
     shape: &Shape,
     zones: &[ChunkZones],
-    tasks: &[Task],
+    tasks: &[Task<'_>],
     options: &Options,
 ) -> Result<Vec<Need>, Memory>
     requires { IsBatch shape.now zones.now tasks.now options.now }

@@ -20,6 +20,7 @@ ghost use Rattle.batch_run.specs.Tasks.{CanBeLoaded, IsPlanOfTable};
 use crate::answering::answer_all;
 use crate::batch_end::BatchEnd;
 use crate::picking::run_put;
+use crate::ran::Ran;
 use crate::running::ScansEnd;
 use crate::setup::{Setup, set_up};
 use crate::takings::note_all;
@@ -49,7 +50,7 @@ pub fn run_batch<P: Policy, D: Depot + Send, T: Gate + Sync, R: Threads + Wait +
     rt: &R,
     alloc: Global,
     loaded: Loaded,
-    tasks: &[Task],
+    tasks: &[Task<'_>],
     options: &Options,
     depot: D,
     policy: P,
@@ -74,18 +75,18 @@ pub fn run_batch<P: Policy, D: Depot + Send, T: Gate + Sync, R: Threads + Wait +
     ensures written { IfOk result (λ e. AllZip (λ t a. CanBeWritten loaded.dicts.items t.plan a) tasks.now
         e.answers.items) }
     // a query is stopped as the story says of its scans, or for want of memory
-    ensures lost { IfOk result (λ e. AllZip (λ t a. IsLostBy (past e.story.items) options.now.parts t.query
+    ensures lost { IfOk result (λ e. AllZip (λ t a. IsLostBy (past e.ran.story.items) options.now.parts t.query
         (stop_of a)) tasks.now e.answers.items) }
     // the story is whole, legal, undisturbed and bounded in the setting of this batch; each of its faults has its cause, and the depot was read as it says
     ensures story { let s = spec.shape_of loaded.table loaded.dicts.items options.now.layout options.now.per in
         IfOk result (λ e. IsStoryOver (batch_setting s (chunk_zones s loaded.table.rows) tasks.now options.now (P.name policy) (P.cursor policy)) (is_some (D.held depot))
-        (counts (D.gets depot) (D.faults depot)) (counts (D.gets e.depot) (D.faults e.depot)) e.story.items) }
+        (counts (D.gets depot) (D.faults depot)) (counts (D.gets e.depot) (D.faults e.depot)) e.ran.story.items) }
     // one element for each scan, in their order, with exactly the chunks that the story delivered to it
-    ensures taken { IfOk result (λ e. AllZip (IsTakenBy e.story.items)
-        (scans options.now.workers options.now.parts tasks.now) e.taken.items) }
+    ensures taken { IfOk result (λ e. AllZip (IsTakenBy e.ran.story.items)
+        (scans options.now.workers options.now.parts tasks.now) e.ran.taken.items) }
     // each scan took chunks of its need, each once, and where it ended all of them
     ensures took { let s = spec.shape_of loaded.table loaded.dicts.items options.now.layout options.now.per in
-        IfOk result (λ e. All (TookNeed (chunk_zones s loaded.table.rows) options.now.parts e.story.items) (scans options.now.workers options.now.parts tasks.now)) }
+        IfOk result (λ e. All (TookNeed (chunk_zones s loaded.table.rows) options.now.parts e.ran.story.items) (scans options.now.workers options.now.parts tasks.now)) }
     // all pieces are put, and stay
     ensures stored { let s = spec.shape_of loaded.table loaded.dicts.items options.now.layout options.now.per in
         IfOk result (λ e. ArePut s loaded.table.rows (pieces s) (pieces s) (D.held depot) (D.held e.depot)) }
@@ -131,8 +132,7 @@ pub fn run_batch<P: Policy, D: Depot + Send, T: Gate + Sync, R: Threads + Wait +
     note_all(&mut taken, options.parts, &story);
     Ok(BatchEnd {
         answers,
-        taken,
-        story,
+        ran: Ran { story, taken },
         depot,
         schema,
         dicts,

@@ -1,8 +1,7 @@
 // What a batch ends with.
 
-use crate::taken::Taken;
+use crate::ran::Ran;
 use query_gather::Answer;
-use scan_story::Entry;
 use table_core::{Dict, Schema};
 
 /// What a batch ends with.
@@ -10,10 +9,8 @@ use table_core::{Dict, Schema};
 pub struct BatchEnd<D> {
     /// The answer to each task, in their order.
     pub answers: Vec<Answer>,
-    /// The chunks that each scan took: of each task, in their order, each part in part order.
-    pub taken: Vec<Taken>,
-    /// What all turns of the workers recorded, the oldest entry first.
-    pub story: Vec<Entry>,
+    /// What the workers left.
+    pub ran: Ran,
     /// The depot with the table's pieces.
     pub depot: D,
     /// The columns of the table.

@@ -26,7 +26,7 @@ pub(crate) struct Job<'a> {
 pub(crate) fn jobs_of<'a>(
     alloc: Global,
     needs: &[Need],
-    tasks: &'a [Task],
+    tasks: &[Task<'a>],
     workers: u32,
     parts: u32,
 ) -> Result<Vec<Job<'a>>, Memory>
@@ -38,10 +38,11 @@ pub(crate) fn jobs_of<'a>(
         return Err(Memory);
     };
     for (place, need) in needs.iter().enumerate() {
+        let task = &tasks[place / parts as usize];
         jobs.push_reserved(Job {
             number: need.query,
             worker: need.worker,
-            plan: &tasks[place / parts as usize].plan,
+            plan: task.plan,
         });
     }
     Ok(jobs)

@@ -1,10 +1,10 @@
 //! A batch of queries over one table: the table is put into a depot piece by piece, workers run the scans of the
 //! queries at once over shared frames, and what the parts of a query gathered is joined to its answer.
 //!
-//!     let tasks = [Task { query: 1, plan }];
+//!     let tasks = [Task { query: 1, plan: &plan }];
 //!     let options = Options { workers: 4, frames: 13, per: 1024, layout: Layout::Row, parts: 1 };
 //!     match run_batch(&rt, alloc, loaded, &tasks, &options, MemDepot::new(alloc), Relevance, &NoGate) {
-//!         Ok(BatchEnd { answers, taken, story, .. }) => show(answers, taken, story),
+//!         Ok(BatchEnd { answers, ran, .. }) => show(answers, ran.taken, ran.story),
 //!         Err((depot, refusal)) => refuse(depot, refusal),
 //!     }
 //!
@@ -19,6 +19,7 @@ mod job;
 mod laws;
 mod ordering;
 mod picking;
+mod ran;
 mod running;
 mod scanning;
 mod seating;
@@ -33,5 +34,6 @@ pub use batch_end::BatchEnd;
 pub use batch_plan::{Options, Task};
 pub use laws::{lost_without_faults, plans_fit};
 pub use query_gather::{Answer, Cause};
+pub use ran::Ran;
 pub use table_pieces::BatchRefusal;
 pub use taken::Taken;

@@ -34,7 +34,7 @@ pub(crate) fn run_put<P: Policy, D: Depot + Send, T: Gate + Sync, R: Threads + W
     rt: &R,
     alloc: Global,
     shape: &Shape,
-    tasks: &[Task],
+    tasks: &[Task<'_>],
     needs: Vec<Need>,
     options: &Options,
     depot: D,

@@ -138,7 +138,7 @@ pub fn run_scans<
     rt: &R,
     alloc: Global,
     shape: &Shape,
-    tasks: &[Task],
+    tasks: &[Task<'_>],
     needs: Vec<Need>,
     options: &Options,
     depot: D,

@@ -41,7 +41,7 @@ pub(crate) fn set_up(
     alloc: Global,
     table: &Table,
     dicts: &[Dict],
-    tasks: &[Task],
+    tasks: &[Task<'_>],
     options: &Options,
 ) -> Result<Setup, Memory>
     requires limits { IsShape (spec.shape_of table.now dicts.now options.now.layout options.now.per) }

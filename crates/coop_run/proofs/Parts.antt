@@ -24,7 +24,7 @@ use Rattle.run_decision.specs.Running.{TookEachOnce, delivered_to, queries_in, z
 use Rattle.run_decision.specs.Tasks as tasks
 use Rattle.run_decision.specs.Work.{Work}
 use Rattle.run_decision.proofs.Losing.{tasks_within}
-use Rattle.run_decision.proofs.Parting.{zip-length}
+use Rattle.run_decision.proofs.Tasked.{zip-length}
 use Rattle.coop_run.specs.Ending.{Headline, IsForAnyParts, values_of}
 
 -- for some query memory was wanting, or none is lost

@@ -11,11 +11,12 @@ ghost use Rattle.coop_run.specs.Ending.{Prints};
 ghost use Rattle.coop_run.specs.Promises.{DecidesAndPrints};
 
 use crate::print::print;
+use batch_run::Ran;
 use command_words::{Call, Request};
 use coop_outside::{Depot, Shelf, Sink};
 use cscan::Gate;
 use relevance::Policy;
-use run_decision::{Decision, Ran, decide};
+use run_decision::{Decision, decide};
 use run_inputs::request_in;
 use run_output::Stop;
 use std::alloc::Global;

@@ -28,6 +28,7 @@ use Rattle.run_output.specs.Output.{IsOutput}
 use Rattle.run_output.specs.Printed.{output, status}
 use Rattle.run_output.specs.declared.outcome.Outcome.{Outcome}
 use Rattle.run_output.specs.declared.totals.Totals.{Totals}
+use Rattle.run_decision.specs.Answering.{IsUnanswered}
 use Rattle.run_decision.specs.Deciding.{ComesOf, shown}
 use Rattle.run_decision.specs.declared.output.Output.{Output}
 use Rattle.run_decision.specs.Tasks.{totals_of, trace_of}
@@ -58,6 +59,11 @@ is-worked i w can story taken took stored = record {
 }
 
 -- ---- what a batch comes to
+
+-- without answers
+pub unanswered-comes : (i : Inputs) (w : Work) (s : Stop) → IsUnanswered i w s → ComesOf i w (Err s)
+unanswered-comes i w s (inl memory) = inl (record { stop_is = memory.0; when = inl memory.1 })
+unanswered-comes i w s (inr stored) = inr stored
 
 abbrev pub MeansOf : List Column → List Fields → List Outcome → List Answer → Option Totals → Option (List Entry) → Output → Type 0
 MeansOf columns dicts os answers totals story o = (texts : List (List ℕ)) (table : List (List Cell)) → ComeTo columns dicts texts os → AllZip (λ p a. IsAnswer p table a) (plans_of os) answers

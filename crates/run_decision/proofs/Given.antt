@@ -28,7 +28,7 @@ use Rattle.run_output.specs.Outcomes.{ComeTo, ComesTo, plans_of}
 use Rattle.run_output.specs.declared.outcome.Outcome.{Outcome}
 use Rattle.run_output.specs.declared.outcome.Outcome.TheVariants as outcome
 use Rattle.run_decision.specs.Running.{CanRun}
-use Rattle.run_decision.proofs.Parting.{zip-length}
+use Rattle.run_decision.proofs.Tasked.{zip-length}
 use Rattle.run_decision.proofs.Stopping.{enough-frames, few-chunks, few-scans, few-statements, or-none}
 
 pub rows-same : (records : List Fields) (table : TableRows) (dicts : List Fields) → IsLoaded records table dicts → length table.rows ≡ length (table_of records).rows

@@ -1,4 +1,4 @@
-pub mod Parting
+pub mod Tasked
 pub mod Stopping
 pub mod Given
 pub mod Permuted

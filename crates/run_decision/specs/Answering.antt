@@ -1,5 +1,5 @@
 -- What a batch comes to before its output is made.
-use Rattle.std.specs.Prelude.{◌≡◌, List, [], Option, Some, None}
+use Rattle.std.specs.Prelude.{◌≡◌, ◌⊎◌, List, [], Option, Some, None}
 use Rattle.std.specs.List.{AllZip}
 use Rattle.csv_load.specs.Judged.{Fields}
 use Rattle.table_core.specs.declared.schema.Column.{Column}
@@ -8,12 +8,14 @@ use Rattle.query_gather.specs.Answer.{CanBeWritten, IsAnswer}
 use Rattle.query_gather.specs.declared.answer.Answer.{Answer}
 use Rattle.run_inputs.specs.declared.inputs.Inputs.{Inputs}
 use Rattle.batch_run.specs.Lost.{Tells}
+use Rattle.batch_run.specs.declared.ran.Ran.{Ran}
 use Rattle.batch_run.specs.declared.taken.Taken.{Taken}
 use Rattle.run_output.specs.Outcomes.{plans_of}
 use Rattle.run_output.specs.declared.outcome.Outcome.{Outcome}
-use Rattle.run_decision.specs.Running.{AreAnswers}
+use Rattle.run_output.specs.declared.stop.Stop.{Stop}
+use Rattle.run_output.specs.declared.stop.Stop.TheVariants as stop
+use Rattle.run_decision.specs.Running.{AreAnswers, IsIdle, IsNotStored}
 use Rattle.run_decision.specs.Work.{Work}
-use Rattle.run_decision.specs.declared.ran.Ran.{Ran}
 
 -- the story and the chunks taken; none where no worker ran
 abbrev pub story_in : Option Ran → List Entry
@@ -23,6 +25,10 @@ story_in (Some ran) = ran.story.items
 abbrev pub taken_in : Option Ran → List Taken
 taken_in None = []
 taken_in (Some ran) = ran.taken.items
+
+-- no worker ran: memory was wanting, or a piece wasn't stored
+abbrev pub IsUnanswered : Inputs → Work → Stop → Type 0
+IsUnanswered i w s = ((s ≡ stop.Memory) × IsIdle w) ⊎ IsNotStored i w s
 
 -- a batch was answered: with the answers stand its statements, the columns of its table and their dictionaries; where the depot tells
 -- what it holds each answer is the one over the whole table, and over every depot its rows can be written

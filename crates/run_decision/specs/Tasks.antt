@@ -7,25 +7,12 @@ use Rattle.batch_plan.specs.declared.task.Task.{Task}
 use Rattle.run_output.specs.declared.outcome.Outcome.{Outcome}
 use Rattle.run_output.specs.declared.outcome.Outcome.TheVariants as outcome
 use Rattle.run_output.specs.declared.totals.Totals.{Totals}
-use Rattle.sql_bind.specs.declared.statement.StatementRefusal.{StatementRefusal}
 
 -- a task for each statement that has a plan, under the statement's number; the first statement has this one
 abbrev pub tasks_in : ℕ → List Outcome → List Task
 tasks_in n [] = []
 tasks_in n (outcome.Planned p ∷ outcomes) = record { query = n; plan = p } ∷ tasks_in (n + 1) outcomes
 tasks_in n (outcome.Refused why ∷ outcomes) = tasks_in (n + 1) outcomes
-
--- why a statement is refused, where it is
-abbrev pub refusal_in : Outcome → Option StatementRefusal
-refusal_in (outcome.Planned p) = None
-refusal_in (outcome.Refused why) = Some why
-
--- the statements again, from their tasks and their refusals
-abbrev pub joined : List Task → List (Option StatementRefusal) → List Outcome
-joined tasks [] = []
-joined tasks (Some why ∷ refusals) = outcome.Refused why ∷ joined tasks refusals
-joined [] (None ∷ refusals) = joined [] refusals
-joined (t ∷ tasks) (None ∷ refusals) = outcome.Planned t.plan ∷ joined tasks refusals
 
 -- what the summary counts beside the answers, where it is asked for: the Delivers of the story, and the rows of the table
 abbrev pub totals_of : Bool → List Entry → ℕ → Option Totals

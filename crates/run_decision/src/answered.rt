@@ -1,8 +1,7 @@
 // What a batch comes to.
 
-use crate::ran::Ran;
-use batch_run::Answer;
-use run_output::{Outcome, Stop};
+use batch_run::{Answer, Ran};
+use run_output::Outcome;
 use table_core::{Dict, Schema};
 
 /// A batch whose workers ran, with the answers to its queries.
@@ -19,16 +18,5 @@ pub struct Answered<D> {
     /// What the workers left.
     pub ran: Ran,
     /// The depot with the table's pieces.
-    pub depot: D,
-}
-
-/// A batch without answers.
-#[derive(Drop)]
-pub struct Unanswered<D> {
-    /// Why the run stops: a piece was not stored, or memory was wanting.
-    pub stop: Stop,
-    /// What the workers left; none where no worker ran.
-    pub ran: Option<Ran>,
-    /// The depot.
     pub depot: D,
 }

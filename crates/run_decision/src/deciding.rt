@@ -19,7 +19,7 @@ ghost use Rattle.run_decision.specs.Running.{CanRun};
 ghost use Rattle.run_decision.specs.Tasks as spec;
 ghost use Rattle.run_decision.specs.Work.{work};
 
-use crate::answered::{Answered, Unanswered};
+use crate::answered::Answered;
 use crate::answering::answer;
 use crate::counts::Counts;
 use crate::decision::Decision;
@@ -114,10 +114,10 @@ fn decide_over<P: Policy, D: Depot + Send, T: Gate + Sync, R: Threads + Wait + S
     let rows = inputs.loaded.table.len() as u32;
     let answered = match answer(rt, alloc, inputs, depot, policy, gate) {
         Ok(answered) => answered,
-        Err(Unanswered { stop, ran, depot }) => {
+        Err((depot, stop)) => {
             return Decision {
                 ending: Err(stop),
-                ran,
+                ran: None,
                 depot,
             };
         }

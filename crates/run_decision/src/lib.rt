@@ -17,13 +17,11 @@ mod counts;
 mod deciding;
 mod decision;
 mod output;
-mod ran;
 mod tasks;
 
-pub use answered::{Answered, Unanswered};
+pub use answered::Answered;
 pub use answering::answer;
 pub use counts::Counts;
 pub use deciding::decide;
 pub use decision::Decision;
 pub use output::Output;
-pub use ran::Ran;

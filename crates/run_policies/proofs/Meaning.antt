@@ -10,13 +10,13 @@ use Rattle.run_output.proofs.Prints.{print_each}
 use Rattle.run_inputs.specs.declared.inputs.Inputs.{Inputs}
 use Rattle.run_decision.specs.Answering.{IsAnswered}
 use Rattle.run_decision.specs.Devices.{DepotAt}
-use Rattle.run_decision.specs.Running.{CanRun, IsRunOf, IsWorked, text_of}
+use Rattle.run_decision.specs.Running.{CanRun, IsRunOf, text_of}
 use Rattle.run_decision.specs.Work.{Work, work}
 use Rattle.run_decision.proofs.Coming.{fits-rows}
 use Rattle.batch_run.specs.declared.taken.Taken.{Taken}
 use Rattle.scan_story.specs.declared.entry.Entry.{Entry}
 use Rattle.run_policies.specs.Policies.{PolicyAt}
-use Rattle.run_policies.specs.Runs.{IsCutOff, IsMade}
+use Rattle.run_policies.specs.Runs.{IsMade}
 use Rattle.run_policies.specs.declared.policy_run.PolicyRun.{PolicyRun}
 
 -- a batch that was answered is a run, which ends with the status of its answers
@@ -46,8 +46,3 @@ pub made : (i : Inputs) (p : PolicyAt) (old new : DepotAt) (run : PolicyRun) (st
 made i p old new run story taken os answers columns dicts ends named story_is taken_is can is ended =
     let w = work p.name p.cursor old new story taken in
     record { name = named; text = (text_of i w answers).1; is_run = rw (story_is, taken_is) (ends_with i w os answers columns dicts ends can is ended) }
-
--- and what they left where memory was wanting behind them is a run that is cut off
-pub cut_off : (i : Inputs) (p : PolicyAt) (old new : DepotAt) (run : PolicyRun) (story : List Entry) (taken : List Taken)
-    → run.name ≡ p.name → run.story.items ≡ story → run.taken.items ≡ taken → IsWorked i (work p.name p.cursor old new story taken) → IsCutOff i p old new run
-cut_off i p old new run story taken named story_is taken_is worked = record { name = named; worked = rw (story_is, taken_is) worked }

@@ -36,7 +36,7 @@ use Rattle.run_decision.specs.Work.{Work}
 use Rattle.run_decision.proofs.Asked.{only_asked}
 use Rattle.run_decision.proofs.Dealt.{not_stopped}
 use Rattle.run_decision.proofs.Losing.{tasks_within}
-use Rattle.run_decision.proofs.Parting.{scans-few}
+use Rattle.run_decision.proofs.Tasked.{scans-few}
 
 -- ---- scans
 

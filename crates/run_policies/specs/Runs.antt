@@ -1,10 +1,10 @@
 -- What the run with one policy comes to, over what a run is given.
-use Rattle.std.specs.Prelude.{◌≡◌, ◌⊎◌, ℕ, List, []}
+use Rattle.std.specs.Prelude.{◌≡◌, ℕ, List, []}
 use Rattle.run_output.specs.declared.stop.Stop.{Stop}
-use Rattle.run_output.specs.declared.stop.Stop.TheVariants as stop
 use Rattle.run_inputs.specs.declared.inputs.Inputs.{Inputs}
+use Rattle.run_decision.specs.Answering.{IsUnanswered}
 use Rattle.run_decision.specs.Devices.{DepotAt}
-use Rattle.run_decision.specs.Running.{IsIdle, IsNotStored, IsRunOf, IsWorked}
+use Rattle.run_decision.specs.Running.{IsRunOf, IsWorked}
 use Rattle.run_decision.specs.Work.{Work, work}
 use Rattle.run_policies.specs.Policies.{PolicyAt}
 use Rattle.run_policies.specs.declared.policy_run.PolicyRun.{PolicyRun}
@@ -32,10 +32,9 @@ pub record IsCutOff (i : Inputs) (p : PolicyAt) (old new : DepotAt) (run : Polic
 
 -- no worker of a run ran: memory was wanting, or a piece wasn't stored
 abbrev pub IsHindered : Inputs → PolicyAt → DepotAt → DepotAt → Stop → Type 0
-IsHindered i p old new s = ((s ≡ stop.Memory) × IsIdle (no_work p old new)) ⊎ IsNotStored i (no_work p old new) s
+IsHindered i p old new s = IsUnanswered i (no_work p old new) s
 
 -- WHAT THE RUN WITH A POLICY COMES TO: what its workers left is there exactly where they ran
 abbrev pub RunComesTo : Inputs → PolicyAt → DepotAt → DepotAt → Ending → Type 0
 RunComesTo i p old new (ending.Made run status) = IsMade i p old new run status
-RunComesTo i p old new (ending.CutOff run) = IsCutOff i p old new run
 RunComesTo i p old new (ending.Hindered s) = IsHindered i p old new s

@@ -8,8 +8,6 @@ use run_output::Stop;
 pub enum Ending {
     /// It is made: what its workers left, and the status that a run with this policy alone ends with.
     Made(PolicyRun, u8),
-    /// Memory was wanting behind its workers.
-    CutOff(PolicyRun),
     /// No worker ran, for this stop.
     Hindered(Stop),
 }

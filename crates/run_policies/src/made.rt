@@ -91,10 +91,6 @@ pub(crate) fn run_next<D: Depot + Send, T: Gate + Sync, R: Threads + Wait + Sync
                 Err(_) => Err(stopped(Stop::Memory, runs, depot)),
             }
         }
-        Ending::CutOff(run) => {
-            runs.push_reserved(run);
-            Err(stopped(Stop::Memory, runs, depot))
-        }
         Ending::Hindered(stop) => Err(stopped(stop, runs, depot)),
     }
 }

@@ -8,10 +8,11 @@ ghost use Rattle.run_policies.specs.Runs.{RunComesTo};
 use crate::ending::Ending;
 use crate::handed::Handed;
 use crate::policy_run::PolicyRun;
+use batch_run::Ran;
 use coop_outside::Depot;
 use cscan::Gate;
 use relevance::Policy;
-use run_decision::{Answered, Ran, Unanswered, answer};
+use run_decision::{Answered, answer};
 use run_inputs::Inputs;
 use run_output::status_of;
 use scan_story::PolicyName;
@@ -64,12 +65,6 @@ pub(crate) fn run_single<D: Depot + Send, T: Gate + Sync, R: Threads + Wait + Sy
             let status = status_of(&outcomes, &answers);
             (Ending::Made(run_of(name, ran), status), depot)
         }
-        Err(unanswered) => {
-            let Unanswered { stop, ran, depot } = unanswered;
-            match ran {
-                Some(ran) => (Ending::CutOff(run_of(name, ran)), depot),
-                None => (Ending::Hindered(stop), depot),
-            }
-        }
+        Err((depot, stop)) => (Ending::Hindered(stop), depot),
     }
 }

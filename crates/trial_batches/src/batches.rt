@@ -85,27 +85,41 @@ fn plan_for(rt: &impl Abort, alloc: Global, loaded: &Loaded, statement: &[u8]) -
     }
 }
 
-// The tasks of some statements, numbered from 1, each in so many parts.
-fn tasks_of(
+// The plans of some statements.
+fn plans_of(
     rt: &impl Abort,
     alloc: Global,
     loaded: &Loaded,
     statements: &[&[u8]],
+) -> Result<Vec<Plan>, Fail>
+    ensures { IfOk result (λ ps. All (λ p. IsPlanOfTable loaded.now.table.columns loaded.now.dicts.items p) ps.items) }
+{
+    let mut plans = Vec::new(alloc);
+    for statement in statements {
+        let plan = plan_for(rt, alloc, loaded, statement)?;
+        plans.push(plan)?;
+    }
+    Ok(plans)
+}
+
+// A task for each plan, numbered from 1, each in so many parts.
+fn tasks_of<'a>(
+    rt: &impl Abort,
+    alloc: Global,
+    plans: &'a [Plan],
     parts: u32,
-) -> Result<Vec<Task>, Fail>
-    ensures plans { IfOk result (λ ts. All (λ t. IsPlanOfTable loaded.now.table.columns loaded.now.dicts.items t.plan)
-        ts.items) }
+) -> Result<Vec<Task<'a>>, Fail>
+    ensures plans { IfOk result (λ ts. map (λ t. t.plan) ts.items ≡ plans.now) }
     ensures numbers { IfOk result (λ ts. Rising 1 (map (λ t. t.query) ts.items) 257) }
     ensures scans { IfOk result (λ ts. All (λ t. t.query * parts ≤ 256) ts.items) }
 {
-    assert!(rt; statements.len() <= 256);
+    assert!(rt; plans.len() <= 256);
     assert!(rt; parts <= 32);
     let mut tasks = Vec::new(alloc);
     let mut query: u32 = 0;
-    for statement in statements {
+    for plan in plans {
         query += 1;
         assert!(rt; query * parts <= 256);
-        let plan = plan_for(rt, alloc, loaded, statement)?;
         tasks.push(Task { query, plan })?;
     }
     Ok(tasks)
@@ -206,7 +220,8 @@ pub(crate) fn run_under<
     requires { D.gets depot ≤ 2 ^ 63 }
 {
     let loaded = load_text(rt, alloc, keys, text)?;
-    let tasks = tasks_of(rt, alloc, &loaded, statements, options.parts)?;
+    let plans = plans_of(rt, alloc, &loaded, statements)?;
+    let tasks = tasks_of(rt, alloc, &plans, options.parts)?;
     assert!(rt; options.per >= 1 && options.per <= 16384);
     assert!(rt; loaded.table.len() <= 1000);
     assert!(rt; chunk_count(loaded.table.len() as u32, options.per) <= 1024);

@@ -75,7 +75,7 @@ fn a_part_that_meets_a_fault_stops_its_query(rt: HostRuntime) -> Result<(), Fail
         depot,
     )?;
     assert!(rt; are_wanted(&end.answers, &[FIRST]));
-    assert!(rt; are_taken(&end.taken, &[(1, 0, 0, &[0]), (1, 1, 0, &[1])]));
+    assert!(rt; are_taken(&end.ran.taken, &[(1, 0, 0, &[0]), (1, 1, 0, &[1])]));
     assert_eq!(rt; end.depot.gets, 3);
     Ok(())
 }

@@ -193,10 +193,10 @@ fn expect_own<R: Abort>(
         assert!(rt; is_right(answer, *one));
     }
     assert!(rt; is_small(s));
-    assert_eq!(rt; first_illegal(alloc, s, &end.story)?, None);
-    assert!(rt; is_whole(alloc, s, &end.story)?);
-    assert!(rt; is_undisturbed(s, &end.story));
-    assert!(rt; is_licensed(true, 0, end.depot.faults, &end.story));
+    assert_eq!(rt; first_illegal(alloc, s, &end.ran.story)?, None);
+    assert!(rt; is_whole(alloc, s, &end.ran.story)?);
+    assert!(rt; is_undisturbed(s, &end.ran.story));
+    assert!(rt; is_licensed(true, 0, end.depot.faults, &end.ran.story));
     Ok(())
 }
 
@@ -215,7 +215,7 @@ fn refused_by<R: Abort>(
     for place in 0..4 {
         let s = setting_of(alloc, POLICIES[place], asked, rows, options)?;
         assert!(rt; is_small(&s));
-        refused[place] = first_illegal(alloc, &s, &end.story)?.is_some();
+        refused[place] = first_illegal(alloc, &s, &end.ran.story)?.is_some();
     }
     Ok(refused)
 }

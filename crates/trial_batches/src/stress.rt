@@ -172,13 +172,13 @@ fn judge(
 ) -> Result<(), Fail>
     requires { IsSmall s.now }
 {
-    let legal = is_legal(alloc, s, &end.story)?;
+    let legal = is_legal(alloc, s, &end.ran.story)?;
     assert!(rt; legal, "illegal");
-    let whole = is_whole(alloc, s, &end.story)?;
+    let whole = is_whole(alloc, s, &end.ran.story)?;
     assert!(rt; whole, "not whole");
-    assert!(rt; is_undisturbed(s, &end.story), "disturbed");
+    assert!(rt; is_undisturbed(s, &end.ran.story), "disturbed");
     assert!(rt;
-        is_licensed(true, 0, end.depot.faults, &end.story),
+        is_licensed(true, 0, end.depot.faults, &end.ran.story),
         "not licensed"
     );
     assert_eq!(rt; end.answers.len(), 16);

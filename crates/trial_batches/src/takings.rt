@@ -47,7 +47,7 @@ fn expect_taken<R: Abort + Threads + Wait + Sync>(
 ) -> Result<(), Fail> {
     let depot = MemDepot::new(alloc);
     let end = ended(rt, alloc, keys, text.as_bytes(), statements, options, depot)?;
-    assert!(rt; are_taken(&end.taken, took), "{options:?}");
+    assert!(rt; are_taken(&end.ran.taken, took), "{options:?}");
     assert_eq!(rt; end.depot.gets, gets, "{options:?}");
     Ok(())
 }

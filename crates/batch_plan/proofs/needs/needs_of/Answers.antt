@@ -1,5 +1,5 @@
-use Rattle.std.proofs.Common.{◌≡◌, ◌∙◌, ◌<◌, ◌≤◌, ◌+◌, ◌*◌, ◌++◌, ◌∷◌, ℕ, List, [], length, take, drop, arith, rules, refl, sym, ap, subst, append_assoc, length-append}
-use Rattle.std.specs.Prelude.{map, Option}
+use Rattle.std.proofs.Common.{◌≡◌, ◌∙◌, ◌<◌, ◌≤◌, ◌+◌, ◌*◌, ◌++◌, ◌∷◌, ℕ, List, [], length, take, drop, arith, rules, sym, ap, subst, append_assoc, length-append}
+use Rattle.std.specs.Prelude.{Option}
 use Rattle.std.specs.List.{All}
 use Rattle.std.proofs.lemmas.List.{drop_more, map-append, take_all, take_more}
 use Rattle.std.proofs.lemmas.List.Elements.{All-from_recursion, All-push}
@@ -9,7 +9,7 @@ use Rattle.filter_zones.specs.declared.cond.Cond.{Cond}
 use Rattle.filter_zones.specs.Possible.{needed}
 use Rattle.chunk_interest.specs.declared.need.Need.{Need}
 use Rattle.batch_plan.specs.declared.task.Task.{Task}
-use Rattle.batch_plan.specs.Scans.{need_of, needs, scans, scans_from, scans_from_part}
+use Rattle.batch_plan.specs.Scans.{need_of, needs, scans_from, scans_from_part}
 use Rattle.batch_plan.proofs.Planned.{few_queries, is_setting, parts_long, some_queries}
 use Rattle.batch_plan.proofs.needs.needs_of.Goals as goal
 
@@ -38,7 +38,8 @@ loop-task-preserved c =
     let new = c.push_parts.new.needs.items in
     let low : i < length tasks = c.loop-task-test.true in
     let next : (i + 1) * parts ≡ i * parts + parts = omega (arith, add-mul i 1 parts) in
-    let set : c.needed-chunks.result ≡ needed t.plan.cond zones = c.needed-chunks.ensures.chunks ∙ ap (λ (o : Option Cond). needed o zones) c.as_ref.ensures.value in
+    let set : c.needed-chunks.result ≡ needed t.plan.cond zones = c.needed-chunks.ensures.chunks ∙ ap (λ (o : Option Cond). needed o zones) c.as_ref.ensures.value
+    ∙ ap (λ (s : Task). needed s.plan.cond zones) c.task.view_is in
     let Mine = λ (n : ℕ). needs zones parts (scans_from_part workers parts t n 0 parts) in
     let Later = λ (n : ℕ). needs zones parts (scans_from workers parts n (drop (i + 1) tasks)) in
     let pushed : new ≡ old ++ Mine (i * parts) = c.in_ok-push_parts.ensures zones set ∙ ap (λ (n : ℕ). old ++ Mine n) before.count in
@@ -55,7 +56,7 @@ loop-task-preserved c =
           ∙ ap (λ (ns : List Need). old ++ ns) (sym split)
           ∙ ap (λ (ts : List Task). old ++ needs zones parts (scans_from workers parts (i * parts) ts)) (sym head)
           ∙ before.needs;
-      columns = subst (All Rises) (sym first) (All-push Rises (take i tasks) t before.columns c.len-columns.ensures.members);
+      columns = subst (All Rises) (sym first) (All-push Rises (take i tasks) t before.columns (subst Rises c.task.view_is c.len-columns.ensures.members));
     }
 
 pub returns-clause-setting : goal.returns-clause-setting

@@ -1,5 +1,4 @@
-use Rattle.std.proofs.Common.{◌≡◌, ◌∙◌, ◌+◌, ◌-◌, ◌%◌, ◌++◌, ◌∷◌, ℕ, suc, List, [], length, arith, refl, sym, ap, append_assoc, length-append}
-use Rattle.filter_zones.specs.declared.zone.ChunkZones.{ChunkZones}
+use Rattle.std.proofs.Common.{◌≡◌, ◌∙◌, ◌+◌, ◌-◌, ◌%◌, ◌++◌, ◌∷◌, ℕ, suc, List, [], length, arith, refl, ap, append_assoc, length-append}
 use Rattle.chunk_interest.specs.declared.need.Need.{Need}
 use Rattle.batch_plan.specs.Scans.{need_of, needs, scan_of, scans_from_part}
 use Rattle.batch_plan.proofs.needs.push_parts.Goals as goal
@@ -24,7 +23,7 @@ loop-part-preserved c =
           let k = scan_of workers parts t (first + part) part in
           let Behind = λ (n : ℕ). needs zones parts (scans_from_part workers parts t n (part + 1) left) in
           let next : first + (part + 1) ≡ first + part + 1 = omega arith in
-          let now : made ≡ need_of zones parts k = rw (c.scan_number.ensures, place, c.deal.ensures.dealt, is, c.copy.ensures) refl in
+          let now : made ≡ need_of zones parts k = rw (c.scan_number.ensures, place, c.deal.ensures.dealt, is, c.copy.ensures, ← c.task.view_is) refl in
           ap (λ (ns : List Need). ns ++ Behind (first + (part + 1))) pushed
           ∙ append_assoc old (made ∷ []) (Behind (first + (part + 1)))
           ∙ ap (λ (n : Need). old ++ n ∷ Behind (first + (part + 1))) now

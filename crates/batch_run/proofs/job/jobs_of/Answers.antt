@@ -36,7 +36,7 @@ loop-place-preserved c =
       zip_pushed IsJobOf (take place ks) (take (place + 1) ks) c.loop-place.jobs.items c.push_reserved.new.self.items k _ (take_more ks place other low) c.push_reserved.ensures.items i.2 (record {
         number = ap (λ (n : Need). n.query) same ∙ its.query;
         worker = ap (λ (n : Need). n.worker) same ∙ its.worker;
-        plan = sym (plan_there workers parts c.requires.parts tasks place other task low);
+        plan = ap (λ (t : Task). t.plan) (c.task.view_is ∙ c.index-tasks-place.is) ∙ sym (plan_there workers parts c.requires.parts tasks place other task low);
       }),
     )
 

@@ -2,7 +2,7 @@ use Rattle.std.proofs.Common.{◌∙◌}
 use Rattle.run_output.proofs.Columns.{names_columns}
 use Rattle.run_decision.specs.Devices.{depot_at}
 use Rattle.run_decision.specs.Work.{work}
-use Rattle.run_decision.proofs.Coming.{comes-of, fits-rows}
+use Rattle.run_decision.proofs.Coming.{comes-of, fits-rows, unanswered-comes}
 use Rattle.run_decision.proofs.deciding.decide_over.Goals as goal
 
 pub output_of-ending-requires-clause-columns : goal.output_of-ending-requires-clause-columns
@@ -24,3 +24,6 @@ returns-clause-comes g c =
     (rw (c.deref.ensures.value, c.len-rows.ensures) at c.totals_of-totals.ensures.totals) (rw c.deref-2.ensures.value at c.trace_of-story.ensures.trace) is.are is.right
     (fits-rows i.loaded.table.columns i.loaded.dicts.items i.loaded.table.rows c.requires.can.loaded.1.fits)
     c.output_of-ending.ensures.status c.output_of-ending.ensures.text c.output_of-ending.ensures.means c.output_of-ending.ensures.err
+
+pub returns-in-Err-clause-comes : goal.returns-in-Err-clause-comes
+returns-in-Err-clause-comes g c = unanswered-comes c.args.inputs _ c.in-Err.stop c.in-Err.ensures.unanswered

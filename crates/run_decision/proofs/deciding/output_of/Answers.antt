@@ -1,6 +1,6 @@
 use Rattle.query_gather.specs.Answer.{CanBeWritten}
 use Rattle.run_output.specs.Outcomes.{plans_of}
-use Rattle.run_decision.proofs.Parting.{zip-length}
+use Rattle.run_decision.proofs.Tasked.{zip-length}
 use Rattle.run_decision.proofs.deciding.output_of.Goals as goal
 
 pub status_of-requires : goal.status_of-requires

@@ -34,10 +34,3 @@ returns-in-Err-written-clause-ends g c =
     let made = rw c.in-Made.is at c.run_single-ending.ensures.comes in
     rw (c.stopped-in-Err-written.ensures.ending, c.stopped-in-Err-written.ensures.runs, c.stopped-in-Err-written.ensures.depot)
     (inr (run, refl, c.push_reserved.ensures.items ∙ ap (λ runs. runs ++ run ∷ []) c.reserve.ensures.items, record { name = made.name; worked = made.is_run.are.worked }))
-
-pub returns-in-CutOff-clause-ends : goal.returns-in-CutOff-clause-ends
-returns-in-CutOff-clause-ends g c =
-    let run = c.in-CutOff.run' in
-    let cut = rw c.in-CutOff.is at c.run_single-ending.ensures.comes in
-    rw (c.stopped-in-CutOff.ensures.ending, c.stopped-in-CutOff.ensures.runs, c.stopped-in-CutOff.ensures.depot)
-    (inr (run, refl, c.push_reserved-in-CutOff.ensures.items ∙ ap (λ runs. runs ++ run ∷ []) c.reserve.ensures.items, cut))

@@ -2,7 +2,7 @@ use Rattle.std.proofs.Common.{◌∙◌, ap}
 use Rattle.run_output.specs.Answers.{printed}
 use Rattle.run_output.specs.Printed.{status}
 use Rattle.run_decision.specs.Devices.{depot_at}
-use Rattle.run_policies.proofs.Meaning.{cut_off, made}
+use Rattle.run_policies.proofs.Meaning.{made}
 use Rattle.run_policies.proofs.single.run_single.Goals as goal
 
 pub returns-in-Ok : goal.returns-in-Ok
@@ -13,12 +13,4 @@ returns-in-Ok g c =
           (c.run_of.ensures.name ∙ c.name_of-name.ensures) c.run_of.ensures.story c.run_of.ensures.taken c.requires.can c.in-Ok.ensures.answered
           (λ columns dicts. c.status_of-status.ensures.status columns dicts ∙ ap (λ os. status (printed columns dicts 1 os c.deref-in-Ok.result.now)) c.deref.ensures.value
           ∙ ap (λ answers. status (printed columns dicts 1 a.outcomes.items answers)) c.deref-in-Ok.ensures.value);
-    }
-
-pub returns-in-Some : goal.returns-in-Some
-returns-in-Some g c =
-    let u = c.in-Err.unanswered in
-    record {
-      comes = cut_off c.args.inputs _ _ (depot_at (g.D.Depot.held u.depot) (g.D.Depot.gets u.depot) (g.D.Depot.faults u.depot)) c.run_of-in-Some.result c.in-Some.ran.story.items c.in-Some.ran.taken.items
-          (c.run_of-in-Some.ensures.name ∙ c.name_of-name.ensures) c.run_of-in-Some.ensures.story c.run_of-in-Some.ensures.taken (rw c.in-Some.is at c.in-Err.ensures.worked);
     }

@@ -1,27 +1,26 @@
--- The tasks of a batch: parted, joined again, and what holds of each.
-use Rattle.std.proofs.Common.{◌≡◌, ◌+◌, ◌*◌, ◌≤◌, ℕ, List, [], ◌∷◌, ◌++◌, length, map, refl, ap, arith, All, append_assoc, Option}
+-- The tasks of a batch, and what holds of each.
+use Rattle.std.proofs.Common.{◌≡◌, ◌+◌, ◌*◌, ◌≤◌, ℕ, List, [], ◌∷◌, ◌++◌, length, map, refl, arith, All, append_assoc}
 use Rattle.std.specs.List.{AllByRecursion, AllZip}
 use Rattle.std.proofs.Math.Nat.{mul-le-mul}
 use Rattle.std.proofs.lemmas.List.Elements.{All-nil, All-cons}
 use Rattle.table_core.specs.Sets.{Rising}
 use Rattle.sql_bind.specs.declared.plan.Plan.{Plan}
-use Rattle.sql_bind.specs.declared.statement.StatementRefusal.{StatementRefusal}
 use Rattle.query_gather.specs.declared.answer.Answer.{Answer}
 use Rattle.batch_plan.specs.declared.task.Task.{Task}
 use Rattle.run_output.specs.Outcomes.{plans_of}
 use Rattle.run_output.specs.declared.outcome.Outcome.{Outcome}
 use Rattle.run_output.specs.declared.outcome.Outcome.TheVariants as outcome
-use Rattle.run_decision.specs.Tasks.{joined, refusal_in, tasks_in}
+use Rattle.run_decision.specs.Tasks.{tasks_in}
 
 -- the tasks of one more statement stand before those of the others
-pub tasks-next : (n : ℕ) (o : Outcome) (os : List Outcome) → tasks_in n (o ∷ os) ≡ tasks_in n (o ∷ []) ++ tasks_in (n + 1) os
+tasks-next : (n : ℕ) (o : Outcome) (os : List Outcome) → tasks_in n (o ∷ os) ≡ tasks_in n (o ∷ []) ++ tasks_in (n + 1) os
 tasks-next n (outcome.Planned p) os = refl
 tasks-next n (outcome.Refused why) os = refl
 
-pub joined-parted : (n : ℕ) (os : List Outcome) → joined (tasks_in n os) (map refusal_in os) ≡ os
-joined-parted n [] = refl
-joined-parted n (outcome.Planned p ∷ os) = ap (λ (xs : List Outcome). outcome.Planned p ∷ xs) (joined-parted (n + 1) os)
-joined-parted n (outcome.Refused why ∷ os) = ap (λ (xs : List Outcome). outcome.Refused why ∷ xs) (joined-parted (n + 1) os)
+pub tasks-more : (old new all : List Task) (q : ℕ) (o : Outcome) (rest rest' : List Outcome) → new ≡ old ++ tasks_in q (o ∷ []) → rest ≡ o ∷ rest' → old ++ tasks_in q rest ≡ all
+    → new ++ tasks_in (q + 1) rest' ≡ all
+tasks-more old new all q o rest rest' put next is =
+    rw (put, append_assoc old (tasks_in q (o ∷ [])) (tasks_in (q + 1) rest'), ← tasks-next q o rest') (rw next at is)
 
 -- the numbers of tasks rise
 pub tasks-rise : (m n end : ℕ) (os : List Outcome) → m ≤ n → n + length os ≤ end → Rising m (map (λ (t : Task). t.query) (tasks_in n os)) end
@@ -57,13 +56,3 @@ zip-length P [] [] h = refl
 zip-length P [] (y ∷ ys) h = absurd h
 zip-length P (x ∷ xs) [] h = absurd h
 zip-length P (x ∷ xs) (y ∷ ys) h = let e = zip-length P xs ys h.1 in omega (arith, e)
-
--- one more statement parted
-pub tasks-more : (old new all : List Task) (q : ℕ) (o : Outcome) (rest rest' : List Outcome) → new ≡ old ++ tasks_in q (o ∷ []) → rest ≡ o ∷ rest' → old ++ tasks_in q rest ≡ all
-    → new ++ tasks_in (q + 1) rest' ≡ all
-tasks-more old new all q o rest rest' put next is =
-    rw (put, append_assoc old (tasks_in q (o ∷ [])) (tasks_in (q + 1) rest'), ← tasks-next q o rest') (rw next at is)
-
-pub refusals-more : (old new all : List (Option StatementRefusal)) (o : Outcome) (rest rest' : List Outcome) → new ≡ old ++ refusal_in o ∷ [] → rest ≡ o ∷ rest' → old ++ map refusal_in rest ≡ all
-    → new ++ map refusal_in rest' ≡ all
-refusals-more old new all o rest rest' put next is = rw (put, append_assoc old (refusal_in o ∷ []) (map refusal_in rest')) (rw next at is)
