@@ -25,14 +25,6 @@ mod reading;
 mod refusal;
 mod rows;
 mod seeded;
-#[cfg(test)]
-mod tests;
-#[cfg(test)]
-mod tests_of_ranks;
-#[cfg(test)]
-mod tests_of_rows;
-#[cfg(test)]
-mod tests_of_types;
 mod typed;
 
 pub use limits::MOST_TEXT_BYTES;

@@ -12,8 +12,6 @@ mod ends;
 mod masks;
 mod possible;
 mod pruning;
-#[cfg(test)]
-mod tests;
 mod truth;
 mod truth_set;
 mod zone;

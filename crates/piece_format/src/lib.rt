@@ -17,8 +17,6 @@ mod pieces;
 mod reading;
 mod shape;
 mod sound;
-#[cfg(test)]
-mod tests;
 mod word_bytes;
 
 pub use cells::cell_of;

@@ -12,8 +12,6 @@ mod chunk_rows;
 mod putting;
 mod refusal;
 mod shaping;
-#[cfg(test)]
-mod tests;
 mod zoning;
 
 pub use chunk_rows::rows_by_chunk;

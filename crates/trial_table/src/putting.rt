@@ -1,15 +1,13 @@
 // The pieces of a table in a depot.
-use crate::tests::full_depot::FullDepot;
-use crate::tests::table::{CELLS, cut};
-use crate::{BatchRefusal, put_pieces};
+use crate::example::{CELLS, MINUS_5, cut};
+use crate::full_depot::FullDepot;
 use coop_outside::{Depot, MemDepot};
 use piece_format::Layout;
 use std::alloc::Global;
 use std::process::Abort;
 use std::test::Fail;
 use table_core::Cell;
-
-const MINUS_5: u64 = 18446744073709551611;
+use table_pieces::{BatchRefusal, put_pieces};
 
 // The words of each piece, with two rows in a chunk.
 const ROW_PIECES: [&[u64]; 3] = [
@@ -69,41 +67,34 @@ fn put(
 }
 
 // The depot holds the first of these pieces and no others.
-fn holds_first(rt: &impl Abort, depot: &MemDepot, pieces: &[&[u64]], count: usize) {
-    assert_eq!(rt; depot.pieces.len(), count);
-    for p in 0..count {
-        assert!(rt; p < 9 && p < pieces.len());
-        assert!(rt; holds(depot, p as u32, pieces[p]), "{p}");
+fn holds_first(depot: &MemDepot, pieces: &[&[u64]], count: usize) -> bool {
+    for p in 0..count.min(9).min(pieces.len()) {
+        if !holds(depot, p as u32, pieces[p]) {
+            return false;
+        }
     }
+    count <= pieces.len() && depot.pieces.len() == count
 }
 
 #[test]
 fn each_piece_is_put_with_its_bytes(rt: HostRuntime) -> Result<(), Fail> {
     for layout in [Layout::Row, Layout::Column] {
         let (depot, put) = put(&rt, rt.alloc(), &CELLS, layout, 0)?;
-        assert_eq!(rt; put, Ok(()));
-        holds_first(&rt, &depot, pieces(layout), pieces(layout).len());
-        assert_eq!(rt; (depot.gets, depot.faults), (0, 0));
+        assert_eq!(rt; (put, depot.gets, depot.faults), (Ok(()), 0, 0));
+        assert!(rt; holds_first(&depot, pieces(layout), pieces(layout).len()));
     }
-    Ok(())
-}
-
-// The pieces of the table where the put of one of them fails.
-fn fail_at(rt: &impl Abort, alloc: Global, layout: Layout, piece: u32) -> Result<(), Fail> {
-    let (depot, put) = put(rt, alloc, &CELLS, layout, u64::from(piece) + 1)?;
-    assert_eq!(rt; put, Err(BatchRefusal::Put { piece }), "{layout:?} {piece}");
-    holds_first(rt, &depot, pieces(layout), piece as usize);
-    assert_eq!(rt; (depot.gets, depot.faults), (0, 1));
     Ok(())
 }
 
 #[test]
 fn a_put_that_fails_is_told_by_its_piece(rt: HostRuntime) -> Result<(), Fail> {
-    for piece in 0..3 {
-        fail_at(&rt, rt.alloc(), Layout::Row, piece)?;
-    }
-    for piece in 0..9 {
-        fail_at(&rt, rt.alloc(), Layout::Column, piece)?;
+    for (layout, count) in [(Layout::Row, 3), (Layout::Column, 9)] {
+        for piece in 0..count {
+            let (depot, put) = put(&rt, rt.alloc(), &CELLS, layout, u64::from(piece) + 1)?;
+            let wanted = (Err(BatchRefusal::Put { piece }), 0, 1);
+            assert_eq!(rt; (put, depot.gets, depot.faults), wanted);
+            assert!(rt; holds_first(&depot, pieces(layout), piece as usize));
+        }
     }
     Ok(())
 }
@@ -112,8 +103,7 @@ fn a_put_that_fails_is_told_by_its_piece(rt: HostRuntime) -> Result<(), Fail> {
 fn a_table_without_rows_has_no_pieces(rt: HostRuntime) -> Result<(), Fail> {
     for layout in [Layout::Row, Layout::Column] {
         let (depot, put) = put(&rt, rt.alloc(), &[], layout, 1)?;
-        assert_eq!(rt; put, Ok(()));
-        assert!(rt; depot.pieces.is_empty());
+        assert_eq!(rt; (put, depot.pieces.len()), (Ok(()), 0));
     }
     Ok(())
 }
@@ -132,8 +122,7 @@ fn a_depot_without_room_is_want_of_memory(rt: HostRuntime) -> Result<(), Fail> {
             faults: 0,
         };
         let put = put_pieces(rt.alloc(), &cut.shape, &cut.table, &mut depot);
-        assert_eq!(rt; put, wanted, "{room}");
-        assert_eq!(rt; depot.faults(), 0);
+        assert_eq!(rt; (put, depot.faults()), (wanted, 0));
     }
     Ok(())
 }

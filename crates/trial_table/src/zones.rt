@@ -4,7 +4,10 @@ ghost use Rattle.std.specs.Bool.{OnTrue};
 ghost use Rattle.filter_zones.specs.Truth as spec;
 ghost use Rattle.filter_zones.specs.Possible.{FitsZones};
 
-use crate::{Bound, ChunkZones, Cond, Truth, TruthSet, Zone, may_be, needed, truth_of, zones_of};
+use crate::example::CELLS;
+use filter_zones::{
+    Bound, ChunkZones, Cond, Truth, TruthSet, Zone, may_be, needed, truth_of, zones_of,
+};
 use std::alloc::{AllocError, Global};
 use std::process::Abort;
 use std::test::Fail;
@@ -48,13 +51,13 @@ fn fits_chunk(cond: &Cond, chunk: &ChunkZones) -> bool
             op: _,
             value,
         } => {
-            *column < 16
+            (*column as usize) < chunk.zones.as_slice().len()
                 && match chunk.zones[*column as usize].range {
                     None => true,
                     Some((low, high)) => fits_cell(low, *value) && fits_cell(high, *value),
                 }
         }
-        Cond::IsNull { column, negated: _ } => *column < 16,
+        Cond::IsNull { column, negated: _ } => (*column as usize) < chunk.zones.as_slice().len(),
         Cond::And(a, b) | Cond::Or(a, b) => fits_chunk(a, chunk) && fits_chunk(b, chunk),
         Cond::Not(a) => fits_chunk(a, chunk),
     }
@@ -65,9 +68,15 @@ fn truth(rt: &impl Abort, cond: &Cond, row: &[Cell]) -> Truth {
     truth_of(cond, row)
 }
 
-fn possible(rt: &impl Abort, cond: &Cond, chunk: &ChunkZones) -> TruthSet {
+// The condition is just this true of the row.
+fn expect_truth(rt: &impl Abort, cond: &Cond, row: &[Cell], wanted: Truth) {
+    assert_eq!(rt; truth(rt, cond, row), wanted, "{cond:?}");
+}
+
+// Just these truths are possible in the chunk.
+fn expect(rt: &impl Abort, cond: &Cond, chunk: &ChunkZones, wanted: TruthSet) {
     assert!(rt; fits_chunk(cond, chunk));
-    may_be(cond, chunk)
+    assert_eq!(rt; may_be(cond, chunk), wanted, "{cond:?}");
 }
 
 const NOTHING: Zone = Zone {
@@ -177,11 +186,7 @@ fn try_entry(rt: &impl Abort, op: Op, range: (Cell, Cell), value: Bound, letter:
             },
             NOTHING,
         );
-        assert_eq!(rt;
-            possible(rt, &cond, &chunk),
-            set_of(letter, has_null),
-            "{op:?} {value:?}"
-        );
+        expect(rt, &cond, &chunk, set_of(letter, has_null));
     }
 }
 
@@ -218,11 +223,7 @@ fn columns_without_values_have_neither_true_nor_false(rt: HostRuntime) {
                 },
                 NOTHING,
             );
-            assert_eq!(rt;
-                possible(&rt, &compare(0, op, 3), &chunk),
-                set_of(b'N', has_null),
-                "{op:?}"
-            );
+            expect(&rt, &compare(0, op, 3), &chunk, set_of(b'N', has_null));
         }
     }
 }
@@ -239,11 +240,7 @@ fn null_tests_follow_the_table_of_zones(rt: HostRuntime) {
         let chunk = chunk_of(Zone { has_null, range }, NOTHING);
         for (negated, letter) in [(false, is_null), (true, is_not_null)] {
             let cond = Cond::IsNull { column: 0, negated };
-            assert_eq!(rt;
-                possible(&rt, &cond, &chunk),
-                set_of(letter, false),
-                "{has_null} {range:?} {negated}"
-            );
+            expect(&rt, &cond, &chunk, set_of(letter, false));
         }
     }
 }
@@ -259,25 +256,13 @@ fn and_or_and_not_have_three_truths(rt: HostRuntime) -> Result<(), Fail> {
     let opposite = [2, 1, 0];
     for a in 0..3 {
         let turned = not(alloc, compare(0, Op::Eq, 1))?;
-        assert_eq!(rt;
-            truth(&rt, &turned, &[cells[a]]),
-            truths[opposite[a] % 3],
-            "NOT {a}"
-        );
+        expect_truth(&rt, &turned, &[cells[a]], truths[opposite[a] % 3]);
         for b in 0..3 {
             let row = [cells[a], cells[b]];
             let and = both(alloc, compare(0, Op::Eq, 1), compare(1, Op::Eq, 1))?;
-            assert_eq!(rt;
-                truth(&rt, &and, &row),
-                truths[least[a][b] % 3],
-                "{a} AND {b}"
-            );
+            expect_truth(&rt, &and, &row, truths[least[a][b] % 3]);
             let or = either(alloc, compare(0, Op::Eq, 1), compare(1, Op::Eq, 1))?;
-            assert_eq!(rt;
-                truth(&rt, &or, &row),
-                truths[greatest[a][b] % 3],
-                "{a} OR {b}"
-            );
+            expect_truth(&rt, &or, &row, truths[greatest[a][b] % 3]);
         }
     }
     Ok(())
@@ -293,29 +278,10 @@ fn not_of_an_unknown_truth_is_unknown(rt: HostRuntime) -> Result<(), Fail> {
         (Cell::Int(40), Truth::False),
         (Cell::Int(-5), Truth::True),
     ] {
-        assert_eq!(rt; truth(&rt, &not_above, &[pay]), expected, "{pay:?}");
+        expect_truth(&rt, &not_above, &[pay], expected);
     }
     Ok(())
 }
-
-// The five rows of id, dept and pay: 1 a 10, 2 b 20, 3 a NULL, 4 c 40, 5 b -5.
-const CELLS: [Cell; 15] = [
-    Cell::Int(1),
-    Cell::Code(0),
-    Cell::Int(10),
-    Cell::Int(2),
-    Cell::Code(1),
-    Cell::Int(20),
-    Cell::Int(3),
-    Cell::Code(0),
-    Cell::Null,
-    Cell::Int(4),
-    Cell::Code(2),
-    Cell::Int(40),
-    Cell::Int(5),
-    Cell::Code(1),
-    Cell::Int(-5),
-];
 
 fn fits_chunks(cond: &Cond, chunks: &[ChunkZones]) -> bool
     ensures { OnTrue result (All (λ chunk. FitsZones cond.now chunk.zones) chunks.now) }
@@ -328,64 +294,63 @@ fn fits_chunks(cond: &Cond, chunks: &[ChunkZones]) -> bool
     true
 }
 
+// Which of three chunks the condition needs.
 fn chunks_needed(rt: &impl Abort, cond: &Cond, chunks: &[ChunkZones; 3]) -> [bool; 3] {
     assert!(rt; fits_chunks(cond, chunks));
     let set = needed(Some(cond), chunks);
     [set.has(0), set.has(1), set.has(2)]
 }
 
-#[test]
-fn a_condition_skips_the_chunks_that_it_cannot_match(rt: HostRuntime) -> Result<(), Fail> {
-    let alloc = rt.alloc();
-    let chunks = [
+// The zones of the second of three chunks of the five rows, and of `pay` in the third.
+const SECOND: [Zone; 4] = [
+    Zone {
+        has_null: false,
+        range: Some((Cell::Int(3), Cell::Int(4))),
+    },
+    Zone {
+        has_null: false,
+        range: Some((Cell::Code(0), Cell::Code(2))),
+    },
+    Zone {
+        has_null: true,
+        range: Some((Cell::Int(40), Cell::Int(40))),
+    },
+    NOTHING,
+];
+
+const THIRD_PAY: Zone = Zone {
+    has_null: false,
+    range: Some((Cell::Int(-5), Cell::Int(-5))),
+};
+
+// The zones of the chunks of the five rows, two in each but the last.
+fn three_chunks() -> [ChunkZones; 3] {
+    [
         zones_of(3, &CELLS[0..6]),
         zones_of(3, &CELLS[6..12]),
         zones_of(3, &CELLS[12..15]),
-    ];
-    assert_eq!(rt;
-        chunks[1].zones[0],
-        Zone {
-            has_null: false,
-            range: Some((Cell::Int(3), Cell::Int(4)))
-        }
-    );
-    assert_eq!(rt;
-        chunks[1].zones[1],
-        Zone {
-            has_null: false,
-            range: Some((Cell::Code(0), Cell::Code(2)))
-        }
-    );
-    assert_eq!(rt;
-        chunks[1].zones[2],
-        Zone {
-            has_null: true,
-            range: Some((Cell::Int(40), Cell::Int(40)))
-        }
-    );
-    assert_eq!(rt; chunks[1].zones[3], NOTHING);
-    assert_eq!(rt;
-        chunks[2].zones[2],
-        Zone {
-            has_null: false,
-            range: Some((Cell::Int(-5), Cell::Int(-5)))
-        }
-    );
+    ]
+}
 
+#[test]
+fn each_chunk_has_its_zones(rt: HostRuntime) {
+    let chunks = three_chunks();
+    assert_eq!(rt; &chunks[1].zones[..4], SECOND.as_slice());
+    assert_eq!(rt; chunks[2].zones[2], THIRD_PAY);
+}
+
+#[test]
+fn a_condition_skips_the_chunks_that_it_cannot_match(rt: HostRuntime) -> Result<(), Fail> {
+    let chunks = three_chunks();
     assert_eq!(rt; needed(None, &chunks).len(), 3);
-    assert_eq!(rt;
-        chunks_needed(&rt, &compare(0, Op::Ge, 4), &chunks),
-        [false, true, true]
-    );
-    assert_eq!(rt;
-        chunks_needed(&rt, &compare(0, Op::Gt, 9), &chunks),
-        [false, false, false]
-    );
-    let not_over_null = not(alloc, compare(2, Op::Gt, 15))?;
-    assert_eq!(rt;
-        chunks_needed(&rt, &not_over_null, &chunks),
-        [true, false, true]
-    );
+    let not_over_null = not(rt.alloc(), compare(2, Op::Gt, 15))?;
+    for (cond, wanted) in [
+        (compare(0, Op::Ge, 4), [false, true, true]),
+        (compare(0, Op::Gt, 9), [false, false, false]),
+        (not_over_null, [true, false, true]),
+    ] {
+        assert_eq!(rt; chunks_needed(&rt, &cond, &chunks), wanted);
+    }
     Ok(())
 }
 
@@ -393,37 +358,19 @@ fn a_condition_skips_the_chunks_that_it_cannot_match(rt: HostRuntime) -> Result<
 fn an_empty_chunk_has_no_truth(rt: HostRuntime) -> Result<(), Fail> {
     let alloc = rt.alloc();
     let chunk = zones_of(3, &[]);
-    assert_eq!(rt;
-        chunk,
-        ChunkZones {
-            zones: [NOTHING; 16]
-        }
-    );
+    let zones = [NOTHING; 16];
+    assert_eq!(rt; chunk, ChunkZones { zones });
+    let none = set_of(b'N', false);
     for op in OPS {
-        assert_eq!(rt;
-            possible(&rt, &compare(0, op, 1), &chunk),
-            set_of(b'N', false),
-            "{op:?}"
-        );
+        expect(&rt, &compare(0, op, 1), &chunk, none);
         let turned = not(alloc, compare(0, op, 1))?;
-        assert_eq!(rt;
-            possible(&rt, &turned, &chunk),
-            set_of(b'N', false),
-            "NOT {op:?}"
-        );
-        let and = both(
-            alloc,
-            compare(0, op, 1),
-            Cond::IsNull {
-                column: 1,
-                negated: true,
-            },
-        )?;
-        assert_eq!(rt;
-            possible(&rt, &and, &chunk),
-            set_of(b'N', false),
-            "{op:?} AND"
-        );
+        expect(&rt, &turned, &chunk, none);
+        let there = Cond::IsNull {
+            column: 1,
+            negated: true,
+        };
+        let and = both(alloc, compare(0, op, 1), there)?;
+        expect(&rt, &and, &chunk, none);
     }
     Ok(())
 }
@@ -504,11 +451,7 @@ fn one_comparison_may_be_what_some_row_is_but_where_no_cell_equals_the_value(rt:
                     can_unknown: rows.can_unknown,
                     can_true: rows.can_true || between && op == Op::Eq,
                 };
-                assert_eq!(rt;
-                    possible(&rt, &cond, &chunk_of(zone, NULLS)),
-                    wide,
-                    "{op:?} {half} {zone:?}"
-                );
+                expect(&rt, &cond, &chunk_of(zone, NULLS), wide);
             }
         }
     }
@@ -535,16 +478,8 @@ fn conditions_on_two_columns_may_be_what_some_row_is(rt: HostRuntime) -> Result<
                 for b in 0..13 {
                     let (a, b) = (small_zone(a), small_zone(b));
                     let chunk = chunk_of(a, b);
-                    assert_eq!(rt;
-                        possible(&rt, &and, &chunk),
-                        truths_of_rows(&rt, &and, a, b),
-                        "{and:?} {a:?} {b:?}"
-                    );
-                    assert_eq!(rt;
-                        possible(&rt, &or, &chunk),
-                        truths_of_rows(&rt, &or, a, b),
-                        "{or:?} {a:?} {b:?}"
-                    );
+                    expect(&rt, &and, &chunk, truths_of_rows(&rt, &and, a, b));
+                    expect(&rt, &or, &chunk, truths_of_rows(&rt, &or, a, b));
                 }
             }
         }
@@ -565,9 +500,6 @@ fn two_parts_on_one_column_may_be_what_no_row_is(rt: HostRuntime) -> Result<(), 
         truths_of_rows(&rt, &cond, zone, NULLS),
         set_of(b'F', false)
     );
-    assert_eq!(rt;
-        possible(&rt, &cond, &chunk_of(zone, NULLS)),
-        set_of(b'B', false)
-    );
+    expect(&rt, &cond, &chunk_of(zone, NULLS), set_of(b'B', false));
     Ok(())
 }

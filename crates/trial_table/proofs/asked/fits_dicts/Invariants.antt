@@ -2,7 +2,7 @@ use Rattle.std.proofs.Common.{[], ◌<◌, ℕ, length, get_or}
 use Rattle.table_core.specs.Value.{FitsColumn}
 use Rattle.piece_format.specs.Cells.{cell_at}
 use Rattle.table_pieces.specs.Shaping.{kind_of}
-use Rattle.table_pieces.proofs.tests.asked.fits_dicts.Given as goal
+use Rattle.trial_table.proofs.asked.fits_dicts.Given as goal
 
 abbrev pub invariant-loop-row : goal.invariant-loop-row
 invariant-loop-row l = (row x : ℕ) → row < l.row → x < length l.table.columns → FitsColumn (kind_of l.table.columns x) (get_or l.dicts x []) (cell_at l.table.rows row x)

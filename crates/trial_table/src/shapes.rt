@@ -1,10 +1,10 @@
 // The shape of a table, and the zones of its chunks.
-use crate::tests::table::{CELLS, KINDS, cut};
-use crate::{chunks_of, zones_of_chunks};
+use crate::example::{CELLS, KINDS, cut};
 use filter_zones::Zone;
 use piece_format::Layout;
 use std::test::Fail;
 use table_core::Cell::{Code, Int};
+use table_pieces::{chunks_of, zones_of_chunks};
 
 // The zones of the columns of each chunk, with two rows in a chunk.
 const ZONES: [[Zone; 3]; 3] = [
@@ -59,7 +59,7 @@ fn each_chunk_has_the_zones_of_its_rows(rt: HostRuntime) -> Result<(), Fail> {
     assert_eq!(rt; zones.len(), 3);
     for c in 0..zones.len() {
         assert!(rt; c < 3);
-        assert_eq!(rt; &zones[c].zones[..3], ZONES[c].as_slice(), "{c}");
+        assert_eq!(rt; &zones[c].zones[..3], ZONES[c].as_slice());
     }
     Ok(())
 }
@@ -77,11 +77,15 @@ fn a_shape_has_kinds_lengths_and_rows(rt: HostRuntime) -> Result<(), Fail> {
     // rows in a chunk, chunks
     for (per, chunks) in [(1, 5), (2, 3), (5, 1), (9, 1)] {
         let cut = cut(&rt, rt.alloc(), &CELLS, Layout::Column, per)?;
-        assert_eq!(rt; cut.shape.layout, Layout::Column);
-        assert_eq!(rt; cut.shape.kinds.as_slice(), KINDS.as_slice());
-        assert_eq!(rt; cut.shape.dict_lens.as_slice(), [0, 3, 0].as_slice());
-        assert_eq!(rt; (cut.shape.rows, cut.shape.per), (5, per));
-        assert_eq!(rt; chunks_of(&cut.shape), chunks);
+        let shape = &cut.shape;
+        assert_eq!(rt;
+            (shape.kinds.as_slice(), shape.dict_lens.as_slice()),
+            (KINDS.as_slice(), [0, 3, 0].as_slice())
+        );
+        assert_eq!(rt;
+            (shape.layout, shape.rows, shape.per, chunks_of(shape)),
+            (Layout::Column, 5, per, chunks)
+        );
     }
     Ok(())
 }

@@ -3,7 +3,7 @@ use Rattle.std.proofs.lemmas.List.{take_all}
 use Rattle.std.proofs.lemmas.List.Elements.{All-more, All-same}
 use Rattle.filter_zones.specs.declared.zone.ChunkZones.{ChunkZones}
 use Rattle.filter_zones.specs.Possible.{FitsZones}
-use Rattle.filter_zones.proofs.tests.fits_chunks.Goals as goal
+use Rattle.trial_table.proofs.zones.fits_chunks.Goals as goal
 
 pub loop-chunk-preserved : goal.loop-chunk-preserved
 loop-chunk-preserved c =

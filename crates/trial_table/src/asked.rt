@@ -9,11 +9,25 @@ ghost use Rattle.table_core.specs.Value.{FitsColumn};
 ghost use Rattle.table_core.specs.declared.cell.Cell.TheVariants.{Null};
 ghost use Rattle.table_pieces.specs.Shaping.{FitsDicts, kind_of, shape_of};
 
-use piece_format::Layout;
+use piece_format::{Layout, Shape};
 use table_core::{
     Cell, Column, Dict, Kind, MOST_CHUNK_ROWS, MOST_CHUNKS, MOST_COLUMNS, MOST_ROWS, Table,
     chunk_count,
 };
+
+// Whether the shape is within the limits.
+pub(crate) fn is_shape(shape: &Shape) -> bool
+    ensures { OnTrue result (IsShape shape.now) }
+{
+    let columns = shape.kinds.len();
+    if columns < 1 || columns > MOST_COLUMNS as usize || shape.dict_lens.len() != columns {
+        return false;
+    }
+    if shape.per < 1 || shape.per > MOST_CHUNK_ROWS || shape.rows > MOST_ROWS {
+        return false;
+    }
+    chunk_count(shape.rows, shape.per) <= MOST_CHUNKS
+}
 
 // Whether the table has a shape within the limits.
 pub(crate) fn has_shape(table: &Table, dicts: &[Dict], layout: Layout, per: u32) -> bool

@@ -1,0 +1,131 @@
+// The tables that are cut: among them the columns `id`, `dept` and `pay`, whose texts are a, b and c.
+ghost use Rattle.std.specs.Prelude.{IfOk};
+ghost use Rattle.piece_format.specs.Cells.{IsTableOf};
+ghost use Rattle.piece_format.specs.Shape.{IsShape};
+
+use crate::asked::{are_whole_rows, can_follow, fits_dicts, has_shape};
+use piece_format::{Layout, Shape};
+use std::alloc::{AllocError, Global};
+use std::process::Abort;
+use std::test::Fail;
+use table_core::{Bytes, Cell, Column, Dict, Kind, Schema, Table};
+use table_pieces::shape_of;
+
+pub(crate) const KINDS: [Kind; 3] = [Kind::Int, Kind::Text, Kind::Int];
+
+// How many texts the dictionaries of those columns have.
+pub(crate) const COUNTS: [u8; 3] = [0, 3, 0];
+
+pub(crate) const CELLS: [Cell; 15] = [
+    Cell::Int(1),
+    Cell::Code(0),
+    Cell::Int(10),
+    Cell::Int(2),
+    Cell::Code(1),
+    Cell::Int(20),
+    Cell::Int(3),
+    Cell::Code(0),
+    Cell::Null,
+    Cell::Int(4),
+    Cell::Code(2),
+    Cell::Int(40),
+    Cell::Int(5),
+    Cell::Code(1),
+    Cell::Int(-5),
+];
+
+pub(crate) const MINUS_5: u64 = 18446744073709551611;
+
+// A column of 70 rows: each seventh is NULL, and the others are their numbers, as codes or not.
+pub(crate) fn seventy(alloc: Global, codes: bool) -> Result<Vec<Cell>, AllocError> {
+    let mut cells = Vec::new(alloc);
+    for row in 0..70 {
+        cells.push(if row % 7 == 0 {
+            Cell::Null
+        } else if codes {
+            Cell::Code(row)
+        } else {
+            Cell::Int(i64::from(row))
+        })?;
+    }
+    Ok(cells)
+}
+
+fn table_of(
+    rt: &impl Abort,
+    alloc: Global,
+    kinds: &[Kind],
+    cells: &[Cell],
+) -> Result<Table, AllocError> {
+    let mut columns = Vec::new(alloc);
+    for kind in kinds {
+        columns.push(Column {
+            name: Bytes::new(Vec::new(alloc)),
+            kind: *kind,
+        })?;
+    }
+    let cells = Vec::from_slice(alloc, cells)?;
+    assert!(rt; are_whole_rows(columns.len(), cells.as_slice()));
+    Ok(Table::new(Schema::new(columns), cells))
+}
+
+// A dictionary of so many texts of one byte: a, b, c and so on.
+fn dict_of(rt: &impl Abort, alloc: Global, count: u8) -> Result<Dict, AllocError> {
+    let mut dict = Dict::new(alloc);
+    for letter in b'a'..b'a'.saturating_add(count) {
+        let text = [letter];
+        assert!(rt; can_follow(&dict, &text));
+        dict.push(&text)?;
+    }
+    Ok(dict)
+}
+
+fn dicts_of(rt: &impl Abort, alloc: Global, counts: &[u8]) -> Result<Vec<Dict>, AllocError> {
+    let mut dicts = Vec::new(alloc);
+    for count in counts {
+        dicts.push(dict_of(rt, alloc, *count)?)?;
+    }
+    Ok(dicts)
+}
+
+// A table and its shape.
+#[derive(Drop)]
+pub(crate) struct Example {
+    pub table: Table,
+    pub shape: Shape,
+}
+
+// The table of these kinds, counts of texts and cells, cut.
+pub(crate) fn cut_of(
+    rt: &impl Abort,
+    alloc: Global,
+    kinds: &[Kind],
+    counts: &[u8],
+    cells: &[Cell],
+    layout: Layout,
+    per: u32,
+) -> Result<Example, Fail>
+    ensures shape { IfOk result (λ c. IsShape c.shape) }
+    ensures table { IfOk result (λ c. IsTableOf c.shape c.table) }
+{
+    let table = table_of(rt, alloc, kinds, cells)?;
+    let dicts = dicts_of(rt, alloc, counts)?;
+    assert!(rt; has_shape(&table, dicts.as_slice(), layout, per));
+    assert!(rt; fits_dicts(&table, dicts.as_slice()));
+    let shape = shape_of(alloc, &table, dicts.as_slice(), layout, per)?;
+    Ok(Example { table, shape })
+}
+
+// The table of these cells in the columns `id`, `dept` and `pay`, cut.
+pub(crate) fn cut(
+    rt: &impl Abort,
+    alloc: Global,
+    cells: &[Cell],
+    layout: Layout,
+    per: u32,
+) -> Result<Example, Fail>
+    ensures shape { IfOk result (λ c. IsShape c.shape) }
+    ensures table { IfOk result (λ c. IsTableOf c.shape c.table) }
+{
+    cut_of(rt, alloc, &KINDS, &COUNTS, cells, layout, per)
+}

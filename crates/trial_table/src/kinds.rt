@@ -1,0 +1,97 @@
+// Columns by the spellings of their fields, with the edges of 64 bits, and the codes of texts.
+use crate::loading::loaded;
+use csv_load::Loaded;
+use std::alloc::{AllocError, Global};
+use std::hash::RandomState;
+use std::test::Fail;
+use table_core::{Cell, Kind};
+
+const INT: Kind = Kind::Int;
+
+const TEXT: Kind = Kind::Text;
+
+// Two fields of a column, and its kind.
+const SPELLED: [([&[u8]; 2], Kind); 24] = [
+    ([b"", b""], INT),
+    ([b"0", b"-5"], INT),
+    ([b"", b"10"], INT),
+    ([b"-0", b"1"], TEXT),
+    ([b"+1", b"1"], TEXT),
+    ([b"01", b"1"], TEXT),
+    ([b"1e3", b"1"], TEXT),
+    ([b".5", b"1"], TEXT),
+    ([b"5.", b"1"], TEXT),
+    ([b"-", b"1"], TEXT),
+    ([b"1 ", b"1"], TEXT),
+    ([b"9223372036854775807", b"-9223372036854775808"], INT),
+    ([b"9223372036854775808", b"1"], TEXT),
+    ([b"-9223372036854775809", b"1"], TEXT),
+    ([b"1.50", b"3"], Kind::Dec { places: 2 }),
+    ([b"-0", b"0.5"], Kind::Dec { places: 1 }),
+    ([b"1.000000001", b""], Kind::Dec { places: 9 }),
+    ([b"1.0000000001", b""], TEXT),
+    ([b"00.5", b"1"], TEXT),
+    ([b"92233720368547758.07", b"0.01"], Kind::Dec { places: 2 }),
+    ([b"92233720368547758.08", b"0.01"], TEXT),
+    ([b"-92233720368547758.08", b"0.01"], Kind::Dec { places: 2 }),
+    ([b"-92233720368547758.09", b"0.01"], TEXT),
+    ([b"92233720368547758", b"0.001"], TEXT),
+];
+
+// The text of a column of two fields.
+fn text_of(alloc: Global, fields: [&[u8]; 2]) -> Result<Vec<u8>, AllocError> {
+    let mut text = Vec::from_slice(alloc, b"v\n\"")?;
+    text.extend_from_slice(fields[0])?;
+    text.extend_from_slice(b"\"\n\"")?;
+    text.extend_from_slice(fields[1])?;
+    text.extend_from_slice(b"\"\n")?;
+    Ok(text)
+}
+
+#[test]
+fn the_spelling_of_the_fields_decides_the_kind(rt: HostRuntime) -> Result<(), Fail> {
+    let keys = RandomState::new(&rt)?;
+    for (fields, kind) in SPELLED {
+        let text = text_of(rt.alloc(), fields)?;
+        let Ok(Loaded { table, .. }) = loaded(&rt, rt.alloc(), keys, text.as_slice()) else {
+            return Err(Fail::new("refused"));
+        };
+        let columns = table.schema().columns();
+        assert!(rt; columns.len() == 1 && columns[0].kind == kind, "{fields:?}");
+    }
+    Ok(())
+}
+
+// A text, and its code or how many texts are smaller.
+const CODES: [(&[u8], Result<u32, u32>); 7] = [
+    (b"a", Ok(0)),
+    (b"ab", Ok(1)),
+    (b"b", Ok(2)),
+    (b"\xff", Ok(3)),
+    (b"", Err(0)),
+    (b"aa", Err(1)),
+    (b"c", Err(3)),
+];
+
+#[test]
+fn names_are_ranked_byte_by_byte(rt: HostRuntime) -> Result<(), Fail> {
+    let keys = RandomState::new(&rt)?;
+    let text = b"n\nb\n\"\"\n\xff\na\nb\nab\n";
+    let Ok(Loaded { table, dicts }) = loaded(&rt, rt.alloc(), keys, text) else {
+        return Err(Fail::new("refused"));
+    };
+    let cells = [
+        Cell::Code(2),
+        Cell::Null,
+        Cell::Code(3),
+        Cell::Code(0),
+        Cell::Code(2),
+        Cell::Code(1),
+    ];
+    assert_eq!(rt; table.rows(0, table.len()), cells.as_slice());
+    assert!(rt; dicts.len() == 1 && dicts[0].len() == 4);
+    for (text, code) in CODES {
+        assert_eq!(rt; dicts[0].code_of(text), code);
+    }
+    Ok(())
+}

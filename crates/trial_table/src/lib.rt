@@ -1,0 +1,26 @@
+//! Trials of tables as they are kept: a text loaded, its cells cut into pieces and read back, pieces with damages,
+//! pieces put into depots, and conditions over the zones of chunks.
+//!
+//! All of it is tests. docs/TABLES.md, docs/PIECES.md and docs/ZONES.md tell what they try.
+#![tactic(auto)]
+
+#[cfg(test)]
+mod asked;
+#[cfg(test)]
+mod damages;
+#[cfg(test)]
+mod example;
+#[cfg(test)]
+mod full_depot;
+#[cfg(test)]
+mod kinds;
+#[cfg(test)]
+mod loading;
+#[cfg(test)]
+mod pieces;
+#[cfg(test)]
+mod putting;
+#[cfg(test)]
+mod shapes;
+#[cfg(test)]
+mod zones;
