@@ -21,6 +21,7 @@ mod failed;
 mod mem_depot;
 mod mem_shelf;
 mod mem_sink;
+mod opened_file;
 mod reading;
 mod scratch_depot;
 mod scratch_file;

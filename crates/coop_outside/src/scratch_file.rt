@@ -54,18 +54,12 @@ impl<R: Files<File = File> + Drop> ScratchFile<R> {
         }
     }
 
-    // Writes the bytes behind all others by one write, and says where they stand; None where that fails.
+    // Writes the bytes behind all others, and says where they stand; None where that fails.
     fn write(&mut self, bytes: &[u8]) -> Option<Place> {
         let from = self.end;
         let end = from.checked_add(bytes.len() as u64)?;
         let size = bytes.len();
-        match self.made() {
-            Ok(file) => match file.write_at(bytes, from) {
-                Ok(count) if count == size => {}
-                _ => return None,
-            },
-            Err(_) => return None,
-        }
+        self.made().ok()?.write_all_at(bytes, from).ok()?;
         self.end = end;
         Some(Place { from, size })
     }
@@ -81,8 +75,7 @@ impl<R: Files<File = File> + Drop> ScratchFile<R> {
         }
     }
 
-    /// Reads a piece by one read, and says whether that went well: it was put, it has the length of `buf`, and the
-    /// read didn't come back short.
+    /// Reads a piece, and says whether that went well: it was put, it has the length of `buf`, and the file gave all of it.
     pub(crate) fn get(&self, piece: u32, buf: &mut [u8]) -> bool {
         let Some(place) = self.places.get(&piece) else {
             return false;
@@ -91,7 +84,7 @@ impl<R: Files<File = File> + Drop> ScratchFile<R> {
             return false;
         }
         match &self.file {
-            Some(file) => matches!(file.read_at(buf, place.from), Ok(count) if count == place.size),
+            Some(file) => file.read_exact_at(buf, place.from).is_ok(),
             None => false,
         }
     }

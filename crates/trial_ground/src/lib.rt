@@ -9,6 +9,8 @@ mod control_words;
 #[cfg(test)]
 mod depots;
 #[cfg(test)]
+mod pipes;
+#[cfg(test)]
 mod reading;
 #[cfg(test)]
 mod real_devices;
