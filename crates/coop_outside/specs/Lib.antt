@@ -2,6 +2,7 @@ pub mod Causes
 pub mod Either
 pub mod Files
 pub mod Held
+pub mod Listed
 pub mod Pieces
 pub mod Real
 pub mod Spoilt

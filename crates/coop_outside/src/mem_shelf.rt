@@ -1,7 +1,9 @@
 // Files in memory, for tests.
-ghost use Rattle.std.specs.Prelude.{◌≡◌, ◌≤◌, ◌<◌, length, take, drop, Some};
+ghost use Rattle.std.specs.Prelude.{◌≡◌, ◌≤◌, ◌<◌, ◌&&◌, length, take, drop, not, is_ok, is_some, OnErr};
 ghost use Rattle.std.specs.Option.{option_copied};
-ghost use Rattle.coop_outside.specs.Files.{file_of};
+ghost use Rattle.coop_outside.specs.Files.{file_of, held_in};
+ghost use Rattle.coop_outside.specs.Held.{ReadFails, ReadsAt};
+ghost use Rattle.coop_outside.specs.Listed.{counted, counted_if, is_listed};
 
 use crate::bytes::Bytes;
 use crate::failed::Failed;
@@ -50,11 +52,24 @@ fn copy_from(bytes: &[u8], place: u64, buf: &mut [u8]) -> usize
 }
 
 impl Shelf for MemShelf {
-    ghost held = { λ s. Some (λ name. file_of s.files.items name) };
+    ghost held = { λ s. held_in s.files.items };
 
     ghost faults = { λ s. s.faults };
 
-    fn read_at(&mut self, name: &str, place: u64, buf: &mut [u8]) -> Result<usize, Failed> {
+    fn read_at(&mut self, name: &str, place: u64, buf: &mut [u8]) -> Result<usize, Failed>
+        ensures reads { ReadsAt (held_in self.old.files.items) name.now place result buf.new }
+        ensures held { held_in self.new.files.items ≡ held_in self.old.files.items }
+        ensures later { self.old.faults ≤ self.new.faults }
+        ensures cause { OnErr result (ReadFails (held_in self.old.files.items) name.now self.old.faults
+            self.new.faults) }
+        // it fails where the call is listed or the name isn't there, and nowhere else
+        ensures answers { is_ok result ≡ (not (is_listed self.old.fail_reads.items self.new.calls)
+            && is_some (file_of self.old.files.items name.now)) }
+        ensures calls { self.new.calls ≡ counted self.old.calls }
+        ensures faults { self.new.faults ≡ counted_if (is_listed self.old.fail_reads.items self.new.calls)
+            self.old.faults }
+        ensures same { (self.new.files ≡ self.old.files) × (self.new.fail_reads ≡ self.old.fail_reads) }
+    {
         self.calls = self.calls.saturating_add(1);
         if self.fail_reads.contains(&self.calls) {
             self.faults = self.faults.saturating_add(1);

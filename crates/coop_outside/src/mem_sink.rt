@@ -1,5 +1,8 @@
 // A sink into memory, for tests.
-ghost use Rattle.std.specs.Prelude.{◌≤◌, ◌<◌, length, Some, IfSome};
+ghost use Rattle.std.specs.Prelude.{◌≡◌, ◌≤◌, ◌<◌, length, min, false, is_err, Some, IfSome, OnSome, IfOk, OnErr, OnOk};
+ghost use Rattle.coop_outside.specs.Causes.{Rose};
+ghost use Rattle.coop_outside.specs.Listed.{counted, counted_if, is_listed};
+ghost use Rattle.coop_outside.specs.Taken.{Takes};
 
 use crate::bytes::Bytes;
 use crate::failed::Failed;
@@ -24,6 +27,8 @@ impl MemSink {
     // The front of a piece that this call takes, where it takes some.
     fn takes(&self, piece: &[u8]) -> Option<usize>
         ensures front { IfSome result (λ n. (n ≤ length piece.now) × (0 < length piece.now → 0 < n)) }
+        ensures part { IfSome result (λ n. n ≡ min (length piece.now) self.now.per_call) }
+        ensures listed { OnSome result (is_listed self.now.fail_writes.items self.now.calls ≡ false) }
     {
         let count = piece.len().min(self.per_call);
         if self.fail_writes.contains(&self.calls) || (count == 0 && !piece.is_empty()) {
@@ -38,7 +43,18 @@ impl Sink for MemSink {
 
     ghost faults = { λ s. s.faults };
 
-    fn write(&mut self, piece: &[u8]) -> Result<usize, Failed> {
+    fn write(&mut self, piece: &[u8]) -> Result<usize, Failed>
+        ensures takes { Takes (Some self.old.taken) piece.now result (Some self.new.taken) }
+        ensures later { self.old.faults ≤ self.new.faults }
+        ensures cause { OnErr result (Rose self.old.faults self.new.faults) }
+        // a call that is listed fails
+        ensures listed { OnOk result (is_listed self.old.fail_writes.items self.new.calls ≡ false) }
+        // any other takes as much as one write takes; it fails for want of memory, or where that is nothing
+        ensures part { IfOk result (λ n. n ≡ min (length piece.now) self.old.per_call) }
+        ensures calls { self.new.calls ≡ counted self.old.calls }
+        ensures faults { self.new.faults ≡ counted_if (is_err result) self.old.faults }
+        ensures same { (self.new.per_call ≡ self.old.per_call) × (self.new.fail_writes ≡ self.old.fail_writes) }
+    {
         self.calls = self.calls.saturating_add(1);
         if let Some(count) = self.takes(piece) {
             if self.taken.append(&piece[..count]).is_ok() {

@@ -1,6 +1,7 @@
 // A depot that gives one word of one piece wrong, for tests.
-ghost use Rattle.std.specs.Prelude.{◌≡◌, ◌≤◌, ◌<◌, ◌+◌, ◌*◌, ◌-◌, ◌^◌, ⊤, ℕ, nat_le, List, length, OnOk, OnErr, Err, Some, None, IsTrue, if◌then◌else◌};
+ghost use Rattle.std.specs.Prelude.{◌≡◌, ◌≤◌, ◌<◌, ◌+◌, ◌*◌, ◌-◌, ◌^◌, ◌↔◌, ⊤, ℕ, nat_le, true, false, List, length, is_err, OnOk, OnErr, Err, Some, None, IsTrue, if◌then◌else◌};
 ghost use Rattle.coop_outside.specs.Causes.{Rose};
+ghost use Rattle.coop_outside.specs.Listed.{is_listed};
 ghost use Rattle.coop_outside.specs.Pieces.{HoldsPiece, bytes_of, with_piece};
 ghost use Rattle.coop_outside.specs.Spoilt.{spoilt_bytes, with_word};
 
@@ -37,7 +38,7 @@ fn spoil(buf: &mut [u8], word: u32, value: u64)
 impl SpoiltDepot {
     // Whether `inner` has the piece with so many bytes.
     fn has(&self, piece: u32, size: usize) -> bool
-        ensures there { IsTrue result → HoldsPiece (Some self.now.inner.pieces.entries) piece size }
+        ensures there { IsTrue result ↔ HoldsPiece (Some self.now.inner.pieces.entries) piece size }
     {
         match self.inner.bytes_of(piece) {
             Some(bytes) => return bytes.len() == size,
@@ -64,6 +65,9 @@ impl Depot for SpoiltDepot {
         // the piece's bytes are kept as they are
         ensures kept { OnOk result (Some self.new.inner.pieces.entries
             ≡ with_piece (Some self.old.inner.pieces.entries) piece bytes.now) }
+        // it fails where the call is listed, and nowhere else but for want of memory
+        ensures listed { (result ≡ Err DepotFault.Failed)
+            ↔ (is_listed self.old.inner.fail_puts.items self.new.inner.puts ≡ true) }
     {
         self.inner.put(piece, bytes)
     }
@@ -79,21 +83,21 @@ impl Depot for SpoiltDepot {
         // the piece's bytes, but for the one word
         ensures spoilt { OnOk result ((bytes : List ℕ) × (bytes_of self.old.inner.pieces.entries piece ≡ Some bytes)
             × (buf.new ≡ spoilt_bytes self.old.piece self.old.word self.old.value piece bytes)) }
+        // it fails where the call is listed or the piece isn't there with this length, and nowhere else
+        ensures listed { OnOk result (is_listed self.old.inner.fail_gets.items self.new.inner.gets ≡ false) }
+        ensures others { HoldsPiece (Some self.old.inner.pieces.entries) piece (length buf.old)
+            → is_err result ≡ is_listed self.old.inner.fail_gets.items self.new.inner.gets }
     {
         if !self.has(piece, buf.len()) {
             self.inner.gets += 1;
             self.inner.faults = self.inner.faults.saturating_add(1);
             return Err(Failed);
         }
-        match self.inner.get(piece, buf) {
-            Ok(()) => {
-                if piece == self.piece {
-                    spoil(buf, self.word, self.value);
-                }
-                return Ok(());
-            }
-            Err(failed) => return Err(failed),
+        self.inner.get(piece, buf)?;
+        if piece == self.piece {
+            spoil(buf, self.word, self.value);
         }
+        Ok(())
     }
 
     fn faults(&self) -> u64 {
