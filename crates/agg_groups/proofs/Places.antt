@@ -1,6 +1,6 @@
 -- A map of keys and places as a plain list: what a search finds, and what an insertion leaves.
-use Rattle.std.proofs.Common.{◌≡◌, ℕ, ◌+◌, ◌<◌, Bool, true, false, List, [], ◌∷◌, refl, sym, ap, subst, ◌∙◌, arith, inl, inr}
-use Rattle.std.specs.Prelude.{Some, None, if◌then◌else◌, Vec}
+use Rattle.std.proofs.Common.{◌≡◌, ℕ, ◌+◌, ◌<◌, Bool, true, false, List, [], ◌∷◌, length, zero, suc, refl, sym, ap, subst, ◌∙◌, arith, inl, inr}
+use Rattle.std.specs.Prelude.{Contains, Some, None, slice_index_or, if◌then◌else◌, Vec}
 use Rattle.std.proofs.lemmas.Bool.{cases_Bool}
 use Rattle.std.specs.declared.cmp.Ordering.{Ordering}
 use Rattle.std.specs.declared.cmp.Ordering.TheVariants.{Less, Equal, Greater}
@@ -14,7 +14,7 @@ use Rattle.std.specs.Global.{Global}
 use Rattle.table_core.specs.declared.cell.Cell.{Cell}
 use Rattle.table_core.specs.Cell.{cell_cmp}
 use Rattle.agg_groups.specs.Table.{place_at, plain_places, names, Below, Rising, AreBelow}
-use Rattle.agg_groups.proofs.Order.{key_cmp, same_key, key_exact, same, other}
+use Rattle.agg_groups.proofs.Order.{key_cmp, same_key, key_exact, same, other, itself}
 
 abbrev pub Entry : Type 0
 Entry = Vec Cell Global × ℕ
@@ -64,6 +64,20 @@ place_below n (x ∷ es) q i b e = elim (cases_Bool (same_key q x.0)) [
       let P : ℕ → Type 0 = λ m. m < n in subst P p b.0
   | inr t ↦ place_below n es q i b.1 (sym (ap (λ b. if b then Some x.1 else place_at es q) t) ∙ e)
 ]
+
+-- a key that has no place is none of the keys
+unplaced_at : (es : List (List Cell × ℕ)) (q : List Cell) (k : ℕ) → place_at es q ≡ None → k < length (names es) → slice_index_or (names es) k q ≡ q → ⊥
+unplaced_at [] q k n l e = omega arith
+unplaced_at (x ∷ es) q zero n l e =
+    let t : same_key q x.0 ≡ true = ap (same_key q) e ∙ itself q in
+    let d : Some x.1 ≡ None = sym (ap (λ b. if b then Some x.1 else place_at es q) t) ∙ n in cc
+unplaced_at (x ∷ es) q (suc k) n l e = elim (cases_Bool (same_key q x.0)) [
+  | inl t ↦ (let d : Some x.1 ≡ None = sym (ap (λ b. if b then Some x.1 else place_at es q) t) ∙ n in cc)
+  | inr t ↦ unplaced_at es q k (sym (ap (λ b. if b then Some x.1 else place_at es q) t) ∙ n) (omega arith) e
+]
+
+pub unplaced : (es : List (List Cell × ℕ)) (q : List Cell) → place_at es q ≡ None → Contains (names es) q → ⊥
+unplaced es q n h = unplaced_at es q h.0 n h.1 h.2
 
 below_entries : (R : Cell → Cell → Ordering) → ((a b : Cell) → R a b ≡ cell_cmp a b) → (k : Vec Cell Global) (es : List Entry) → AllByRecursion (λ (y : Vec Cell Global). slice_cmp R k.items y.items ≡ Less) (keys_of es) → Below k.items (names (plain_places es))
 below_entries R h k [] a = tt

@@ -1,6 +1,6 @@
 -- The lists of rows that groups stand for: one row more, other groups' rows behind, and the same rows in another order.
 use Rattle.std.proofs.Common.{◌≡◌, ℕ, ◌<◌, Bool, true, false, List, [], ◌∷◌, ◌++◌, length, map, filter, set, get_or, zero, suc, refl, sym, ap, subst, ◌∙◌, arith}
-use Rattle.std.specs.Prelude.{Option, Some, None, ◌||◌, if◌then◌else◌, IsPermutation}
+use Rattle.std.specs.Prelude.{Option, Some, None, if◌then◌else◌, IsPermutation}
 use Rattle.std.specs.List.{swap}
 use Rattle.std.proofs.Math.Bool.{or-false, or_comm}
 use Rattle.std.proofs.lemmas.List.Sorted.{IsPermutation-keeps}

@@ -1,5 +1,5 @@
 -- Kept groups, and the lists of rows that they stand for.
-use Rattle.std.specs.Prelude.{◌≡◌, ◌<◌, ℕ, List, length, map, Option, Some, ℤ, All, IsPermutation}
+use Rattle.std.specs.Prelude.{◌≡◌, ◌<◌, ℕ, List, length, map, Option, Some, ℤ, All, Contains, IsPermutation}
 use Rattle.agg_groups.specs.declared.rows.FinishFault.{FinishFault}
 use Rattle.agg_groups.specs.declared.rows.FinishFault.TheVariants as fault
 use Rattle.table_core.specs.declared.cell.Cell.{Cell}
@@ -28,6 +28,10 @@ groups_of items keys rows = map (λ q. (q, runnings items (group codes keys q ro
 pub record Stands (g : Kept) (rows : List (List Cell)) : Type 0 where
   pub count : g.rows ≡ length rows
   pub groups : g.groups ≡ groups_of g.items g.keys rows
+
+-- a row of this key was met before: one of the groups has it
+abbrev pub IsKnown : Kept → List Cell → Type 0
+IsKnown g key = Contains (map (λ (h : Group). h.0) g.groups) key
 
 -- each column that the items and the key columns name is one of so many
 pub record NamesPlaces (items : List Item) (keys : List ℕ) (width : ℕ) : Type 0 where

@@ -1,9 +1,9 @@
 // The groups of a query's rows.
-ghost use Rattle.std.specs.Prelude.{◌≡◌, ◌≤◌, ◌+◌, ◌++◌, ℕ, List, [], ◌∷◌, length, None, OnOk, OnErr, IfOk, IfErr};
+ghost use Rattle.std.specs.Prelude.{◌≡◌, ◌≤◌, ◌+◌, ◌++◌, ℕ, List, [], ◌∷◌, length, None, OnOk, OnErr, IfOk, IfErr, IsOk};
 ghost use Rattle.table_core.specs.declared.cell.Cell.{Cell};
 ghost use Rattle.agg_groups.specs.Cells.{codes};
-ghost use Rattle.agg_groups.specs.Meaning.{meaning, overflow};
-ghost use Rattle.agg_groups.specs.Groups.{Kept, Stands, StandsInSomeOrder, NamesPlaces, IsFault};
+ghost use Rattle.agg_groups.specs.Meaning.{key_of, meaning, overflow};
+ghost use Rattle.agg_groups.specs.Groups.{Kept, Stands, StandsInSomeOrder, NamesPlaces, IsFault, IsKnown};
 ghost use Rattle.agg_groups.specs.Table.{AreSound, IsPlaced, IsLast, IsKept, IsFirst, seen, at, merged};
 ghost use Rattle.agg_groups.specs.declared.rows.FinishFault.TheVariants as FinishFault;
 
@@ -108,15 +108,16 @@ impl Groups {
         })
     }
 
-    /// Adds a row. It takes no memory where the row's key was met before.
+    /// Adds a row. Where a row of its key was met before it takes no memory, so it is never refused.
     ///
-    /// For want of memory the groups stay as they were.
+    /// Out of memory, the groups stay as they were.
     pub fn add_row(&mut self, row: &[Cell]) -> Result<(), Memory>
         requires few { self.old.rows ≤ 2097151 }
         requires places { NamesPlaces self.old.items self.old.keys (length row.now) }
         ensures ok { OnOk result ((rows : List (List Cell)) → Stands self.old rows
             → Stands self.new (rows ++ row.now ∷ [])) }
         ensures count { OnOk result (self.new.rows ≡ self.old.rows + 1) }
+        ensures free { IsKnown self.old (key_of codes self.old.keys row.now) → IsOk result }
         ensures items { self.new.items ≡ self.old.items }
         ensures keys { self.new.keys ≡ self.old.keys }
         ensures err { OnErr result (self.new ≡ self.old) }

@@ -1,8 +1,8 @@
 // The group met last, which is tried first.
-ghost use Rattle.std.specs.Prelude.{◌≡◌, ◌<◌, ◌↔◌, ℕ, length, map, All, IsTrue, OnErr, IfOk};
+ghost use Rattle.std.specs.Prelude.{◌≡◌, ◌<◌, ◌↔◌, ℕ, length, map, All, Contains, IsTrue, OnErr, IfOk};
 ghost use Rattle.agg_groups.specs.Cells.{codes};
 ghost use Rattle.agg_groups.specs.Meaning.{key_of, cell};
-ghost use Rattle.agg_groups.specs.Table.{IsLast, IsPlaceFor, IsPlaced};
+ghost use Rattle.agg_groups.specs.Table.{IsLast, IsPlaceFor, IsPlaced, names};
 
 use crate::item::Item;
 use crate::table::GroupTable;
@@ -64,6 +64,7 @@ pub(crate) fn place_of(
     ensures len { length last.new.key.items ≡ length keys.now }
     ensures placed { IsPlaced table.new }
     ensures err { OnErr result (table.new ≡ table.old) }
+    ensures unknown { OnErr result (Contains (names table.old.places) (key_of codes keys.now row.now) → ⊥) }
 {
     if let Some(place) = last.place {
         if has_key(&last.key, keys, row) {

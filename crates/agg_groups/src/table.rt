@@ -1,10 +1,10 @@
 // Where groups are kept: a map from keys to places, and the running values at each place.
-ghost use Rattle.std.specs.Prelude.{◌≡◌, ◌<◌, ◌≤◌, ◌+◌, ◌^◌, ℕ, List, [], length, map, set, All, Some, None, OnOk, OnErr, IfOk, if◌then◌else◌};
+ghost use Rattle.std.specs.Prelude.{◌≡◌, ◌<◌, ◌≤◌, ◌+◌, ◌^◌, ℕ, List, [], length, map, set, All, Contains, Some, None, OnOk, OnErr, IfOk, if◌then◌else◌};
 ghost use Rattle.table_core.specs.declared.cell.Cell.{Cell};
 ghost use Rattle.agg_groups.specs.Cells.{codes};
 ghost use Rattle.agg_groups.specs.Running.{HasRoom, IsInRow, nexts, joins, all_shown, FitsCell};
 ghost use Rattle.table_core.specs.Lists.{lists};
-ghost use Rattle.agg_groups.specs.Table.{Placed, IsPlaced, IsNewPlace, IsPlaceFor, AreSound, place_at, values_at, seen, at, merged, first_over, result_rows, AllFit, AreBelow, Puts, base, HasRoomAt, plain_places};
+ghost use Rattle.agg_groups.specs.Table.{Placed, IsPlaced, IsNewPlace, IsPlaceFor, AreSound, place_at, values_at, seen, at, merged, first_over, result_rows, AllFit, AreBelow, Puts, base, HasRoomAt, names, plain_places};
 
 use crate::item::Item;
 use crate::running::{Running, join_all, over, row_of, starts, step};
@@ -199,10 +199,11 @@ impl GroupTable {
         *self.values.allocator()
     }
 
-    /// The place of a key, which is made where the key is new.
+    /// The place of a key, which is made where the key is new. It takes no memory where the key is known.
     pub(crate) fn place_for(&mut self, items: &[Item], key: &[Cell]) -> Result<usize, Memory>
         ensures ok { IfOk result (λ place. IsPlaceFor items.now key.now place self.old self.new) }
         ensures err { OnErr result (self.new ≡ self.old) }
+        ensures unknown { OnErr result (Contains (names self.old.places) key.now → ⊥) }
         ensures placed { IsPlaced self.new }
     {
         match place_in(&self.places, key) {

@@ -1,14 +1,15 @@
 use Rattle.std.proofs.Common.{◌≡◌, ◌∙◌, ◌+◌, sym, ap, subst, List, ℕ, length, set, Some, All, arith}
+use Rattle.std.specs.Prelude.{Contains}
 use Rattle.table_core.specs.declared.cell.Cell.{Cell}
 use Rattle.agg_groups.specs.declared.item.Item.{Item}
 use Rattle.agg_groups.specs.declared.running.Running.{Running}
 use Rattle.agg_groups.specs.Cells.{codes}
 use Rattle.agg_groups.specs.Meaning.{key_of}
 use Rattle.agg_groups.specs.Running.{HasRoom, nexts}
-use Rattle.agg_groups.specs.Groups.{Kept, Stands}
-use Rattle.agg_groups.specs.Table.{IsPlaceFor, AreSound, values_at, place_at}
+use Rattle.agg_groups.specs.Groups.{Kept, IsKnown, Stands}
+use Rattle.agg_groups.specs.Table.{IsPlaceFor, AreSound, names, values_at, place_at}
 use Rattle.agg_groups.proofs.Values.{nexts_len, length-push}
-use Rattle.agg_groups.proofs.Seen.{place_there, placed_put, placed_below, sound_place, sound_set}
+use Rattle.agg_groups.proofs.Seen.{names-seen, place_there, placed_put, placed_below, sound_place, sound_set}
 use Rattle.agg_groups.proofs.Stands.{groups_more}
 use Rattle.agg_groups.proofs.groups.Groups.add_row.Goals as goal
 
@@ -86,3 +87,13 @@ returns-clause-ok c = λ rows s.
       count = ap (λ n. n + 1) stands.count ∙ sym (length-push rows row);
       groups = groups_more items keys row old new c.step.ensures.placed puts rows stands.groups;
     }
+
+-- a known key has a place
+pub returns-in_err-place-clause-free : goal.returns-in_err-place-clause-free
+returns-in_err-place-clause-free c = λ known.
+    let t = c.self.inside.table in
+    let row = c.args.row.now in
+    let G : Kept → Type 0 = λ g. IsKnown g (key_of codes g.keys row) in
+    let N : List (List Cell) → Type 0 = λ qs. Contains qs (key_of codes c.self.inside.keys.items row) in
+    let K : List ℕ → Type 0 = λ ks. Contains (names t.places) (key_of codes ks row) in
+    absurd (c.in_err-place.ensures.unknown (subst K (sym c.deref-2.ensures.value) (subst N (names-seen t.values t.places) (subst G (sym c.self.view_is) known))))
