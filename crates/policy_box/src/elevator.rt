@@ -1,9 +1,13 @@
 //! The policy elevator.
-ghost use Rattle.std.specs.Prelude.{◌≡◌, ◌≤◌, ◌<◌, ◌∷◌, []};
+ghost use Rattle.std.specs.Prelude.{◌≡◌, ◌≤◌, ◌<◌, ◌∷◌, [], IfSome};
 ghost use Rattle.scan_story.specs.declared.setting.Setting.{Setting};
 ghost use Rattle.scan_story.specs.Views.{History};
-ghost use Rattle.scan_story.specs.Policies.{reach};
+ghost use Rattle.scan_story.specs.MayFollow.{is_trigger, is_target, is_ready};
+ghost use Rattle.scan_story.specs.Policies.{dist_from, is_least_close, reach};
 ghost use Rattle.interest_book.specs.Stands.{Stands};
+ghost use Rattle.relevance.specs.Best.{IsFirstBest};
+ghost use Rattle.relevance.specs.Picks.{PicksQuery, PicksLoad, PicksDelivery, PicksVictim, cursor_after_load, cursor_after_delivery, HasActive, HasNoneBegun};
+ghost use Rattle.relevance.specs.Rated.{is_below};
 ghost use Rattle.policy_box.specs.Next.{next_of};
 
 use interest_book::Book;
@@ -66,7 +70,13 @@ impl Policy for Elevator {
     }
 
     #[tactic(auto, using(relevance::proofs::Choosing::best_below_more))]
-    fn pick_query(&mut self, book: &Book) -> Option<u32> {
+    fn pick_query(&mut self, book: &Book) -> Option<u32>
+        ensures picks { (s : Setting) (h : History) → Stands book.now s h
+            → PicksQuery names.Elevator (self.old.next ∷ []) s h result }
+        ensures first { (s : Setting) (h : History) → Stands book.now s h
+            → IfSome result (IsFirstBest is_below (is_trigger s h) (reach s h (self.old.next ∷ []))) }
+        ensures cursor { self.new.next ∷ [] ≡ self.old.next ∷ [] }
+    {
         let mut best = None;
         for q in 0..257 {
             if book.is_trigger(q) {
@@ -76,7 +86,15 @@ impl Policy for Elevator {
         number_in(best)
     }
 
-    fn pick_load(&mut self, book: &Book, q: u32) -> Option<u32> {
+    fn pick_load(&mut self, book: &Book, q: u32) -> Option<u32>
+        requires { HasActive book.now q }
+        ensures picks { (s : Setting) (h : History) → Stands book.now s h
+            → PicksLoad names.Elevator (self.old.next ∷ []) s h q result }
+        ensures first { (s : Setting) (h : History) → Stands book.now s h
+            → IfSome result (IsFirstBest is_below (is_target s h q) (dist_from s self.old.next)) }
+        ensures cursor { (s : Setting) (h : History) → Stands book.now s h → self.new.next ∷ []
+            ≡ cursor_after_load names.Elevator s (self.old.next ∷ []) q result }
+    {
         let Some(c) = first_to_load(book, q, self.next) else {
             return None;
         };
@@ -84,12 +102,27 @@ impl Policy for Elevator {
         Some(c)
     }
 
-    fn pick_delivery(&mut self, book: &Book, q: u32) -> Option<u32> {
+    fn pick_delivery(&mut self, book: &Book, q: u32) -> Option<u32>
+        requires { HasActive book.now q }
+        ensures picks { (s : Setting) (h : History) → Stands book.now s h
+            → PicksDelivery names.Elevator (self.old.next ∷ []) s h q result }
+        ensures first { (s : Setting) (h : History) → Stands book.now s h
+            → IfSome result (IsFirstBest is_below (is_ready s h q) (dist_from s self.old.next)) }
+        ensures cursor { self.new.next ∷ []
+            ≡ cursor_after_delivery names.Elevator (self.old.next ∷ []) q result }
+    {
         first_to_deliver(book, q, self.next)
     }
 
     #[tactic(auto, using(relevance::proofs::Choosing::best_below_more))]
-    fn pick_victim(&mut self, book: &Book) -> Option<u32> {
+    fn pick_victim(&mut self, book: &Book) -> Option<u32>
+        requires { HasNoneBegun book.now }
+        ensures picks { (s : Setting) (h : History) → Stands book.now s h
+            → PicksVictim names.Elevator (self.old.next ∷ []) s h result }
+        ensures first { (s : Setting) (h : History) → Stands book.now s h
+            → IfSome result (IsFirstBest is_below (is_least_close s h) (dist_from s self.old.next)) }
+        ensures cursor { self.new.next ∷ [] ≡ self.old.next ∷ [] }
+    {
         let mut best = None;
         let chunks = book.chunks();
         for c in 0..chunks {

@@ -1,14 +1,17 @@
 -- The picks by starts, waiting and fitness are choices of normal and of attach.
-use Rattle.std.proofs.Common.{◌≡◌, ◌<◌, ◌+◌, ◌-◌, ◌%◌, ℕ, List, Option, None, Some, ◌∙◌, ap, subst, arith}
+use Rattle.std.proofs.Common.{◌≡◌, ◌<◌, ◌≤◌, ◌+◌, ◌-◌, ◌%◌, ℕ, Bool, false, List, Option, None, Some, IfSome, nat_lt, ◌∙◌, ap, subst, arith}
+use Rattle.std.proofs.lemmas.Bool.Decides.{nat_tests}
 use Rattle.std.proofs.Math.Nat.{add-mod_right, mod-eq_of_lt, zero-mod}
 use Rattle.scan_story.specs.declared.setting.PolicyName.TheVariants.{Normal, Attach}
 use Rattle.scan_story.specs.declared.setting.Setting.{Setting}
 use Rattle.scan_story.specs.Views.{History}
 use Rattle.scan_story.specs.Numbers.{waiting, interested}
 use Rattle.scan_story.specs.MayFollow.{is_target, is_ready, is_trigger}
-use Rattle.scan_story.specs.Policies.{dist_from, start_of, place_in}
+use Rattle.scan_story.specs.Policies.{IsLeast, dist_from, start_of, place_in}
 use Rattle.chunk_interest.proofs.Kept.{target_inside}
 use Rattle.interest_book.proofs.Inside.{ready_inside}
+use Rattle.relevance.specs.Best.{IsFirstBest}
+use Rattle.relevance.specs.Rated.{is_below}
 use Rattle.relevance.specs.Picks.{PicksQuery, PicksLoad, PicksDelivery, PicksVictim}
 use Rattle.relevance.specs.Least.{PicksLeast, PicksGreatest}
 use Rattle.relevance.specs.Victims.{PicksFittest}
@@ -56,6 +59,25 @@ normal_delivery s h cursor q (Some c) picked = record {
   candidate = picked.candidate;
   best = λ y so. let a = from_zero s c (ready_inside s h q c picked.candidate) in let b = from_zero s y (ready_inside s h q y so) in let le = picked.best y so in omega (arith, a, b, le);
 }
+
+-- the least of those that pass is the first best by its number
+least_first : (test : ℕ → Bool) (c : ℕ) → IsLeast test (λ x. x) c → IsFirstBest is_below test (λ x. x) c
+least_first test c picked = record {
+  candidate = picked.candidate;
+  best = λ y so. not_less y c (picked.best y so);
+  first = λ y lt so. absurd (let le = picked.best y so in omega (arith, lt, le));
+}
+  where
+    not_less : (a b : ℕ) → b ≤ a → nat_lt a b ≡ false
+    not_less a b le = grind (arith, nat_tests)
+
+pub normal_load_first : (s : Setting) (h : History) (cursor : List ℕ) (q : ℕ) (r : Option ℕ) → PicksLoad Normal cursor s h q r → IfSome r (IsFirstBest is_below (is_target s h q) (λ x. x))
+normal_load_first s h cursor q None picked = tt
+normal_load_first s h cursor q (Some c) picked = least_first (is_target s h q) c picked
+
+pub normal_delivery_first : (s : Setting) (h : History) (cursor : List ℕ) (q : ℕ) (r : Option ℕ) → PicksDelivery Normal cursor s h q r → IfSome r (IsFirstBest is_below (is_ready s h q) (λ x. x))
+normal_delivery_first s h cursor q None picked = tt
+normal_delivery_first s h cursor q (Some c) picked = least_first (is_ready s h q) c picked
 
 pub normal_victim : (s : Setting) (h : History) (cursor : List ℕ) (r : Option ℕ) → PicksFittest s h (place_in cursor) r → PicksVictim Normal cursor s h r
 normal_victim s h cursor None picked = picked

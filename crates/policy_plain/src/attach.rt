@@ -56,7 +56,17 @@ impl Attach {
 }
 
 impl Policy for Attach {
+    ghost use Rattle.std.specs.Prelude.{◌≡◌, IfSome};
     ghost use Rattle.scan_story.specs.declared.setting.PolicyName.TheVariants as names;
+    ghost use Rattle.scan_story.specs.declared.setting.Setting.{Setting};
+    ghost use Rattle.scan_story.specs.Views.{History};
+    ghost use Rattle.scan_story.specs.Numbers.{waiting, interested};
+    ghost use Rattle.scan_story.specs.MayFollow.{is_trigger, is_target, is_ready};
+    ghost use Rattle.scan_story.specs.Policies.{dist_from, is_least_close, start_of};
+    ghost use Rattle.interest_book.specs.Stands.{Stands};
+    ghost use Rattle.relevance.specs.Best.{IsFirstBest};
+    ghost use Rattle.relevance.specs.Picks.{PicksQuery, PicksLoad, PicksDelivery, PicksVictim, cursor_after_load, cursor_after_delivery, HasActive, HasNoneBegun};
+    ghost use Rattle.relevance.specs.Rated.{is_above, is_below};
     ghost use Rattle.policy_plain.specs.Starts.{cursor_of};
 
     ghost name = { λ _. names.Attach };
@@ -67,11 +77,25 @@ impl Policy for Attach {
         PolicyName::Attach
     }
 
-    fn pick_query(&mut self, book: &Book) -> Option<u32> {
+    fn pick_query(&mut self, book: &Book) -> Option<u32>
+        ensures picks { (s : Setting) (h : History) → Stands book.now s h
+            → PicksQuery names.Attach (cursor_of self.old.last self.old.starts) s h result }
+        ensures first { (s : Setting) (h : History) → Stands book.now s h
+            → IfSome result (IsFirstBest is_above (is_trigger s h) (waiting s h)) }
+        ensures cursor { cursor_of self.new.last self.new.starts ≡ cursor_of self.old.last self.old.starts }
+    {
         longest_waiting(book)
     }
 
-    fn pick_load(&mut self, book: &Book, q: u32) -> Option<u32> {
+    fn pick_load(&mut self, book: &Book, q: u32) -> Option<u32>
+        requires { HasActive book.now q }
+        ensures picks { (s : Setting) (h : History) → Stands book.now s h
+            → PicksLoad names.Attach (cursor_of self.old.last self.old.starts) s h q result }
+        ensures first { (s : Setting) (h : History) → Stands book.now s h → IfSome result
+            (IsFirstBest is_below (is_target s h q) (dist_from s (start_of (cursor_of self.old.last self.old.starts) q))) }
+        ensures cursor { (s : Setting) (h : History) → Stands book.now s h → cursor_of self.new.last self.new.starts
+            ≡ cursor_after_load names.Attach s (cursor_of self.old.last self.old.starts) q result }
+    {
         let Some(c) = first_to_load(book, q, self.start_of(q)) else {
             return None;
         };
@@ -79,7 +103,15 @@ impl Policy for Attach {
         Some(c)
     }
 
-    fn pick_delivery(&mut self, book: &Book, q: u32) -> Option<u32> {
+    fn pick_delivery(&mut self, book: &Book, q: u32) -> Option<u32>
+        requires { HasActive book.now q }
+        ensures picks { (s : Setting) (h : History) → Stands book.now s h
+            → PicksDelivery names.Attach (cursor_of self.old.last self.old.starts) s h q result }
+        ensures first { (s : Setting) (h : History) → Stands book.now s h → IfSome result
+            (IsFirstBest is_below (is_ready s h q) (dist_from s (start_of (cursor_of self.old.last self.old.starts) q))) }
+        ensures cursor { cursor_of self.new.last self.new.starts
+            ≡ cursor_after_delivery names.Attach (cursor_of self.old.last self.old.starts) q result }
+    {
         let Some(c) = first_to_deliver(book, q, self.start_of(q)) else {
             return None;
         };
@@ -89,7 +121,14 @@ impl Policy for Attach {
     }
 
     #[tactic(auto, using(relevance::proofs::Choosing::best_below_more))]
-    fn pick_victim(&mut self, book: &Book) -> Option<u32> {
+    fn pick_victim(&mut self, book: &Book) -> Option<u32>
+        requires { HasNoneBegun book.now }
+        ensures picks { (s : Setting) (h : History) → Stands book.now s h
+            → PicksVictim names.Attach (cursor_of self.old.last self.old.starts) s h result }
+        ensures first { (s : Setting) (h : History) → Stands book.now s h
+            → IfSome result (IsFirstBest is_below (is_least_close s h) (interested s h)) }
+        ensures cursor { cursor_of self.new.last self.new.starts ≡ cursor_of self.old.last self.old.starts }
+    {
         let mut best = None;
         for c in 0..book.chunks() {
             if book.is_victim(c) {

@@ -55,7 +55,17 @@ impl Normal {
 }
 
 impl Policy for Normal {
+    ghost use Rattle.std.specs.Prelude.{◌≡◌, IfSome};
     ghost use Rattle.scan_story.specs.declared.setting.PolicyName.TheVariants as names;
+    ghost use Rattle.scan_story.specs.declared.setting.Setting.{Setting};
+    ghost use Rattle.scan_story.specs.Views.{History};
+    ghost use Rattle.scan_story.specs.Numbers.{waiting};
+    ghost use Rattle.scan_story.specs.MayFollow.{is_trigger, is_target, is_ready};
+    ghost use Rattle.scan_story.specs.Policies.{is_least_close, place_in};
+    ghost use Rattle.interest_book.specs.Stands.{Stands};
+    ghost use Rattle.relevance.specs.Best.{IsFirstBest};
+    ghost use Rattle.relevance.specs.Picks.{PicksQuery, PicksLoad, PicksDelivery, PicksVictim, cursor_after_load, cursor_after_delivery, HasActive, HasNoneBegun};
+    ghost use Rattle.relevance.specs.Rated.{is_above, is_below};
 
     ghost name = { λ _. names.Normal };
 
@@ -65,11 +75,25 @@ impl Policy for Normal {
         PolicyName::Normal
     }
 
-    fn pick_query(&mut self, book: &Book) -> Option<u32> {
+    fn pick_query(&mut self, book: &Book) -> Option<u32>
+        ensures picks { (s : Setting) (h : History) → Stands book.now s h
+            → PicksQuery names.Normal self.old.used.items s h result }
+        ensures first { (s : Setting) (h : History) → Stands book.now s h
+            → IfSome result (IsFirstBest is_above (is_trigger s h) (waiting s h)) }
+        ensures cursor { self.new.used.items ≡ self.old.used.items }
+    {
         longest_waiting(book)
     }
 
-    fn pick_load(&mut self, book: &Book, q: u32) -> Option<u32> {
+    fn pick_load(&mut self, book: &Book, q: u32) -> Option<u32>
+        requires { HasActive book.now q }
+        ensures picks { (s : Setting) (h : History) → Stands book.now s h
+            → PicksLoad names.Normal self.old.used.items s h q result }
+        ensures first { (s : Setting) (h : History) → Stands book.now s h
+            → IfSome result (IsFirstBest is_below (is_target s h q) (λ c. c)) }
+        ensures cursor { (s : Setting) (h : History) → Stands book.now s h → self.new.used.items
+            ≡ cursor_after_load names.Normal s self.old.used.items q result }
+    {
         let Some(c) = first_to_load(book, q, 0) else {
             return None;
         };
@@ -77,7 +101,14 @@ impl Policy for Normal {
         Some(c)
     }
 
-    fn pick_delivery(&mut self, book: &Book, q: u32) -> Option<u32> {
+    fn pick_delivery(&mut self, book: &Book, q: u32) -> Option<u32>
+        requires { HasActive book.now q }
+        ensures picks { (s : Setting) (h : History) → Stands book.now s h
+            → PicksDelivery names.Normal self.old.used.items s h q result }
+        ensures first { (s : Setting) (h : History) → Stands book.now s h
+            → IfSome result (IsFirstBest is_below (is_ready s h q) (λ c. c)) }
+        ensures cursor { self.new.used.items ≡ cursor_after_delivery names.Normal self.old.used.items q result }
+    {
         let Some(c) = first_to_deliver(book, q, 0) else {
             return None;
         };
@@ -86,7 +117,14 @@ impl Policy for Normal {
     }
 
     #[tactic(auto, using(relevance::proofs::Choosing::best_below_more))]
-    fn pick_victim(&mut self, book: &Book) -> Option<u32> {
+    fn pick_victim(&mut self, book: &Book) -> Option<u32>
+        requires { HasNoneBegun book.now }
+        ensures picks { (s : Setting) (h : History) → Stands book.now s h
+            → PicksVictim names.Normal self.old.used.items s h result }
+        ensures first { (s : Setting) (h : History) → Stands book.now s h
+            → IfSome result (IsFirstBest is_below (is_least_close s h) (place_in self.old.used.items)) }
+        ensures cursor { self.new.used.items ≡ self.old.used.items }
+    {
         let places = places_in(&self.used);
         let mut best = None;
         for c in 0..book.chunks() {

@@ -1,5 +1,5 @@
 -- The best of the numbers below a bound is a best one.
-use Rattle.std.proofs.Common.{◌≡◌, ◌<◌, ◌≤◌, ◌+◌, ◌*◌, ◌≤ℤ◌, ℕ, zero, suc, ℤ, Bool, true, false, if◌then◌else◌, Option, None, Some, nat_lt, int_lt, add-one, refl, sym, ◌∙◌, ap, subst, arith, inl, inr}
+use Rattle.std.proofs.Common.{◌≡◌, ◌<◌, ◌≤◌, ◌+◌, ◌*◌, ◌≤ℤ◌, ℕ, zero, suc, ℤ, Bool, true, false, if◌then◌else◌, Option, None, Some, IfSome, nat_lt, int_lt, add-one, refl, sym, ◌∙◌, ap, subst, arith, inl, inr}
 use Rattle.std.proofs.lemmas.Bool.{cases_Bool, cases_eq, cases_lt}
 use Rattle.std.proofs.lemmas.Bool.Decides.{nat_tests}
 use Rattle.std.proofs.lemmas.Int.{ints}
@@ -92,6 +92,27 @@ first_best number key beats AtMost test rank order n bound b found = record {
   ];
   first = found.3;
 }
+
+-- how a best is kept: with its number, which `numbers` gives, and its rank
+pub record IsKept {B K : Type 0} (made : ℕ → K → B) (number : B → ℕ) (numbers : Option B → Option ℕ) (key : B → K) : Type 0 where
+  pub numbered : (x : ℕ) (k : K) → number (made x k) ≡ x
+  pub keyed : (x : ℕ) (k : K) → key (made x k) ≡ k
+  pub none : numbers None ≡ None
+  pub some : (b : B) → numbers (Some b) ≡ Some (number b)
+
+-- the number of the best of all that pass is the first best one
+pub first_of : {B K : Type 0} (made : ℕ → K → B) (number : B → ℕ) (numbers : Option B → Option ℕ) (key : B → K) → IsKept made number numbers key
+    → (beats : K → K → Bool) (AtMost : K → K → Type 0) (test : ℕ → Bool) (rank : ℕ → K) → IsOrder beats AtMost test rank
+    → (n : ℕ) → ((y : ℕ) → test y ≡ true → y < n) → (best : Option B) (r : Option ℕ) → best ≡ best_below made key beats test rank n → r ≡ numbers best → IfSome r (IsFirstBest beats test rank)
+first_of {B} made number numbers key kept beats AtMost test rank order n bound best r is e =
+    subst First (sym (e ∙ ap numbers is)) (from (best_below made key beats test rank n) (best_is made number key kept.numbered kept.keyed beats AtMost test rank order n))
+  where
+    First : Option ℕ → Type 0
+    First o = IfSome o (IsFirstBest beats test rank)
+
+    from : (o : Option B) → IsBestBelow number key beats AtMost test rank n o → First (numbers o)
+    from None found = subst First (sym kept.none) tt
+    from (Some b) found = subst First (sym (kept.some b)) (first_best number key beats AtMost test rank order n bound b found)
 
 -- Ratios
 

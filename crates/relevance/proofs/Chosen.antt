@@ -27,7 +27,7 @@ use Rattle.relevance.specs.declared.best.BestChunk.{BestChunk}
 use Rattle.relevance.specs.declared.best.BestQuery.{BestQuery}
 use Rattle.relevance.specs.Best.{best_below, chunk_with, ratio_of, query_with, rank_of, greatest_below, least_below, highest_below, is_greater, is_less, is_higher, chunk_in, query_in, IsFirstBest}
 use Rattle.relevance.specs.Picks.{PicksQuery, PicksLoad, PicksDelivery, PicksVictim, HasActive}
-use Rattle.relevance.proofs.Choosing.{IsOrder, IsBestBelow, best_is, first_best, greater_order, less_order, rank_order}
+use Rattle.relevance.proofs.Choosing.{IsOrder, IsBestBelow, best_is, first_of, greater_order, less_order, rank_order}
 
 -- Candidates are within their bounds
 
@@ -174,22 +174,14 @@ picks_victim s h cursor n best r all is e =
 
 pub first_query : (s : Setting) (h : History) (best : Option BestQuery) (r : Option ℕ) → IsSetting s → best ≡ highest_below (is_trigger s h) (query_rank s h) 257 → r ≡ query_in best → IfSome r (IsFirstBest is_higher (is_trigger s h) (query_rank s h))
 first_query s h best r ok is e =
-    subst (λ (o : Option ℕ). IfSome o (IsFirstBest is_higher (is_trigger s h) (query_rank s h))) (sym (e ∙ ap query_in is))
-    (from (highest_below (is_trigger s h) (query_rank s h) 257) (best_is query_with (λ b. b.query) rank_of (λ x k. refl) (λ x k. refl) is_higher (λ a b. a ≤ℤ b) (is_trigger s h) (query_rank s h) (rank_order (is_trigger s h) (query_rank s h)) 257))
-  where
-    from : (o : Option BestQuery) → IsBestBelow (λ b. b.query) rank_of is_higher (λ a b. a ≤ℤ b) (is_trigger s h) (query_rank s h) 257 o → IfSome (query_in o) (IsFirstBest is_higher (is_trigger s h) (query_rank s h))
-    from None none = tt
-    from (Some b) found = first_best (λ b. b.query) rank_of is_higher (λ a b. a ≤ℤ b) (is_trigger s h) (query_rank s h) (rank_order (is_trigger s h) (query_rank s h)) 257 (λ y t. trigger_inside s h y ok t) b found
+    first_of query_with (λ b. b.query) query_in rank_of (record { numbered = λ x k. refl; keyed = λ x k. refl; none = refl; some = λ b. refl })
+    is_higher (λ a b. a ≤ℤ b) (is_trigger s h) (query_rank s h) (rank_order (is_trigger s h) (query_rank s h)) 257 (λ y t. trigger_inside s h y ok t) best r is e
 
 first_chunk : (beats : Ratio → Ratio → Bool) (AtMost : Ratio → Ratio → Type 0) (test : ℕ → Bool) (ratio : ℕ → Ratio) (n m : ℕ) (best : Option BestChunk) (r : Option ℕ) → IsOrder beats AtMost test ratio → ((y : ℕ) → test y ≡ true → y < n)
     → m ≡ n → best ≡ best_below chunk_with ratio_of beats test ratio m → r ≡ chunk_in best → IfSome r (IsFirstBest beats test ratio)
 first_chunk beats AtMost test ratio n m best r order bound all is e =
-    subst (λ (o : Option ℕ). IfSome o (IsFirstBest beats test ratio)) (sym (e ∙ (ap chunk_in is ∙ ap (λ (k : ℕ). chunk_in (best_below chunk_with ratio_of beats test ratio k)) all)))
-    (from (best_below chunk_with ratio_of beats test ratio n) (best_is chunk_with (λ b. b.chunk) ratio_of (λ x k. refl) (λ x k. refl) beats AtMost test ratio order n))
-  where
-    from : (o : Option BestChunk) → IsBestBelow (λ b. b.chunk) ratio_of beats AtMost test ratio n o → IfSome (chunk_in o) (IsFirstBest beats test ratio)
-    from None none = tt
-    from (Some b) found = first_best (λ b. b.chunk) ratio_of beats AtMost test ratio order n bound b found
+    first_of chunk_with (λ b. b.chunk) chunk_in ratio_of (record { numbered = λ x k. refl; keyed = λ x k. refl; none = refl; some = λ b. refl })
+    beats AtMost test ratio order n bound best r (is ∙ ap (λ (k : ℕ). best_below chunk_with ratio_of beats test ratio k) all) e
 
 pub first_load : (s : Setting) (h : History) (q : ℕ) (n : ℕ) (best : Option BestChunk) (r : Option ℕ) → n ≡ s.chunks → best ≡ greatest_below (is_target s h q) (load_ratio s h q) n → r ≡ chunk_in best
     → IfSome r (IsFirstBest is_greater (is_target s h q) (load_ratio s h q))

@@ -1,5 +1,5 @@
 -- The best by whole numbers, and the fittest victim.
-use Rattle.std.proofs.Common.{◌≡◌, ◌≤◌, ◌<◌, ◌==◌, ◌&&◌, ◌||◌, not, ◌⊎◌, ℕ, Bool, true, false, Option, None, Some, is_none, is_some, nat_lt, refl, sym, ◌∙◌, ap, subst, arith, inl, inr}
+use Rattle.std.proofs.Common.{◌≡◌, ◌≤◌, ◌<◌, ◌==◌, ◌&&◌, ◌||◌, not, ◌⊎◌, ℕ, Bool, true, false, Option, None, Some, IfSome, is_none, is_some, nat_lt, refl, sym, ◌∙◌, ap, subst, arith, inl, inr}
 use Rattle.std.proofs.lemmas.Bool.{cases_Bool}
 use Rattle.std.proofs.lemmas.Bool.Decides.{nat_tests}
 use Rattle.scan_story.specs.declared.setting.Setting.{Setting}
@@ -13,7 +13,8 @@ use Rattle.scan_story.specs.Policies.{IsLeast, is_least_close}
 use Rattle.chunk_interest.proofs.Below.{true_false, none_at, none_from}
 use Rattle.chunk_interest.proofs.Kept.{and_first, victim_inside}
 use Rattle.chunk_interest.proofs.Needs.{need_small}
-use Rattle.relevance.proofs.Choosing.{IsOrder, IsBestBelow, best_is}
+use Rattle.relevance.specs.Best.{IsFirstBest}
+use Rattle.relevance.proofs.Choosing.{IsOrder, IsBestBelow, best_is, first_of}
 use Rattle.relevance.specs.declared.rated.Rated.{Rated}
 use Rattle.relevance.specs.Rated.{rated, by_of, is_below, is_above, lowest_below, highest_below, number_in}
 use Rattle.relevance.specs.declared.victim.Victim.{Victim}
@@ -91,6 +92,18 @@ highest_is test f n best r bound is e =
     from None none = none_of test n bound none
     from (Some b) found = record { candidate = found.0; best = λ y t. found.2 y (bound y t) t }
 
+-- the least of those that have it least, and the least of those that have it most
+
+pub lowest_first : (test : ℕ → Bool) (f : ℕ → ℕ) (n : ℕ) (best : Option Rated) (r : Option ℕ) → ((y : ℕ) → test y ≡ true → y < n) → best ≡ lowest_below test f n → r ≡ number_in best → IfSome r (IsFirstBest is_below test f)
+lowest_first test f n best r bound is e =
+    first_of rated (λ b. b.number) number_in by_of (record { numbered = λ x k. refl; keyed = λ x k. refl; none = refl; some = λ b. refl })
+    is_below (λ a b. b ≤ a) test f (below_order test f) n bound best r is e
+
+pub highest_first : (test : ℕ → Bool) (f : ℕ → ℕ) (n : ℕ) (best : Option Rated) (r : Option ℕ) → ((y : ℕ) → test y ≡ true → y < n) → best ≡ highest_below test f n → r ≡ number_in best → IfSome r (IsFirstBest is_above test f)
+highest_first test f n best r bound is e =
+    first_of rated (λ b. b.number) number_in by_of (record { numbered = λ x k. refl; keyed = λ x k. refl; none = refl; some = λ b. refl })
+    is_above (λ a b. a ≤ b) test f (above_order test f) n bound best r is e
+
 pub trigger_inside : (s : Setting) (h : History) (q : ℕ) → IsSetting s → is_trigger s h q ≡ true → q < 257
 trigger_inside s h q ok e =
     let most = (need_small s q ok (front (is_some (need_of s q)) (is_none (underway s h)) (is_starved s h q) (any_below (is_target s h q) s.chunks) e)).1 in
@@ -134,13 +147,28 @@ fit_order test fitness = record {
     on a b c (inr x) (inl y) = inl (let e = x.0 in omega (arith, e, y))
     on a b c (inr x) (inr y) = inr (y.0 ∙ x.0, let k = x.1 in let l = y.1 in omega (arith, k, l))
 
+-- no victim is closer than one of least close
+no_closer : (s : Setting) (h : History) (x y : ℕ) → is_victim s h x ≡ true → is_least_close s h y ≡ true → close s h y ≤ close s h x
+no_closer s h x y so t = not_closer (is_victim s h x) (close s h x) (close s h y) so (none_at closer s.chunks x (second (is_victim s h y) (any_below closer s.chunks) t) (victim_inside s h x so))
+  where
+    closer : ℕ → Bool
+    closer z = is_victim s h z && nat_lt (close s h z) (close s h y)
+
+    second : (a b : Bool) → (a && not b) ≡ true → b ≡ false
+    second true false e = refl
+    second true true e = absurd (true_false false e refl)
+    second false b e = absurd (true_false false e refl)
+
+    not_closer : (v : Bool) (m n : ℕ) → v ≡ true → (v && nat_lt m n) ≡ false → n ≤ m
+    not_closer true m n so e = grind (arith, nat_tests)
+    not_closer false m n so e = absurd (true_false false so refl)
+
 -- the fittest is one of least close, and of those of least key
 least_close : (s : Setting) (h : History) (key : ℕ → ℕ) (x : ℕ) → is_victim s h x ≡ true
     → ((y : ℕ) → is_victim s h y ≡ true → (close s h x < close s h y) ⊎ ((close s h x ≡ close s h y) × (key x ≤ key y))) → IsLeast (is_least_close s h) key x
 least_close s h key x so fit = record {
   candidate = both (is_victim s h x) (any_below (closer x) s.chunks) so (none_from (closer x) s.chunks (λ y lt. beaten (is_victim s h y) (close s h y) (close s h x) (λ t. at_least (close s h x) (close s h y) (key x) (key y) (fit y t))));
-  best = λ y t. let v = and_first (is_victim s h y) (not (any_below (closer y) s.chunks)) t in
-      in_keys (close s h x) (close s h y) (key x) (key y) (not_closer (is_victim s h x) (close s h x) (close s h y) so (none_at (closer y) s.chunks x (second (is_victim s h y) (any_below (closer y) s.chunks) t) (victim_inside s h x so))) (fit y v);
+  best = λ y t. in_keys (close s h x) (close s h y) (key x) (key y) (no_closer s h x y so t) (fit y (and_first (is_victim s h y) (not (any_below (closer y) s.chunks)) t));
 }
   where
     closer : ℕ → ℕ → Bool
@@ -148,11 +176,6 @@ least_close s h key x so fit = record {
 
     both : (a b : Bool) → a ≡ true → b ≡ false → (a && not b) ≡ true
     both a b x y = rw (x, y) refl
-
-    second : (a b : Bool) → (a && not b) ≡ true → b ≡ false
-    second true false e = refl
-    second true true e = absurd (true_false false e refl)
-    second false b e = absurd (true_false false e refl)
 
     beaten : (v : Bool) (m n : ℕ) → (v ≡ true → n ≤ m) → (v && nat_lt m n) ≡ false
     beaten false m n f = refl
@@ -162,25 +185,57 @@ least_close s h key x so fit = record {
     at_least m n k l (inl lt) = omega (arith, lt)
     at_least m n k l (inr e) = let same = e.0 in omega (arith, same)
 
-    not_closer : (v : Bool) (m n : ℕ) → v ≡ true → (v && nat_lt m n) ≡ false → n ≤ m
-    not_closer true m n so e = grind (arith, nat_tests)
-    not_closer false m n so e = absurd (true_false false so refl)
-
     in_keys : (m n k l : ℕ) → n ≤ m → (m < n) ⊎ ((m ≡ n) × (k ≤ l)) → k ≤ l
     in_keys m n k l le (inl lt) = absurd (omega (arith, le, lt))
     in_keys m n k l le (inr e) = e.1
 
-pub fittest_is : (s : Setting) (h : History) (fitness : ℕ → Fitness) (key : ℕ → ℕ) (n : ℕ) (best : Option Victim) (r : Option ℕ) → n ≡ s.chunks
-    → ((c : ℕ) → (fitness c).close ≡ close s h c) → ((c : ℕ) → c < s.chunks → (fitness c).key ≡ key c)
-    → best ≡ fittest_below (is_victim s h) fitness n → r ≡ chunk_in best → PicksFittest s h key r
-fittest_is s h fitness key n best r all closeness keys is e =
-    subst (PicksFittest s h key) (sym (e ∙ (ap chunk_in is ∙ ap (λ (k : ℕ). chunk_in (fittest_below (is_victim s h) fitness k)) all)))
-    (from (fittest_below (is_victim s h) fitness s.chunks) (best_is victim (λ b. b.chunk) fitness_of (λ x k. refl) (λ x k. refl) is_fitter IsAsFit (is_victim s h) fitness (fit_order (is_victim s h) fitness) s.chunks))
-  where
-    by_key : (x y : ℕ) → x < s.chunks → y < s.chunks → IsAsFit (fitness y) (fitness x) → (close s h x < close s h y) ⊎ ((close s h x ≡ close s h y) × (key x ≤ key y))
-    by_key x y xs ys (inl lt) = inl (let a = closeness x in let b = closeness y in omega (arith, lt, a, b))
-    by_key x y xs ys (inr f) = inr (sym (closeness x) ∙ (f.0 ∙ closeness y), let k = f.1 in let a = keys x xs in let b = keys y ys in omega (arith, k, a, b))
+-- what is compared: how close the chunk is, and the key
+pub record IsFitness (s : Setting) (h : History) (key : ℕ → ℕ) (fitness : ℕ → Fitness) : Type 0 where
+  pub closeness : (c : ℕ) → (fitness c).close ≡ close s h c
+  pub keys : (c : ℕ) → c < s.chunks → (fitness c).key ≡ key c
 
-    from : (o : Option Victim) → IsBestBelow (λ b. b.chunk) fitness_of is_fitter IsAsFit (is_victim s h) fitness s.chunks o → PicksFittest s h key (chunk_in o)
-    from None none = none_of (is_victim s h) s.chunks (λ z t. victim_inside s h z t) none
-    from (Some b) found = least_close s h key b.chunk found.0 (λ y t. by_key b.chunk y (victim_inside s h b.chunk found.0) (victim_inside s h y t) (found.2 y (victim_inside s h y t) t))
+-- the first of the fittest is the first of those of least key among the victims of least close
+first_fittest : (s : Setting) (h : History) (fitness : ℕ → Fitness) (key : ℕ → ℕ) (x : ℕ) → IsFitness s h key fitness → IsFirstBest is_fitter (is_victim s h) fitness x → IsFirstBest is_below (is_least_close s h) key x
+first_fittest s h fitness key x is found = record {
+  candidate = least.candidate;
+  best = λ y t. not_less (key y) (key x) (least.best y t);
+  first = λ y lt t. (let v = victim_of y t in let at_x = is.closeness x in let at_y = is.closeness y in let le = no_closer s h x y found.candidate t in
+      less_key (fitness x).close (fitness x).key (fitness y).close (fitness y).key (key x) (key y) (is.keys x (victim_inside s h x found.candidate)) (is.keys y (victim_inside s h y v)) (omega (arith, at_x, at_y, le)) (found.first y lt v));
+}
+  where
+    victim_of : (y : ℕ) → is_least_close s h y ≡ true → is_victim s h y ≡ true
+    victim_of y t = and_first (is_victim s h y) (not (any_below (λ z. is_victim s h z && nat_lt (close s h z) (close s h y)) s.chunks)) t
+
+    by_key : (y : ℕ) → is_victim s h y ≡ true → IsAsFit (fitness y) (fitness x) → (close s h x < close s h y) ⊎ ((close s h x ≡ close s h y) × (key x ≤ key y))
+    by_key y v (inl lt) = inl (let a = is.closeness x in let b = is.closeness y in omega (arith, lt, a, b))
+    by_key y v (inr f) = inr (sym (is.closeness x) ∙ (f.0 ∙ is.closeness y), let k = f.1 in let a = is.keys x (victim_inside s h x found.candidate) in let b = is.keys y (victim_inside s h y v) in omega (arith, k, a, b))
+
+    least : IsLeast (is_least_close s h) key x
+    least = least_close s h key x found.candidate (λ y v. by_key y v ((fit_order (is_victim s h) fitness).loses (fitness y) (fitness x) (found.best y v)))
+
+    not_less : (a b : ℕ) → b ≤ a → nat_lt a b ≡ false
+    not_less a b le = grind (arith, nat_tests)
+
+    less_key : (c k d l a b : ℕ) → k ≡ a → l ≡ b → d ≤ c → (nat_lt c d || (c == d && nat_lt k l)) ≡ true → nat_lt a b ≡ true
+    less_key c k d l a b x y le e = grind (arith, nat_tests)
+
+pub fittest_first : (s : Setting) (h : History) (fitness : ℕ → Fitness) (key : ℕ → ℕ) (n : ℕ) (best : Option Victim) (r : Option ℕ) → n ≡ s.chunks → IsFitness s h key fitness
+    → best ≡ fittest_below (is_victim s h) fitness n → r ≡ chunk_in best → IfSome r (IsFirstBest is_below (is_least_close s h) key)
+fittest_first s h fitness key n best r all is at e =
+    on_some r (first_of victim (λ b. b.chunk) chunk_in fitness_of (record { numbered = λ x k. refl; keyed = λ x k. refl; none = refl; some = λ b. refl }) is_fitter IsAsFit (is_victim s h) fitness (fit_order (is_victim s h) fitness)
+    s.chunks (λ y t. victim_inside s h y t) best r (at ∙ ap (λ (k : ℕ). fittest_below (is_victim s h) fitness k) all) e)
+  where
+    on_some : (o : Option ℕ) → IfSome o (IsFirstBest is_fitter (is_victim s h) fitness) → IfSome o (IsFirstBest is_below (is_least_close s h) key)
+    on_some None found = tt
+    on_some (Some c) found = first_fittest s h fitness key c is found
+
+pub fittest_is : (s : Setting) (h : History) (fitness : ℕ → Fitness) (key : ℕ → ℕ) (n : ℕ) (best : Option Victim) (r : Option ℕ) → n ≡ s.chunks → IsFitness s h key fitness
+    → best ≡ fittest_below (is_victim s h) fitness n → r ≡ chunk_in best → PicksFittest s h key r
+fittest_is s h fitness key n best r all is at e =
+    subst (PicksFittest s h key) (sym (e ∙ (ap chunk_in at ∙ ap (λ (k : ℕ). chunk_in (fittest_below (is_victim s h) fitness k)) all)))
+    (from (fittest_below (is_victim s h) fitness s.chunks) (fittest_first s h fitness key s.chunks (fittest_below (is_victim s h) fitness s.chunks) (chunk_in (fittest_below (is_victim s h) fitness s.chunks)) refl is refl refl)
+    (best_is victim (λ b. b.chunk) fitness_of (λ x k. refl) (λ x k. refl) is_fitter IsAsFit (is_victim s h) fitness (fit_order (is_victim s h) fitness) s.chunks))
+  where
+    from : (o : Option Victim) → IfSome (chunk_in o) (IsFirstBest is_below (is_least_close s h) key) → IsBestBelow (λ b. b.chunk) fitness_of is_fitter IsAsFit (is_victim s h) fitness s.chunks o → PicksFittest s h key (chunk_in o)
+    from None first none = none_of (is_victim s h) s.chunks (λ z t. victim_inside s h z t) none
+    from (Some b) first found = record { candidate = first.candidate; best = λ y t. (below_order (is_least_close s h) key).loses (key y) (key b.chunk) (first.best y t) }

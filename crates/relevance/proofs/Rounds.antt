@@ -1,5 +1,5 @@
 -- Going up and around the chunks from a start meets each chunk once.
-use Rattle.std.proofs.Common.{◌≡◌, ◌<◌, ◌≤◌, ◌+◌, ◌-◌, ◌%◌, ◌==◌, ℕ, Bool, true, false, if◌then◌else◌, None, Some, refl, sym, ◌∙◌, ap, subst, arith, inl, inr}
+use Rattle.std.proofs.Common.{◌≡◌, ◌≢◌, ◌<◌, ◌≤◌, ◌+◌, ◌-◌, ◌%◌, ◌==◌, ℕ, Bool, true, false, if◌then◌else◌, Option, None, Some, IfSome, nat_lt, refl, sym, ◌∙◌, ap, subst, arith, inl, inr}
 use Rattle.std.proofs.lemmas.Bool.{cases_eq, cases_lt, cases_Bool}
 use Rattle.std.proofs.lemmas.Bool.Decides.{nat_tests}
 use Rattle.std.proofs.lemmas.Nat.{mod_below}
@@ -8,6 +8,8 @@ use Rattle.scan_story.specs.declared.setting.Setting.{Setting}
 use Rattle.scan_story.specs.Policies.{dist_from}
 use Rattle.chunk_interest.proofs.Below.{true_false}
 use Rattle.relevance.specs.Around.{chunk_at, far_from}
+use Rattle.relevance.specs.Best.{IsFirstBest}
+use Rattle.relevance.specs.Rated.{is_below}
 use Rattle.relevance.specs.Least.{PicksLeast}
 
 whole_round : (n b x : ℕ) → b ≤ n → x < n → (b + x + (n - b)) % n ≡ x
@@ -91,3 +93,25 @@ nearest s start test n far c all small is here none = record {
       | inl lt ↦ absurd (true_false (test y) so (none y lt))
       | inr le ↦ le
     ]
+
+-- no two chunks are equally far from the start
+pub apart : (s : Setting) (start x y : ℕ) → x < s.chunks → y < s.chunks → dist_from s start x ≡ dist_from s start y → x ≡ y
+apart s start x y small within same = sym (chunk_is s start x small) ∙ (ap (chunk_at s.chunks start) same ∙ chunk_is s start y within)
+
+-- so the nearest is the first best by how far it is
+pub nearest_first : (s : Setting) (start : ℕ) (test : ℕ → Bool) → AreChunks s test → (r : Option ℕ) → PicksLeast test (dist_from s start) r → IfSome r (IsFirstBest is_below test (dist_from s start))
+nearest_first s start test chunks None picked = tt
+nearest_first s start test chunks (Some c) picked = record {
+  candidate = picked.candidate;
+  best = λ y t. not_less (dist_from s start y) (dist_from s start c) (picked.best y t);
+  first = λ y lt t. elim (cases_eq (dist_from s start c) (dist_from s start y)) [
+    | inl same ↦ absurd (let at = apart s start c y (chunks c picked.candidate) (chunks y t) same in omega (arith, at, lt))
+    | inr other ↦ less (dist_from s start c) (dist_from s start y) (picked.best y t) other
+  ];
+}
+  where
+    not_less : (a b : ℕ) → b ≤ a → nat_lt a b ≡ false
+    not_less a b le = grind (arith, nat_tests)
+
+    less : (a b : ℕ) → a ≤ b → a ≢ b → nat_lt a b ≡ true
+    less a b le ne = grind (arith, nat_tests, ne)

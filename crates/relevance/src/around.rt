@@ -6,7 +6,9 @@ ghost use Rattle.scan_story.specs.MayFollow.{is_target, is_ready};
 ghost use Rattle.scan_story.specs.Policies.{dist_from};
 ghost use Rattle.interest_book.specs.Stands.{Stands};
 ghost use Rattle.relevance.specs.Around.{chunk_at, far_from};
+ghost use Rattle.relevance.specs.Best.{IsFirstBest};
 ghost use Rattle.relevance.specs.Least.{PicksLeast};
+ghost use Rattle.relevance.specs.Rated.{is_below};
 
 use interest_book::Book;
 
@@ -33,11 +35,13 @@ pub fn distance(chunks: u32, start: u32, c: u32) -> u32
     }
 }
 
-/// The chunk nearest to the start, going up and around, of those to be loaded for the query.
+/// The chunk nearest to the start, going up and around, of those to be loaded for the query. No two are equally near.
 pub fn first_to_load(book: &Book, q: u32, start: u32) -> Option<u32>
     requires { q ≤ 256 }
     ensures nearest { (s : Setting) (h : History) → Stands book.now s h
         → PicksLeast (is_target s h q) (dist_from s start) result }
+    ensures first { (s : Setting) (h : History) → Stands book.now s h
+        → IfSome result (IsFirstBest is_below (is_target s h q) (dist_from s start)) }
     ensures inside { IfSome result (λ c. c < 1024) }
 {
     let chunks = book.chunks();
@@ -50,11 +54,13 @@ pub fn first_to_load(book: &Book, q: u32, start: u32) -> Option<u32>
     None
 }
 
-/// The chunk nearest to the start, going up and around, of those available to the query.
+/// The chunk nearest to the start, going up and around, of those available to the query. No two are equally near.
 pub fn first_to_deliver(book: &Book, q: u32, start: u32) -> Option<u32>
     requires { q ≤ 256 }
     ensures nearest { (s : Setting) (h : History) → Stands book.now s h
         → PicksLeast (is_ready s h q) (dist_from s start) result }
+    ensures first { (s : Setting) (h : History) → Stands book.now s h
+        → IfSome result (IsFirstBest is_below (is_ready s h q) (dist_from s start)) }
     ensures inside { IfSome result (λ c. c < 1024) }
 {
     let chunks = book.chunks();

@@ -1,7 +1,7 @@
-use Rattle.std.proofs.Common.{sym, ◌∙◌}
+use Rattle.std.proofs.Common.{Some, sym, ◌∙◌}
 use Rattle.scan_story.specs.MayFollow.{is_ready}
 use Rattle.interest_book.proofs.Inside.{ready_inside}
-use Rattle.relevance.proofs.Rounds.{none_on, none_around, nearest}
+use Rattle.relevance.proofs.Rounds.{none_on, none_around, nearest, nearest_first}
 use Rattle.relevance.proofs.around.first_to_deliver.Goals as goal
 
 pub loop-far-preserved : goal.loop-far-preserved
@@ -13,6 +13,12 @@ pub returns-then-is_ready-clause-nearest : goal.returns-then-is_ready-clause-nea
 returns-then-is_ready-clause-nearest c = λ s h st.
     nearest s c.args.start (is_ready s h c.args.q) c.chunks-chunks.result c.loop-far.far c.chunk_at-c.result (c.chunks-chunks.ensures.number s h st) c.loop-far-test.true c.chunk_at-c.ensures.value
     (sym (c.is_ready.ensures s h st) ∙ c.if-is_ready.true) (c.loop-far.invariant s h st)
+
+pub returns-then-is_ready-clause-first : goal.returns-then-is_ready-clause-first
+returns-then-is_ready-clause-first c = λ s h st.
+    nearest_first s c.args.start (is_ready s h c.args.q) (ready_inside s h c.args.q) (Some c.chunk_at-c.result)
+    (nearest s c.args.start (is_ready s h c.args.q) c.chunks-chunks.result c.loop-far.far c.chunk_at-c.result (c.chunks-chunks.ensures.number s h st) c.loop-far-test.true c.chunk_at-c.ensures.value
+    (sym (c.is_ready.ensures s h st) ∙ c.if-is_ready.true) (c.loop-far.invariant s h st))
 
 pub returns-clause-nearest : goal.returns-clause-nearest
 returns-clause-nearest c = λ s h st.
