@@ -1,2 +1,3 @@
 mod Elevators
 mod Firsts
+mod Goings

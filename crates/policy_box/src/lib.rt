@@ -1,4 +1,4 @@
-//! A policy in a box, and the policy elevator.
+//! A policy in a box, and the policy elevator with the law of its loads.
 //!
 //!     policies.push(into_dyn_box(Elevator::new()))?;
 //!     let found = choose(policies, PolicyName::Elevator);    // Some(Boxed), a policy itself, or None
@@ -8,8 +8,10 @@
 
 mod boxed;
 mod elevator;
+mod loads;
 
 pub use boxed::{Boxed, choose};
 pub use elevator::Elevator;
+pub use loads::elevator_loads_go_around;
 pub use relevance::Policy;
 pub use scan_story::PolicyName;

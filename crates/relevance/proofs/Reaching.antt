@@ -31,3 +31,18 @@ least_found p f (suc n) d x lt so le all = elim (cases_eq x n) [
 pub least_none : (p : ℕ → Bool) (f : ℕ → ℕ) (n d : ℕ) → ((y : ℕ) → p y ≡ false) → least_below p f n d ≡ d
 least_none p f zero d none = refl
 least_none p f (suc n) d none = ap (λ (b : Bool). if b then min (f n) (least_below p f n d) else least_below p f n d) (none n) ∙ least_none p f n d none
+
+pub least_at_most : (p : ℕ → Bool) (f : ℕ → ℕ) (n d y : ℕ) → y < n → p y ≡ true → least_below p f n d ≤ f y
+least_at_most p f zero d y lt so = absurd (omega (arith, lt))
+least_at_most p f (suc n) d y lt so = elim (cases_eq y n) [
+  | inl at ↦ here (p n) (sym (ap p at) ∙ so) (f y) (ap f at)
+  | inr not ↦ before (p n) (least_at_most p f n d y (omega (arith, lt, not)) so)
+]
+  where
+    here : (b : Bool) → b ≡ true → (m : ℕ) → m ≡ f n → (if b then min (f n) (least_below p f n d) else least_below p f n d) ≤ m
+    here true so m is = omega (arith, is)
+    here false so m is = absurd cc
+
+    before : (b : Bool) → least_below p f n d ≤ f y → (if b then min (f n) (least_below p f n d) else least_below p f n d) ≤ f y
+    before true rest = omega (arith, rest)
+    before false rest = rest
