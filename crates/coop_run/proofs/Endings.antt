@@ -253,7 +253,7 @@ stop-excused r table batch shelf w s none no_read no_put (inr (inr (inr (fault, 
 -- a headline over a depot that counted no fault loses no query but for want of memory
 pub only-for-memory : (r : Request) (files : List ℕ → Option (List ℕ)) (w : Work) (ends : ℕ) (text : List ℕ) (h : Headline r files w ends text) → Tells w.old.held → (Rose w.old.faults w.new.faults → ⊥)
     → AllByRecursion OnlyForMemory h.losses
-only-for-memory r files w ends text h tells none = only-memory w.old.held (past w.story) r.parts w.old.faults w.new.faults tells none h.worked.story.licensed 1 h.losses h.lost
+only-for-memory r files w ends text h tells none = only-memory w.old.held (past w.story) r.parts w.old.faults w.new.faults tells none h.worked.story.licensed 1 h.given.outcomes.items h.losses h.lost
 
 pub is-complete : (asked : Option Request) (over : Devices) (did : Did) (d : Result Text Stop) → IsDecision asked over.shelf (work_of over did) d → Prints d did.status over.sink → IsComplete asked over did
 is-complete asked over did (Ok o) is (inl (e, all)) files honest r for none faultless =

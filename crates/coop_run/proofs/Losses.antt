@@ -13,7 +13,9 @@ use Rattle.scan_story.specs.MayFollow.{IsRise}
 use Rattle.scan_story.specs.Views.{History}
 use Rattle.batch_plan.specs.Scans.{scan_number}
 use Rattle.batch_run.specs.Lost.{IsLostBy, Tells, cause_from, or_first}
-use Rattle.run_decision.specs.Losses.{AreLostBy, OnlyForMemory}
+use Rattle.run_output.specs.declared.outcome.Outcome.{Outcome}
+use Rattle.run_output.specs.declared.outcome.Outcome.TheVariants as outcome
+use Rattle.run_decision.specs.Losses.{AreLostBy, IsLossOf, OnlyForMemory}
 
 -- the counts of a licensed story don't fall
 pub licensed-rises : (told : Bool) (from to : ℕ) (h : History) → Licensed told from to h → from ≤ to
@@ -71,9 +73,14 @@ only-lost : (from to : ℕ) (h : History) (parts query : ℕ) (lost : Option Cau
 only-lost from to h parts query lost none is (inl same) = subst OnlyForMemory (sym same) (only-parts from to h parts query 0 parts none is)
 only-lost from to h parts query lost none is (inr (other, memory)) = λ some. memory
 
-pub only-memory : (held : Stored) (h : History) (parts from to : ℕ) → Tells held → (Rose from to → ⊥) → Licensed (is_some held) from to h → (n : ℕ) (losses : List (Option Cause)) → AreLostBy h parts n losses
-    → AllByRecursion OnlyForMemory losses
-only-memory None h parts from to tells none is n losses lost = absurd tells
-only-memory (Some pieces) h parts from to tells none is n [] lost = tt
-only-memory (Some pieces) h parts from to tells none is n (l ∷ losses) lost =
-    (only-lost from to h parts n l none is lost.0, only-memory (Some pieces) h parts from to tells none is (n + 1) losses lost.1)
+only-loss : (from to : ℕ) (h : History) (parts n : ℕ) (o : Outcome) (lost : Option Cause) → (Rose from to → ⊥) → Licensed true from to h → IsLossOf h parts n o lost → OnlyForMemory lost
+only-loss from to h parts n (outcome.Planned p) lost none is by = only-lost from to h parts n lost none is by
+only-loss from to h parts n (outcome.Refused why) lost none is (kept, other) = subst OnlyForMemory (sym kept) no-loss
+
+pub only-memory : (held : Stored) (h : History) (parts from to : ℕ) → Tells held → (Rose from to → ⊥) → Licensed (is_some held) from to h → (n : ℕ) (os : List Outcome) (losses : List (Option Cause))
+    → AreLostBy h parts n os losses → AllByRecursion OnlyForMemory losses
+only-memory None h parts from to tells none is n os losses lost = absurd tells
+only-memory (Some pieces) h parts from to tells none is n os [] lost = tt
+only-memory (Some pieces) h parts from to tells none is n [] (l ∷ losses) lost = absurd lost
+only-memory (Some pieces) h parts from to tells none is n (o ∷ os) (l ∷ losses) lost =
+    (only-loss from to h parts n o l none is lost.0, only-memory (Some pieces) h parts from to tells none is (n + 1) os losses lost.1)

@@ -15,16 +15,16 @@ use Rattle.table_core.specs.Value.{Value}
 use Rattle.table_core.specs.declared.schema.Column.{Column}
 use Rattle.run_inputs.specs.Statements.{statements_in}
 use Rattle.batch_plan.specs.declared.task.Task.{Task}
-use Rattle.batch_run.specs.Lost.{IsLostBy, cause_of_query}
+use Rattle.batch_run.specs.Lost.{cause_of_query}
 use Rattle.run_output.specs.Output.{PrintEach}
-use Rattle.run_output.specs.Outcomes.{ComesTo}
+use Rattle.run_output.specs.declared.outcome.Outcome.{Outcome}
+use Rattle.run_output.specs.declared.outcome.Outcome.TheVariants as outcome
 use Rattle.run_output.specs.Printed.{Printed, summary_of, text_in, trace_of}
-use Rattle.run_decision.specs.Losses.{AreLostBy, OnlyForMemory, SomeForMemory}
+use Rattle.run_decision.specs.Losses.{AreLostBy, IsLossOf, OnlyForMemory, SomeForMemory}
 use Rattle.run_decision.specs.Running.{TookEachOnce, delivered_to, queries_in, zones_in}
 use Rattle.run_decision.specs.Tasks as tasks
 use Rattle.run_decision.specs.Work.{Work}
 use Rattle.run_decision.proofs.Losing.{tasks_within}
-use Rattle.run_decision.proofs.Tasked.{zip-length}
 use Rattle.coop_run.specs.Ending.{Headline, IsForAnyParts, values_of}
 
 -- for some query memory was wanting, or none is lost
@@ -46,15 +46,18 @@ print-long columns table n (text ∷ texts) (l ∷ losses) [] h = absurd h
 print-long columns table n (text ∷ texts) (l ∷ losses) (p ∷ printed) h = let e = print-long columns table (n + 1) texts losses printed h.1 in omega (arith, e)
 
 -- a statement that isn't lost has no cause
-no-cause : (h : History) (parts n : ℕ) (lost : Option Cause) → lost ≡ None → IsLostBy h parts n lost → cause_of_query h parts n ≡ None
-no-cause h parts n lost none (inl same) = sym same ∙ none
-no-cause h parts n lost none (inr (other, memory)) = cc (none, memory)
+no-cause : (h : History) (parts n : ℕ) (o : Outcome) (lost : Option Cause) → lost ≡ None → IsLossOf h parts n o lost → cause_of_query h parts n ≡ None
+no-cause h parts n (outcome.Planned p) lost none (inl same) = sym same ∙ none
+no-cause h parts n (outcome.Planned p) lost none (inr (other, memory)) = cc (none, memory)
+no-cause h parts n (outcome.Refused why) lost none (kept, other) = other
 
-no-causes : (h : History) (parts m : ℕ) (losses : List (Option Cause)) → losses ≡ replicate (length losses) None → AreLostBy h parts m losses → (q : ℕ) → m ≤ q → q < m + length losses → cause_of_query h parts q ≡ None
-no-causes h parts m [] none lost q low high = absurd (omega (arith, low, high))
-no-causes h parts m (l ∷ losses) none lost q low high = elim (cases_eq m q) [
-  | inl here ↦ subst (λ n. cause_of_query h parts n ≡ None) here (no-cause h parts m l (cc none) lost.0)
-  | inr other ↦ no-causes h parts (m + 1) losses (cc none) lost.1 q (omega (arith, low, other)) (omega (arith, high))
+no-causes : (h : History) (parts m : ℕ) (os : List Outcome) (losses : List (Option Cause)) → losses ≡ replicate (length losses) None → AreLostBy h parts m os losses → (q : ℕ) → m ≤ q → q < m + length os
+    → cause_of_query h parts q ≡ None
+no-causes h parts m [] losses none lost q low high = absurd (omega (arith, low, high))
+no-causes h parts m (o ∷ os) [] none lost q low high = absurd lost
+no-causes h parts m (o ∷ os) (l ∷ losses) none lost q low high = elim (cases_eq m q) [
+  | inl here ↦ subst (λ n. cause_of_query h parts n ≡ None) here (no-cause h parts m o l (cc none) lost.0)
+  | inr other ↦ no-causes h parts (m + 1) os losses (cc none) lost.1 q (omega (arith, low, other)) (omega (arith, high))
 ]
 
 each-once : (zones : List ChunkZones) (parts : ℕ) (story : List Entry) (ts : List Task) → AllByRecursion (TookEachOnce zones parts story) ts → AllByRecursion (λ (t : Task). cause_of_query (past story) parts t.query ≡ None) ts
@@ -75,12 +78,6 @@ module _ (r : Request) (files : List ℕ → Option (List ℕ)) (w : Work) (ends
     long : length h.losses ≡ length statements
     long = print-long (values_of h.table).columns (values_of h.table).rows 1 statements h.losses h.output.printed h.output.each
 
-    as-many : length h.given.outcomes.items ≡ length statements
-    as-many =
-        let is = h.is_given.batch_is in
-        let same : h.batch ≡ is.bytes = cc is.text_is in
-        zip-length (ComesTo h.given.loaded.table.columns h.given.loaded.dicts.items) (statements_in is.bytes) h.given.outcomes.items is.come ∙ ap (λ b. length (statements_in b)) (sym same)
-
     for-any : IsForAnyParts h.table h.batch h.given w ends text
     for-any =
         let printed = h.output.printed in
@@ -90,7 +87,7 @@ module _ (r : Request) (files : List ℕ → Option (List ℕ)) (w : Work) (ends
         let zones = zones_in h.given in
         let queries = queries_in h.given in
         let causes : (q : ℕ) → 1 ≤ q → q < 1 + length h.given.outcomes.items → cause_of_query (past w.story) h.given.options.parts q ≡ None = λ q low high.
-        rw h.is_given.parts (no-causes (past w.story) r.parts 1 h.losses none h.lost q low (omega (arith, high, long, as-many))) in
+        rw h.is_given.parts (no-causes (past w.story) r.parts 1 h.given.outcomes.items h.losses none h.lost q low high) in
         record {
           alone = alone;
           rest = summary_of printed totals ++ trace_of trace;

@@ -1,5 +1,5 @@
 -- What a comparison of policies promises, by its request and its policies, its devices and what it did.
-use Rattle.std.specs.Prelude.{◌≡◌, ◌≤◌, ◌⊎◌, ℕ, max, List, [], ◌∷◌, All, Option, Some, None, ⊤}
+use Rattle.std.specs.Prelude.{◌≡◌, ◌≤◌, ◌⊎◌, ℕ, max, List, [], ◌∷◌, All, Option, None, ⊤}
 use Rattle.coop_outside.specs.Causes.{Rose}
 use Rattle.command_words.specs.Options.{Request}
 use Rattle.run_inputs.specs.Ending.{IsTextOf}

@@ -50,9 +50,10 @@ pub record Headline (r : Request) (files : List ℕ → Option (List ℕ)) (w : 
   pub batch_is : text_in (batch_source r.batch) files ≡ Some batch
   pub given : Inputs
   pub is_given : AreInputs r (Some table) (Some batch) given
-  -- each query not refused prints its SQL meaning over the whole table; why a query is lost is what the story says of its scans, or want of memory
+  -- each query not refused prints its SQL meaning over the whole table; why a query is lost is what the story says of its scans, or want of memory;
+  -- a statement that is refused for its text is no loss
   pub losses : List (Option Cause)
-  pub lost : AreLostBy (past w.story) r.parts 1 losses
+  pub lost : AreLostBy (past w.story) r.parts 1 given.outcomes.items losses
   pub output : IsOutput (values_of table).columns (values_of table).rows (statements_in batch) losses (totals_of r.summary w.story (length (values_of table).rows))
       (trace_of r.trace w.story) status text
   -- its scans took each chunk that it needs exactly once, from frames that nobody refilled meanwhile; and every recorded load, delivery and

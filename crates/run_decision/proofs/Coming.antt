@@ -1,7 +1,7 @@
 -- What a batch comes to, from the contract of `run_batch`.
-use Rattle.std.proofs.Common.{◌≡◌, ◌≤◌, ◌<◌, ℕ, List, [], ◌∷◌, length, map, All, Option, Result, Ok, Err, refl, arith, inl, inr}
+use Rattle.std.proofs.Common.{◌≡◌, ℕ, List, length, map, All, Option, Result, Ok, Err, refl, arith, inl, inr}
 use Rattle.std.specs.Prelude.{IfErr, IfOk, is_some}
-use Rattle.std.specs.List.{AllByRecursion, AllZip}
+use Rattle.std.specs.List.{AllZip}
 use Rattle.csv_load.specs.Loaded as loaded
 use Rattle.csv_load.specs.Judged.{Fields}
 use Rattle.query_gather.specs.Answer.{IsAnswer}
@@ -17,8 +17,6 @@ use Rattle.piece_format.specs.Shape.{pieces}
 use Rattle.table_pieces.specs.Putting.{ArePut}
 use Rattle.table_pieces.proofs.Zoned.{count_zones}
 use Rattle.run_inputs.specs.declared.inputs.Inputs.{Inputs}
-use Rattle.batch_plan.specs.Scans.{scans}
-use Rattle.batch_plan.specs.Setting.{batch_setting}
 use Rattle.batch_run.specs.Lost.{Tells}
 use Rattle.batch_run.specs.Story.{IsStoryOver, counts}
 use Rattle.batch_run.specs.Taken.{IsTakenBy, TookNeed}

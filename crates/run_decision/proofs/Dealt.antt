@@ -1,11 +1,11 @@
 -- The scans of a query that the story didn't stop took each chunk that the query needs exactly once among them.
-use Rattle.std.proofs.Common.{◌≡◌, ◌∙◌, ◌<◌, ◌≤◌, ◌+◌, ◌==◌, ◌||◌, ◌++◌, ℕ, zero, suc, Bool, true, false, List, [], ◌∷◌, length, map, All, Option, Some, None, refl, sym, ap, arith, inl, inr, subst}
-use Rattle.std.specs.Prelude.{IsPermutation, if◌then◌else◌}
+use Rattle.std.proofs.Common.{◌≡◌, ◌<◌, ◌≤◌, ◌+◌, ◌==◌, ◌||◌, ◌++◌, ℕ, zero, suc, Bool, true, false, List, [], ◌∷◌, length, map, All, Option, Some, None, refl, arith, inl, inr, subst}
+use Rattle.std.specs.Prelude.{IsPermutation}
 use Rattle.std.specs.List.{AllByRecursion}
-use Rattle.std.proofs.lemmas.Bool.{cases_Bool, cases_eq}
+use Rattle.std.proofs.lemmas.Bool.{cases_eq}
 use Rattle.std.proofs.lemmas.List.Elements.{All-from_recursion, recursion_from_All}
 use Rattle.std.proofs.lemmas.List.Sorted.{IsPermutation-append, IsPermutation-refl, IsPermutation-trans}
-use Rattle.table_core.specs.Sets.{has, numbers_below, AreMembers}
+use Rattle.table_core.specs.Sets.{numbers_below, AreMembers}
 use Rattle.table_core.proofs.Members.{numbers-rise}
 use Rattle.filter_zones.specs.Possible.{chunk_at, is_needed, needed}
 use Rattle.filter_zones.specs.declared.cond.Cond.{Cond}

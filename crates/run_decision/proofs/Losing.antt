@@ -1,5 +1,5 @@
 -- Why each statement is lost, by the story.
-use Rattle.std.proofs.Common.{◌≡◌, ◌≢◌, ◌∙◌, ◌<◌, ◌≤◌, ◌+◌, ◌-◌, ◌*◌, ◌==◌, ◌++◌, ℕ, zero, suc, List, [], ◌∷◌, length, map, Option, Some, None, refl, sym, ap, arith, inl, inr, subst, append_assoc, length-append}
+use Rattle.std.proofs.Common.{◌≡◌, ◌≢◌, ◌∙◌, ◌<◌, ◌≤◌, ◌+◌, ◌-◌, ◌*◌, ◌==◌, ◌++◌, ℕ, zero, suc, List, [], ◌∷◌, length, map, Option, None, refl, sym, ap, arith, inl, inr, subst, append_assoc, length-append}
 use Rattle.std.specs.Prelude.{find}
 use Rattle.std.specs.List.{AllByRecursion, AllZip}
 use Rattle.std.proofs.lemmas.Bool.{cases_order, ne_eqb}
@@ -8,18 +8,17 @@ use Rattle.filter_zones.specs.declared.zone.ChunkZones.{ChunkZones}
 use Rattle.scan_story.specs.declared.cause.Cause.{Cause}
 use Rattle.scan_story.specs.declared.setting.Need as asked
 use Rattle.scan_story.specs.Causes.{cause_of}
-use Rattle.scan_story.specs.Setting as setting
 use Rattle.scan_story.specs.Views.{History}
 use Rattle.chunk_interest.specs.Fresh.{as_need}
 use Rattle.query_gather.specs.declared.answer.Answer.{Answer}
 use Rattle.query_gather.specs.declared.answer.Answer.TheVariants as answer
-use Rattle.batch_plan.specs.Scans.{Scan, need_of, needs, scan_number, scan_of, scans, scans_from, scans_from_part}
+use Rattle.batch_plan.specs.Scans.{Scan, needs, scan_number, scans, scans_from, scans_from_part}
 use Rattle.batch_plan.specs.declared.task.Task.{Task}
-use Rattle.batch_run.specs.Lost.{IsLostBy, cause_from, cause_of_query, or_first, stop_of}
-use Rattle.run_output.specs.Outcomes.{loss_of, losses, plans_of}
+use Rattle.batch_run.specs.Lost.{IsLostBy, cause_from, cause_of_query, stop_of}
+use Rattle.run_output.specs.Outcomes.{loss_of, losses}
 use Rattle.run_output.specs.declared.outcome.Outcome.{Outcome}
 use Rattle.run_output.specs.declared.outcome.Outcome.TheVariants as outcome
-use Rattle.run_decision.specs.Losses.{AreLostBy}
+use Rattle.run_decision.specs.Losses.{AreLostBy, SomeForMemory, SomeQueryForMemory}
 use Rattle.run_decision.specs.Tasks.{tasks_in}
 
 -- ---- scans of other statements have other numbers
@@ -74,8 +73,8 @@ module _ (h : History) (zones : List ChunkZones) (workers parts : ℕ) (tasks : 
       let none = stops (scan_number parts n part) (no_need workers parts n part some low zones (scans workers parts tasks) (task_others workers parts n part some low 0 tasks others)) in
       rw none (no_cause_from n (part + 1) left some others (omega (arith, within)))
 
-  not_lost : (n : ℕ) → 1 ≤ n → AllByRecursion (λ (t : Task). (1 ≤ t.query) × (t.query ≢ n)) tasks → IsLostBy h parts n None
-  not_lost n some others = inl (sym (no_cause_from n 0 parts some others (omega arith)))
+  no_cause : (n : ℕ) → 1 ≤ n → AllByRecursion (λ (t : Task). (1 ≤ t.query) × (t.query ≢ n)) tasks → cause_of_query h parts n ≡ None
+  no_cause n some others = no_cause_from n 0 parts some others (omega arith)
 
 pub tasks_within : (m : ℕ) (os : List Outcome) → AllByRecursion (λ (t : Task). (m ≤ t.query) × (t.query < m + length os)) (tasks_in m os)
 tasks_within m [] = tt
@@ -116,9 +115,9 @@ same_loss (answer.Stopped why) = refl
 
 module _ (h : History) (zones : List ChunkZones) (workers parts : ℕ) (all : List Outcome) (stops : StopsNone h (map as_need (needs zones parts (scans workers parts (tasks_in 1 all))))) where
   lost_from : (before os : List Outcome) (n : ℕ) (given : List Answer) → before ++ os ≡ all → n ≡ 1 + length before → AllZip (λ (t : Task) (a : Answer). IsLostBy h parts t.query (stop_of a)) (tasks_in n os) given
-      → AreLostBy h parts n (losses os given)
+      → AreLostBy h parts n os (losses os given)
   lost_from before [] n given whole is lost = tt
-  lost_from before (outcome.Planned p ∷ os) n [] whole is lost = tt
+  lost_from before (outcome.Planned p ∷ os) n [] whole is lost = absurd lost
   lost_from before (outcome.Planned p ∷ os) n (a ∷ given) whole is lost = (
     subst (IsLostBy h parts n) (sym (same_loss a)) lost.0,
     lost_from (before ++ outcome.Planned p ∷ []) os (n + 1) given (append_assoc before (outcome.Planned p ∷ []) os ∙ whole) (let e = length-append before (outcome.Planned p ∷ []) in omega (arith, e, is)) lost.1,
@@ -126,9 +125,20 @@ module _ (h : History) (zones : List ChunkZones) (workers parts : ℕ) (all : Li
   lost_from before (outcome.Refused why ∷ os) n given whole is lost =
       let tasks : tasks_in 1 all ≡ tasks_in 1 before ++ tasks_in (n + 1) os = ap (tasks_in 1) (sym whole) ∙ tasks_joined 1 before (outcome.Refused why ∷ os) ∙ ap (λ m. tasks_in 1 before ++ tasks_in (m + 1) os) (sym is) in
       let others = subst (λ (ts : List Task). AllByRecursion (λ (t : Task). (1 ≤ t.query) × (t.query ≢ n)) ts) (sym tasks) (refused_apart before os n is) in (
-        not_lost h zones workers parts (tasks_in 1 all) stops n (omega (arith, is)) others,
+        (refl, no_cause h zones workers parts (tasks_in 1 all) stops n (omega (arith, is)) others),
         lost_from (before ++ outcome.Refused why ∷ []) os (n + 1) given (append_assoc before (outcome.Refused why ∷ []) os ∙ whole) (let e = length-append before (outcome.Refused why ∷ []) in omega (arith, e, is)) lost,
       )
 
-  pub lost_by : (given : List Answer) → AllZip (λ (t : Task) (a : Answer). IsLostBy h parts t.query (stop_of a)) (tasks_in 1 all) given → AreLostBy h parts 1 (losses all given)
+  pub lost_by : (given : List Answer) → AllZip (λ (t : Task) (a : Answer). IsLostBy h parts t.query (stop_of a)) (tasks_in 1 all) given → AreLostBy h parts 1 all (losses all given)
   lost_by given lost = lost_from [] all 1 given refl (omega arith) lost
+
+-- ---- what is lost for want of memory
+
+pub some_query : (h : History) (parts n : ℕ) (os : List Outcome) (ls : List (Option Cause)) → AreLostBy h parts n os ls → SomeForMemory ls → SomeQueryForMemory os ls
+some_query h parts n [] [] lost some = absurd some
+some_query h parts n [] (l ∷ ls) lost some = absurd lost
+some_query h parts n (o ∷ os) [] lost some = absurd some
+some_query h parts n (outcome.Planned p ∷ os) (l ∷ ls) lost (inl memory) = inl memory
+some_query h parts n (outcome.Planned p ∷ os) (l ∷ ls) lost (inr later) = inr (some_query h parts (n + 1) os ls lost.1 later)
+some_query h parts n (outcome.Refused why ∷ os) (l ∷ ls) lost (inl memory) = cc (lost.0.0, memory)
+some_query h parts n (outcome.Refused why ∷ os) (l ∷ ls) lost (inr later) = some_query h parts (n + 1) os ls lost.1 later

@@ -1,11 +1,11 @@
 -- Two lists without repetition that have the same numbers are permutations of one another.
-use Rattle.std.proofs.Common.{◌≡◌, ◌∙◌, ◌==◌, ◌||◌, ◌++◌, ℕ, Bool, true, false, List, [], ◌∷◌, refl, sym, ap, inl, inr}
-use Rattle.std.specs.Prelude.{IsPermutation, filter, not, if◌then◌else◌}
+use Rattle.std.proofs.Common.{◌≡◌, ◌∙◌, ◌==◌, ℕ, Bool, true, false, List, [], ◌∷◌, refl, sym, ap, inl, inr}
+use Rattle.std.specs.Prelude.{IsPermutation, filter, not}
 use Rattle.std.proofs.lemmas.Bool.{cases_Bool}
 use Rattle.std.proofs.lemmas.List.Sorted.{IsPermutation-cons, IsPermutation-middle, IsPermutation-refl, IsPermutation-sym, IsPermutation-trans}
 use Rattle.scan_story.specs.Counting.{has}
 use Rattle.story_laws.specs.Lists.{NoneTwice}
-use Rattle.story_laws.proofs.Bools.{either, if_not, not_both, not_false, or_false, or_left, or_right, same_number, self_number}
+use Rattle.story_laws.proofs.Bools.{either, not_both, not_false, or_false, or_left, or_right, same_number, self_number}
 use Rattle.story_laws.proofs.Lists.{filter_has, filtered_out, none_twice_filter}
 
 -- the list without a number

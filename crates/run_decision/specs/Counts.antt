@@ -1,5 +1,5 @@
 -- What is counted of a story.
-use Rattle.std.specs.Prelude.{◌≡◌, ◌≤◌, ◌<◌, ◌+◌, ℕ, [], ◌∷◌, length}
+use Rattle.std.specs.Prelude.{◌≡◌, ◌≤◌, ◌<◌, ◌+◌, ℕ, [], ◌∷◌}
 use Rattle.table_core.specs.Sets.{has}
 use Rattle.scan_story.specs.declared.entry.Entry.TheVariants.{Evict}
 use Rattle.scan_story.specs.Spent.{deliveries, reads}

@@ -3,18 +3,33 @@ use Rattle.std.specs.Prelude.{◌≡◌, ◌≢◌, ◌⊎◌, ◌+◌, ℕ, Lis
 use Rattle.scan_story.specs.Views.{History}
 use Rattle.scan_story.specs.declared.cause.Cause.{Cause}
 use Rattle.scan_story.specs.declared.cause.Cause.TheVariants as cause
-use Rattle.batch_run.specs.Lost.{IsLostBy}
+use Rattle.batch_run.specs.Lost.{IsLostBy, cause_of_query}
+use Rattle.run_output.specs.declared.outcome.Outcome.{Outcome}
+use Rattle.run_output.specs.declared.outcome.Outcome.TheVariants as outcome
 
--- statements are lost as the story says of their scans, so many for each, or for want of memory; the first one has this number
-abbrev pub AreLostBy : History → ℕ → ℕ → List (Option Cause) → Type 0
-AreLostBy h parts n [] = Unit {0}
-AreLostBy h parts n (lost ∷ losses) = IsLostBy h parts n lost × AreLostBy h parts (n + 1) losses
+-- HOW A STATEMENT IS LOST: a query as the story says of its scans, or for want of memory; a statement that is refused for its text
+-- has no scan that the story stopped, and isn't lost
+abbrev pub IsLossOf : History → ℕ → ℕ → Outcome → Option Cause → Type 0
+IsLossOf h parts n (outcome.Planned p) lost = IsLostBy h parts n lost
+IsLossOf h parts n (outcome.Refused why) lost = (lost ≡ None) × (cause_of_query h parts n ≡ None)
+
+-- so is each of the statements that come to these outcomes; the first one has this number
+abbrev pub AreLostBy : History → ℕ → ℕ → List Outcome → List (Option Cause) → Type 0
+AreLostBy h parts n [] [] = Unit {0}
+AreLostBy h parts n (o ∷ outcomes) (lost ∷ losses) = IsLossOf h parts n o lost × AreLostBy h parts (n + 1) outcomes losses
+AreLostBy h parts n _ _ = ⊥
 
 -- a statement isn't lost but for want of memory
 abbrev pub OnlyForMemory : Option Cause → Type 0
 OnlyForMemory lost = lost ≢ None → lost ≡ Some cause.Memory
 
--- some statement is lost for want of memory
+-- some query is lost for want of memory
 abbrev pub SomeForMemory : List (Option Cause) → Type 0
 SomeForMemory [] = ⊥
 SomeForMemory (lost ∷ losses) = (lost ≡ Some cause.Memory) ⊎ SomeForMemory losses
+
+-- and it is a query: among statements that come to these outcomes, one that isn't refused for its text
+abbrev pub SomeQueryForMemory : List Outcome → List (Option Cause) → Type 0
+SomeQueryForMemory (outcome.Planned p ∷ outcomes) (lost ∷ losses) = (lost ≡ Some cause.Memory) ⊎ SomeQueryForMemory outcomes losses
+SomeQueryForMemory (outcome.Refused why ∷ outcomes) (lost ∷ losses) = SomeQueryForMemory outcomes losses
+SomeQueryForMemory _ _ = ⊥

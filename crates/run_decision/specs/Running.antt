@@ -103,7 +103,7 @@ pub record IsWorked (i : Inputs) (w : Work) : Type 0 where
 pub record AreAnswers (i : Inputs) (w : Work) (answers : List Answer) : Type 0 where
   pub each : length answers ≡ length (plans_of i.outcomes.items)
   pub worked : IsWorked i w
-  pub lost : AreLostBy (past w.story) i.options.parts 1 (losses i.outcomes.items answers)
+  pub lost : AreLostBy (past w.story) i.options.parts 1 i.outcomes.items (losses i.outcomes.items answers)
 
 -- what is printed of answers
 abbrev pub text_of : Inputs → Work → List Answer → Text

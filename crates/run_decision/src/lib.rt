@@ -16,6 +16,7 @@ mod answering;
 mod counts;
 mod deciding;
 mod decision;
+mod laws;
 mod output;
 mod tasks;
 
@@ -24,4 +25,5 @@ pub use answering::answer;
 pub use counts::Counts;
 pub use deciding::decide;
 pub use decision::Decision;
+pub use laws::lost_for_memory_are_queries;
 pub use output::Output;
