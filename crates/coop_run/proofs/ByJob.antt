@@ -8,7 +8,7 @@ use Rattle.scan_story.specs.declared.setting.PolicyName.TheVariants.{Relevance}
 use Rattle.run_output.specs.Stops.{status_of}
 use Rattle.run_output.specs.declared.stop.Stop.{Stop}
 use Rattle.run_output.specs.declared.stop.Stop.TheVariants as stop
-use Rattle.run_inputs.specs.Ending.{SourceFails}
+use Rattle.run_inputs.specs.Ending.{AcceptsTable}
 use Rattle.run_inputs.specs.Order.{first_stop}
 use Rattle.run_inputs.specs.Sources.{batch_source, table_source, text_in}
 use Rattle.run_inputs.proofs.Texts.{some-text}
@@ -29,13 +29,14 @@ use Rattle.run_policies.specs.declared.policy_run.PolicyRun.{PolicyRun}
 use Rattle.coop_run.specs.Boxed.{ComparesNothing, DecidesAndPrintsOn, DecidesOn, IsCompleteOn, IsForAllPartsOn, IsUndone, KeepsHeadlineCutOn, KeepsHeadlineOn, KeepsPromisesOn, LacksMemoryAtFirst, LeavesItsWorkOn, LeavesRuns, WritesLines}
 use Rattle.coop_run.specs.Comparing.{AllHaveWorked, AreComplete, AreForAllParts, AreLines, Headlines, KeepsHeadlines, KeepsHeadlinesCut, Remark, for_any_parts, lost_for_memory, nothing_more}
 use Rattle.coop_run.specs.Devices.{Devices}
-use Rattle.coop_run.specs.Ending.{ComesExactly, HasStatus, IsCutShort, IsExcused, IsWritten, Prints, stop_over}
+use Rattle.coop_run.specs.Ending.{ComesExactly, FailsAtEither, FailsAtTable, HasStatus, IsCutShort, IsExcused, IsWritten, Prints, stop_over}
 use Rattle.coop_run.specs.Jobs.{Job, refused, alone, compared, asked_in, asked_to_read}
 use Rattle.coop_run.specs.Promises.{FailsToRead, IsUsageExactly, MissesFile, StopsExactly}
 use Rattle.coop_run.specs.Runs.{AreOfEach, DidRuns, did_runs, did_under, work_under}
 use Rattle.coop_run.proofs.Comparing.{any-headlines, memory-headlines, parts-headlines, policy_name, run_name, runs-names, runs-small, runs-stop, runs-worked}
 use Rattle.coop_run.proofs.Endings as ends
-use Rattle.coop_run.proofs.Endings.{IsRefused, fault-status, is-fault, is-memory, is-usage, late-status, memory-writes, no-change, refused-others, stopped-by, stops-late, text-told, write-fault-by}
+use Rattle.coop_run.proofs.Failing.{EndsFirst, Faulty, IsEarly, excused-early, excused-late, fails-at-batch, fails-at-table, fault-status, misses, stops-behind, stops-first}
+use Rattle.coop_run.proofs.Endings.{IsRefused, early-refused, is-fault, is-memory, is-usage, late-status, memory-writes, no-change, refused-others, stopped-by, stops-late, text-told, write-fault-by}
 use Rattle.coop_run.proofs.Runs.{none-of-one, untouched-under}
 use Rattle.coop_run.proofs.Words.{memory-ends}
 
@@ -120,19 +121,23 @@ module _ (r : Request) (table batch : Option (List ℕ)) (shelf : OverShelf) (ps
   comes-only s due is_due by (inr before) = elim before.stops [
     | inl first ↦ (s, first, sym by)
     | inr (inl memory) ↦ absurd ((refused-others due is_due).0 (by ∙ ap status_of memory))
-    | inr (inr (fault, rose)) ↦ absurd ((refused-others due is_due).2 (by ∙ fault-status s fault))
+    | inr (inr (fault, rose)) ↦ absurd ((refused-others due is_due).2 (by ∙ fault-status r table s fault))
   ]
 
-  -- where there is a first stop the work ends with its status, or is excused
+  -- where there is a first stop the work ends with its status, out of memory, or since the shelf failed
   comes-always : (d : Result Text Stop) (status : ℕ) (sink : OverSink) (due : ℕ) → comparing.ComesTo r table batch shelf ps old new runs d → Prints d status sink → HasStatus due (first_stop r table batch)
-      → (status ≡ due) ⊎ IsExcused status shelf
+      → EndsFirst r table shelf d due status
   comes-always d status sink due (inl (accepted, are)) prints (t, first, by) = cc (accepted, first)
   comes-always (Ok o) status sink due (inr before) prints h = absurd before.stops
-  comes-always (Err s) status sink due (inr before) prints (t, first, by) = elim before.stops [
-    | inl is ↦ let e : s ≡ t = cc (is, first) in inl (prints.0 ∙ ap status_of e ∙ by)
-    | inr (inl memory) ↦ inr (inl (prints.0 ∙ ap status_of memory))
-    | inr (inr (fault, rose)) ↦ inr (inr (prints.0 ∙ fault-status s fault, rose))
+  comes-always (Err s) status sink due (inr before) prints h = stops-first r table batch shelf s status sink due before.stops prints h
+
+  -- a fault of the batch comes behind a table that is accepted
+  comes-behind : comparing.ComesTo r table batch shelf ps old new runs (Err stop.BatchFault) → AcceptsTable r table
+  comes-behind (inl (accepted, are)) = elim (runs-stop r table batch ps old new runs stop.BatchFault are) [
+    | inl memory ↦ cc memory
+    | inr (piece, is, rose) ↦ cc is
   ]
+  comes-behind (inr before) = stops-behind r table batch shelf before.stops
 
   -- where nothing refuses the runs and no device counts a fault, memory was wanting
   comes-excused : (s : Stop) → first_stop r table batch ≡ None → (Rose shelf.before shelf.now → ⊥) → (Rose old.faults new.faults → ⊥) → comparing.ComesTo r table batch shelf ps old new runs (Err s) → s ≡ stop.Memory
@@ -154,8 +159,19 @@ module _ (r : Request) (table batch : Option (List ℕ)) (shelf : OverShelf) (ps
   comes-rose s five (inr before) = elim before.stops [
     | inl first ↦ absurd (first-before r table batch s first five)
     | inr (inl memory) ↦ cc (five, ap status_of memory)
-    | inr (inr (fault, rose)) ↦ cc (five, fault-status s fault)
+    | inr (inr (fault, rose)) ↦ cc (five, fault-status r table s fault)
   ]
+
+compares-faulty : (r : Request) (shelf : OverShelf) (ps : List PolicyAt) (old new : DepotAt) (runs : List PolicyRun) (d : Result Text Stop) → Compares r shelf ps old new runs d → Faulty r shelf d
+compares-faulty r shelf ps old new runs d is = record {
+  table = is.table_fault;
+  batch = is.batch_fault;
+  behind = λ e. record {
+    table = is.table;
+    table_is = is.table_is;
+    accepted = comes-behind r is.table is.batch shelf ps old new runs (subst (λ (x : Result Text Stop). comparing.ComesTo r is.table is.batch shelf ps old new runs x) e is.comes);
+  };
+}
 
 -- with no policy to compare, nothing is decided but want of memory
 nothing-stops : (r : Request) (shelf : OverShelf) (old new : DepotAt) (runs : List PolicyRun) (s : Stop) → DecidesOn (compared r []) shelf old new runs (Err s) → s ≡ stop.Memory
@@ -394,10 +410,13 @@ module _ (shelf : OverShelf) (old new : DepotAt) (runs : List PolicyRun) (d : Re
       → comparing.ComesTo r (text_in (table_source r.table) files) (text_in (batch_source r.batch) files) shelf (p ∷ ps) old new runs d
   comes-for r files p ps is held = compares-told r files shelf (p ∷ ps) old new runs d held (compares-of r shelf p ps old new runs d is)
 
-  -- 3, 8 and 9 of a comparison
-  compared-exactly : (due : ℕ) → IsRefused due → (r : Request) (p : PolicyAt) (ps : List PolicyAt) → Decides (compared r (p ∷ ps)) → Prints d status sink → (files : List ℕ → Option (List ℕ)) → shelf.held ≡ Some files
-      → ComesExactly due (stop_over r files) status shelf
-  compared-exactly due is_due r p ps is prints files held =
+  faulty-for : (r : Request) (p : PolicyAt) (ps : List PolicyAt) → Decides (compared r (p ∷ ps)) → Faulty r shelf d
+  faulty-for r p ps is = compares-faulty r shelf (p ∷ ps) old new runs d (compares-of r shelf p ps old new runs d is)
+
+  -- 3, 8 and 9 of a comparison, by what excuses them
+  compared-exactly : (due : ℕ) → IsRefused due → (Fails : Type 0) (r : Request) (p : PolicyAt) (ps : List PolicyAt) → Decides (compared r (p ∷ ps)) → Prints d status sink → (files : List ℕ → Option (List ℕ)) → shelf.held ≡ Some files
+      → (HasStatus due (stop_over r files) → EndsFirst r (text_in (table_source r.table) files) shelf d due status → (status ≡ due) ⊎ IsExcused Fails status shelf) → ComesExactly due (stop_over r files) Fails status shelf
+  compared-exactly due is_due Fails r p ps is prints files held excuse =
       let table = text_in (table_source r.table) files in
       let batch = text_in (batch_source r.batch) files in
       let comes = comes-for r files p ps is held in
@@ -405,25 +424,42 @@ module _ (shelf : OverShelf) (old new : DepotAt) (runs : List PolicyRun) (d : Re
       record {
         only = λ e. let (s, d_is, by) = stopped-compared r (p ∷ ps) is prints (omega (arith, e, late.0)) (λ h. late.1 (sym e ∙ h)) in
             comes-only r table batch shelf (p ∷ ps) old new runs s due is_due (sym e ∙ by) (subst (λ (x : Result Text Stop). comparing.ComesTo r table batch shelf (p ∷ ps) old new runs x) d_is comes);
-        always = comes-always r table batch shelf (p ∷ ps) old new runs d status sink due comes prints;
+        always = λ h. excuse h (comes-always r table batch shelf (p ∷ ps) old new runs d status sink due comes prints h);
       }
 
-  stops-exactly : (due : ℕ) → IsRefused due → (job : Job) → Decides job → Prints d status sink → StopsExactly due (asked_to_read job) shelf status
-  stops-exactly due is_due refused is prints files held q for = ends.stops-exactly due is_due None shelf nobodys d status sink (usage-of is) prints files held q for
-  stops-exactly due is_due (alone r p) is prints files held q for = ends.stops-exactly due is_due (Some r) shelf (work_under p old new runs) d status sink is prints files held q for
-  stops-exactly due is_due (compared r []) is prints files held q for = cc for
-  stops-exactly due is_due (compared r (p ∷ ps)) is prints files held q for =
+  compared-early : (due : ℕ) → IsEarly due → (r : Request) (p : PolicyAt) (ps : List PolicyAt) → Decides (compared r (p ∷ ps)) → Prints d status sink → (files : List ℕ → Option (List ℕ)) → shelf.held ≡ Some files
+      → ComesExactly due (stop_over r files) (FailsAtTable r shelf sink status) status shelf
+  compared-early due early r p ps is prints files held =
+      compared-exactly due (early-refused due early) (FailsAtTable r shelf sink status) r p ps is prints files held
+      (λ h ends. excused-early r (text_in (table_source r.table) files) (text_in (batch_source r.batch) files) shelf d status sink due (faulty-for r p ps is) prints early h ends)
+
+  compared-at-batch : (r : Request) (p : PolicyAt) (ps : List PolicyAt) → Decides (compared r (p ∷ ps)) → Prints d status sink → (files : List ℕ → Option (List ℕ)) → shelf.held ≡ Some files
+      → ComesExactly 9 (stop_over r files) (FailsAtEither r shelf sink status) status shelf
+  compared-at-batch r p ps is prints files held =
+      compared-exactly 9 (inr (inr refl)) (FailsAtEither r shelf sink status) r p ps is prints files held
+      (λ h ends. excused-late r (text_in (table_source r.table) files) shelf d status sink 9 (faulty-for r p ps is) prints ends)
+
+  stops-early : (due : ℕ) → IsEarly due → (job : Job) → Decides job → Prints d status sink → StopsExactly due FailsAtTable (asked_to_read job) shelf sink status
+  stops-early due early refused is prints files held q for = ends.stops-early due early None shelf nobodys d status sink (usage-of is) prints files held q for
+  stops-early due early (alone r p) is prints files held q for = ends.stops-early due early (Some r) shelf (work_under p old new runs) d status sink is prints files held q for
+  stops-early due early (compared r []) is prints files held q for = cc for
+  stops-early due early (compared r (p ∷ ps)) is prints files held q for =
       let same : r ≡ q = cc for in
-      subst (λ (x : Request). ComesExactly due (stop_over x files) status shelf) same (compared-exactly due is_due r p ps is prints files held)
+      subst (λ (x : Request). ComesExactly due (stop_over x files) (FailsAtTable x shelf sink status) status shelf) same (compared-early due early r p ps is prints files held)
+
+  stops-at-batch : (job : Job) → Decides job → Prints d status sink → StopsExactly 9 FailsAtEither (asked_to_read job) shelf sink status
+  stops-at-batch refused is prints files held q for = ends.stops-at-batch None shelf nobodys d status sink (usage-of is) prints files held q for
+  stops-at-batch (alone r p) is prints files held q for = ends.stops-at-batch (Some r) shelf (work_under p old new runs) d status sink is prints files held q for
+  stops-at-batch (compared r []) is prints files held q for = cc for
+  stops-at-batch (compared r (p ∷ ps)) is prints files held q for =
+      let same : r ≡ q = cc for in
+      subst (λ (x : Request). ComesExactly 9 (stop_over x files) (FailsAtEither x shelf sink status) status shelf) same (compared-at-batch r p ps is prints files held)
 
   compared-misses : (r : Request) (p : PolicyAt) (ps : List PolicyAt) → Decides (compared r (p ∷ ps)) → Prints d status sink → (files : List ℕ → Option (List ℕ)) → shelf.held ≡ Some files → HasStatus 4 (stop_over r files)
       → (status ≡ 4) ⊎ (status ≡ 7)
   compared-misses r p ps is prints files held h =
-      elim (comes-always r (text_in (table_source r.table) files) (text_in (batch_source r.batch) files) shelf (p ∷ ps) old new runs d status sink 4 (comes-for r files p ps is held) prints h) [
-        | inl four ↦ inl four
-        | inr (inl seven) ↦ inr seven
-        | inr (inr (four, rose)) ↦ inl four
-      ]
+      let table = text_in (table_source r.table) files in
+      misses r table shelf d status sink prints (comes-always r table (text_in (batch_source r.batch) files) shelf (p ∷ ps) old new runs d status sink 4 (comes-for r files p ps is held) prints h)
 
   misses-file : (job : Job) → Decides job → Prints d status sink → MissesFile (asked_to_read job) shelf status
   misses-file refused is prints files held q for h = ends.misses-file None shelf nobodys d status sink (usage-of is) prints files held q for h
@@ -433,18 +469,18 @@ module _ (shelf : OverShelf) (old new : DepotAt) (runs : List PolicyRun) (d : Re
       let same : q ≡ r = cc for in
       compared-misses r p ps is prints files held (subst (λ (x : Request). HasStatus 4 (stop_over x files)) same h)
 
-  fails-to-read : (job : Job) → Decides job → Prints d status sink → FailsToRead (asked_to_read job) shelf status
+  fails-to-read : (job : Job) → Decides job → Prints d status sink → FailsToRead (asked_to_read job) shelf sink status
   fails-to-read refused is prints four q for = ends.fails-to-read None shelf nobodys d status sink (usage-of is) prints four q for
   fails-to-read (alone r p) is prints four q for = ends.fails-to-read (Some r) shelf (work_under p old new runs) d status sink is prints four q for
   fails-to-read (compared r []) is prints four q for = cc for
   fails-to-read (compared r (p ∷ ps)) is prints four q for =
       let same : r ≡ q = cc for in
       let (s, e, by) = stopped-compared r (p ∷ ps) is prints (omega (arith, four)) (λ h. cc (h, four)) in
-      let compares = compares-of r shelf p ps old new runs d is in
-      subst (λ (x : Request). SourceFails shelf.held (table_source x.table) shelf.before shelf.now ⊎ SourceFails shelf.held (batch_source x.batch) shelf.before shelf.now) same
+      let faulty = faulty-for r p ps is in
+      subst (λ (x : Request). FailsAtEither x shelf sink status) same
       (elim (is-fault s (sym by ∙ four)) [
-        | inl table ↦ inl (compares.table_fault (e ∙ ap (λ (x : Stop). Err x) table))
-        | inr batch ↦ inr (compares.batch_fault (e ∙ ap (λ (x : Stop). Err x) batch))
+        | inl table ↦ inl (fails-at-table r shelf d status sink faulty prints (e ∙ ap (λ (x : Stop). Err x) table))
+        | inr batch ↦ inr (fails-at-batch r shelf d status sink faulty prints (e ∙ ap (λ (x : Stop). Err x) batch))
       ])
 
   put-fault-of : (job : Job) → Decides job → Prints d status sink → status ≡ 5 → Rose old.faults new.faults
@@ -478,15 +514,15 @@ module _ (shelf : OverShelf) (old new : DepotAt) (runs : List PolicyRun) (d : Re
         complete = is-complete job is prints;
         parts = is-for-all-parts job is prints;
         usage = is-usage-exactly job is prints;
-        no_table = stops-exactly 3 (inl refl) job is prints;
+        no_table = stops-early 3 (inl refl) job is prints;
         read_fault = fails-to-read job is prints;
         no_file = misses-file job is prints;
         put_fault = put-fault-of job is prints;
         write_fault = write-fault-of job is prints;
         cut = keeps-headline-cut job is prints;
         no_memory = no-memory-of job is prints;
-        frames = stops-exactly 8 (inr (inl refl)) job is prints;
-        no_batch = stops-exactly 9 (inr (inr refl)) job is prints;
+        frames = stops-early 8 (inr refl) job is prints;
+        no_batch = stops-at-batch job is prints;
         worked = leaves-its-work job is prints;
         runs = left;
         lines = writes-lines job shelf old new runs d status sink is prints;

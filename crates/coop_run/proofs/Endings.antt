@@ -15,7 +15,7 @@ use Rattle.run_output.specs.declared.stop.Stop.TheVariants as stop
 use Rattle.scan_story.specs.Causes.{Licensed}
 use Rattle.scan_story.specs.Spent.{reads}
 use Rattle.scan_story.specs.Views.{past}
-use Rattle.run_inputs.specs.Ending.{IsReadFault, IsTextOf}
+use Rattle.run_inputs.specs.Ending.{AcceptsTable, IsTextOf}
 use Rattle.run_inputs.specs.Order.{first_stop}
 use Rattle.run_inputs.specs.Sources.{Source, made, stored, batch_source, table_source, text_in}
 use Rattle.run_inputs.specs.Statements.{statements_in}
@@ -32,10 +32,11 @@ use Rattle.run_decision.specs.Tasks.{totals_of, trace_of}
 use Rattle.run_decision.specs.Work.{Work}
 use Rattle.run_decision.proofs.Given.{rows-same}
 use Rattle.run_decision.proofs.Stopping.{first-before}
-use Rattle.coop_run.specs.Ending.{HasStatus, Headline, IsExcused, Prints, values_of}
+use Rattle.coop_run.specs.Ending.{ComesExactly, FailsAtEither, FailsAtTable, HasStatus, Headline, IsExcused, Prints, stop_over, values_of}
 use Rattle.coop_run.specs.Devices.{AreHonest, Devices}
 use Rattle.coop_run.specs.Did.{Did, work_of}
 use Rattle.coop_run.specs.Promises.{DecidesAndPrints, FailsToRead, IsComplete, IsForAllParts, IsIdleElsewhere, IsUsageExactly, KeepsHeadline, KeepsHeadlineCut, KeepsPromises, LeavesItsWork, MissesFile, StopsExactly}
+use Rattle.coop_run.proofs.Failing.{EndsFirst, Faulty, IsEarly, excused-early, excused-late, fails-at-batch, fails-at-table, fault-status, misses, stops-behind, stops-first}
 use Rattle.coop_run.proofs.Losses.{only-memory}
 use Rattle.coop_run.proofs.Parts.{for-any-parts}
 
@@ -113,10 +114,6 @@ is-fault s h = elim (kinds s) [
   | inr (inr (inr (inr (inr (inr (inl e)))))) ↦ cc (h, e)
   | inr (inr (inr (inr (inr (inr (inr e)))))) ↦ cc (h, e)
 ]
-
-pub fault-status : (s : Stop) → IsReadFault s → status_of s ≡ 4
-fault-status s (inl e) = ap status_of e
-fault-status s (inr e) = ap status_of e
 
 -- ---- what is written
 
@@ -304,26 +301,43 @@ first-only r table batch shelf w s due refused by (inl runs) = elim runs.comes [
 ]
 first-only r table batch shelf w s due refused by (inr (inl first, untouched)) = (s, first, sym by)
 first-only r table batch shelf w s due refused by (inr (inr (inl memory), untouched)) = absurd ((refused-others due refused).0 (by ∙ ap status_of memory))
-first-only r table batch shelf w s due refused by (inr (inr (inr (fault, rose)), untouched)) = absurd ((refused-others due refused).2 (by ∙ fault-status s fault))
+first-only r table batch shelf w s due refused by (inr (inr (inr (fault, rose)), untouched)) = absurd ((refused-others due refused).2 (by ∙ fault-status r table s fault))
 
--- where there is a first stop the run ends with its status, or is excused
+-- where there is a first stop the run ends with its status, out of memory, or since the shelf failed
 first-always : (r : Request) (table batch : Option (List ℕ)) (shelf : OverShelf) (w : Work) (d : Result Text Stop) (status : ℕ) (sink : OverSink) (due : ℕ)
-    → ComesTo r table batch shelf w d → Prints d status sink → HasStatus due (first_stop r table batch) → (status ≡ due) ⊎ IsExcused status shelf
+    → ComesTo r table batch shelf w d → Prints d status sink → HasStatus due (first_stop r table batch) → EndsFirst r table shelf d due status
 first-always r table batch shelf w d status sink due (inl runs) prints (t, first, by) = cc (runs.accepted, first)
 first-always r table batch shelf w (Ok o) status sink due (inr (stops, untouched)) prints h = absurd stops
-first-always r table batch shelf w (Err s) status sink due (inr (inl is, untouched)) prints (t, first, by) = let e : s ≡ t = cc (is, first) in inl (prints.0 ∙ ap status_of e ∙ by)
-first-always r table batch shelf w (Err s) status sink due (inr (inr (inl memory), untouched)) prints h = inr (inl (prints.0 ∙ ap status_of memory))
-first-always r table batch shelf w (Err s) status sink due (inr (inr (inr (fault, rose)), untouched)) prints h = inr (inr (prints.0 ∙ fault-status s fault, rose))
+first-always r table batch shelf w (Err s) status sink due (inr (stops, untouched)) prints h = stops-first r table batch shelf s status sink due stops prints h
+
+comes-behind : (r : Request) (table batch : Option (List ℕ)) (shelf : OverShelf) (w : Work) → ComesTo r table batch shelf w (Err stop.BatchFault) → AcceptsTable r table
+comes-behind r table batch shelf w (inl runs) = elim runs.comes [
+  | inl memory ↦ cc memory.stop_is
+  | inr left ↦ cc left.stop_is
+]
+comes-behind r table batch shelf w (inr (stops, untouched)) = stops-behind r table batch shelf stops
+
+decided-faulty : (r : Request) (shelf : OverShelf) (w : Work) (d : Result Text Stop) → IsDecided r shelf w d → Faulty r shelf d
+decided-faulty r shelf w d is = record {
+  table = is.table_fault;
+  batch = is.batch_fault;
+  behind = λ e. record {
+    table = is.table;
+    table_is = is.table_is;
+    accepted = comes-behind r is.table is.batch shelf w (subst (λ (x : Result Text Stop). ComesTo r is.table is.batch shelf w x) e is.comes);
+  };
+}
 
 pub late-status : (due : ℕ) → IsRefused due → (2 ≤ due) × (due ≢ 6)
 late-status due (inl h) = (omega (arith, h), λ e. cc (h, e))
 late-status due (inr (inl h)) = (omega (arith, h), λ e. cc (h, e))
 late-status due (inr (inr h)) = (omega (arith, h), λ e. cc (h, e))
 
--- 3, 8 and 9
-pub stops-exactly : (due : ℕ) → IsRefused due → (asked : Option Request) (shelf : OverShelf) (w : Work) (d : Result Text Stop) (status : ℕ) (sink : OverSink) → IsDecision asked shelf w d → Prints d status sink
-    → StopsExactly due asked shelf status
-stops-exactly due refused asked shelf w d status sink is prints files held r for =
+-- 3, 8 and 9, by what excuses them
+exactly-by : (due : ℕ) → IsRefused due → (Fails : Type 0) (asked : Option Request) (shelf : OverShelf) (w : Work) (d : Result Text Stop) (status : ℕ) (sink : OverSink) → IsDecision asked shelf w d → Prints d status sink
+    → (files : List ℕ → Option (List ℕ)) → shelf.held ≡ Some files → (r : Request) → asked ≡ Some r
+    → (HasStatus due (stop_over r files) → EndsFirst r (text_in (table_source r.table) files) shelf d due status → (status ≡ due) ⊎ IsExcused Fails status shelf) → ComesExactly due (stop_over r files) Fails status shelf
+exactly-by due refused Fails asked shelf w d status sink is prints files held r for excuse =
     let comes = comes-told r files shelf w d held (decided-for asked r shelf w d for is) in
     let table = text_in (table_source r.table) files in
     let batch = text_in (batch_source r.batch) files in
@@ -331,26 +345,37 @@ stops-exactly due refused asked shelf w d status sink is prints files held r for
     record {
       only = λ e. let (s, d_is, by) = stopped asked shelf w d status sink is prints (omega (arith, e, late.0)) (λ h. late.1 (sym e ∙ h)) in
           first-only r table batch shelf w s due refused (sym e ∙ by) (subst (λ (x : Result Text Stop). ComesTo r table batch shelf w x) d_is comes);
-      always = first-always r table batch shelf w d status sink due comes prints;
+      always = λ h. excuse h (first-always r table batch shelf w d status sink due comes prints h);
     }
+
+pub early-refused : (due : ℕ) → IsEarly due → IsRefused due
+early-refused due (inl three) = inl three
+early-refused due (inr eight) = inr (inl eight)
+
+pub stops-early : (due : ℕ) → IsEarly due → (asked : Option Request) (shelf : OverShelf) (w : Work) (d : Result Text Stop) (status : ℕ) (sink : OverSink) → IsDecision asked shelf w d → Prints d status sink
+    → StopsExactly due FailsAtTable asked shelf sink status
+stops-early due early asked shelf w d status sink is prints files held r for =
+    exactly-by due (early-refused due early) (FailsAtTable r shelf sink status) asked shelf w d status sink is prints files held r for
+    (λ h ends. excused-early r (text_in (table_source r.table) files) (text_in (batch_source r.batch) files) shelf d status sink due (decided-faulty r shelf w d (decided-for asked r shelf w d for is)) prints early h ends)
+
+pub stops-at-batch : (asked : Option Request) (shelf : OverShelf) (w : Work) (d : Result Text Stop) (status : ℕ) (sink : OverSink) → IsDecision asked shelf w d → Prints d status sink → StopsExactly 9 FailsAtEither asked shelf sink status
+stops-at-batch asked shelf w d status sink is prints files held r for =
+    exactly-by 9 (inr (inr refl)) (FailsAtEither r shelf sink status) asked shelf w d status sink is prints files held r for
+    (λ h ends. excused-late r (text_in (table_source r.table) files) shelf d status sink 9 (decided-faulty r shelf w d (decided-for asked r shelf w d for is)) prints ends)
 
 -- 4 where a file is missing
 pub misses-file : (asked : Option Request) (shelf : OverShelf) (w : Work) (d : Result Text Stop) (status : ℕ) (sink : OverSink) → IsDecision asked shelf w d → Prints d status sink → MissesFile asked shelf status
 misses-file asked shelf w d status sink is prints files held r for h =
-    elim (first-always r (text_in (table_source r.table) files) (text_in (batch_source r.batch) files) shelf w d status sink 4
-    (comes-told r files shelf w d held (decided-for asked r shelf w d for is)) prints h) [
-      | inl four ↦ inl four
-      | inr (inl seven) ↦ inr seven
-      | inr (inr (four, rose)) ↦ inl four
-    ]
+    let table = text_in (table_source r.table) files in
+    misses r table shelf d status sink prints (first-always r table (text_in (batch_source r.batch) files) shelf w d status sink 4 (comes-told r files shelf w d held (decided-for asked r shelf w d for is)) prints h)
 
-pub fails-to-read : (asked : Option Request) (shelf : OverShelf) (w : Work) (d : Result Text Stop) (status : ℕ) (sink : OverSink) → IsDecision asked shelf w d → Prints d status sink → FailsToRead asked shelf status
+pub fails-to-read : (asked : Option Request) (shelf : OverShelf) (w : Work) (d : Result Text Stop) (status : ℕ) (sink : OverSink) → IsDecision asked shelf w d → Prints d status sink → FailsToRead asked shelf sink status
 fails-to-read asked shelf w d status sink is prints four r for =
     let (s, e, by) = stopped asked shelf w d status sink is prints (omega (arith, four)) (λ h. cc (h, four)) in
-    let decided = decided-for asked r shelf w d for is in
+    let faulty = decided-faulty r shelf w d (decided-for asked r shelf w d for is) in
     elim (is-fault s (sym by ∙ four)) [
-      | inl table ↦ inl (decided.table_fault (e ∙ ap (λ (x : Stop). Err x) table))
-      | inr batch ↦ inr (decided.batch_fault (e ∙ ap (λ (x : Stop). Err x) batch))
+      | inl table ↦ inl (fails-at-table r shelf d status sink faulty prints (e ∙ ap (λ (x : Stop). Err x) table))
+      | inr batch ↦ inr (fails-at-batch r shelf d status sink faulty prints (e ∙ ap (λ (x : Stop). Err x) batch))
     ]
 
 -- what is known of the depot where a run stops for a piece
@@ -362,7 +387,7 @@ piece-fault r table batch shelf w s five (inl runs) = elim runs.comes [
 ]
 piece-fault r table batch shelf w s five (inr (inl first, untouched)) = absurd (first-before r table batch s first five)
 piece-fault r table batch shelf w s five (inr (inr (inl memory), untouched)) = cc (five, ap status_of memory)
-piece-fault r table batch shelf w s five (inr (inr (inr (fault, rose)), untouched)) = cc (five, fault-status s fault)
+piece-fault r table batch shelf w s five (inr (inr (inr (fault, rose)), untouched)) = cc (five, fault-status r table s fault)
 
 usage-stop : (w : Work) (d : Result Text Stop) (s : Stop) → (d ≡ Err stop.Usage) ⊎ (d ≡ Err stop.Memory) → d ≡ Err s → (s ≡ stop.Usage) ⊎ (s ≡ stop.Memory)
 usage-stop w d s (inl h) e = inl (cc (h, e))
@@ -458,15 +483,15 @@ keeps-promises asked over did (d, is, prints) =
       complete = is-complete asked over did d is prints;
       parts = is-for-all-parts asked over did d is prints;
       usage = is-usage-exactly asked over.shelf w d did.status over.sink is prints;
-      no_table = stops-exactly 3 (inl refl) asked over.shelf w d did.status over.sink is prints;
+      no_table = stops-early 3 (inl refl) asked over.shelf w d did.status over.sink is prints;
       read_fault = fails-to-read asked over.shelf w d did.status over.sink is prints;
       no_file = misses-file asked over.shelf w d did.status over.sink is prints;
       put_fault = put-fault-of asked over.shelf w d did.status over.sink is prints;
       write_fault = write-fault-of asked over.shelf w d did.status over.sink is prints;
       cut = keeps-headline-cut asked over did d is prints;
       no_memory = no-memory-of asked over.shelf w d did.status over.sink is prints;
-      frames = stops-exactly 8 (inr (inl refl)) asked over.shelf w d did.status over.sink is prints;
-      no_batch = stops-exactly 9 (inr (inr refl)) asked over.shelf w d did.status over.sink is prints;
+      frames = stops-early 8 (inr refl) asked over.shelf w d did.status over.sink is prints;
+      no_batch = stops-at-batch asked over.shelf w d did.status over.sink is prints;
       worked = leaves-its-work asked over did d is prints;
       idle = is-idle-elsewhere asked over did d is prints;
       licensed = counted.licensed;

@@ -1,5 +1,6 @@
 pub mod Losses
 pub mod Parts
+pub mod Failing
 pub mod Endings
 pub mod Words
 pub mod Jobs

@@ -16,7 +16,7 @@ use Rattle.run_policies.specs.Policies.{PolicyAt}
 use Rattle.run_policies.specs.declared.policy_run.PolicyRun.{PolicyRun}
 use Rattle.coop_run.specs.Comparing.{AllHaveWorked, AreComplete, AreForAllParts, AreLines, KeepsHeadlines, KeepsHeadlinesCut, LeavesAll}
 use Rattle.coop_run.specs.Devices.{Devices}
-use Rattle.coop_run.specs.Ending.{Prints}
+use Rattle.coop_run.specs.Ending.{FailsAtEither, FailsAtTable, Prints}
 use Rattle.coop_run.specs.Jobs.{Job, refused, alone, compared, asked_in, asked_to_read}
 use Rattle.coop_run.specs.Promises.{FailsToRead, IsComplete, IsForAllParts, IsUsageExactly, KeepsHeadline, KeepsHeadlineCut, LeavesItsWork, MissesFile, StopsExactly}
 use Rattle.coop_run.specs.Runs.{AreOfEach, AreOfOne, DidRuns, did_under, work_under}
@@ -110,10 +110,11 @@ pub record KeepsPromisesOn (job : Job) (over : Devices) (did : DidRuns) : Type 0
   pub parts : IsForAllPartsOn job over did
   -- 2: the words are refused, or, without a comparison, no policy of the name was handed in
   pub usage : IsUsageExactly (asked_in job) did.status
-  -- 3: the table is refused, or has too many chunks
-  pub no_table : StopsExactly 3 (asked_to_read job) over.shelf did.status
-  -- 4: the shelf failed, or lacks the name; always where it tells that it lacks the name, and nothing is refused before
-  pub read_fault : FailsToRead (asked_to_read job) over.shelf did.status
+  -- 3: the table is refused, or has too many chunks; only a shelf that failed while the table was read excuses it
+  pub no_table : StopsExactly 3 FailsAtTable (asked_to_read job) over.shelf over.sink did.status
+  -- 4: the shelf failed, or lacks the name, at the batch only where the table is accepted; always where it tells that it lacks the name, and
+  -- nothing is refused before
+  pub read_fault : FailsToRead (asked_to_read job) over.shelf over.sink did.status
   pub no_file : MissesFile (asked_to_read job) over.shelf did.status
   -- 5: the depot failed while pieces were put
   pub put_fault : did.status ≡ 5 → Rose over.depot.old.faults over.depot.new.faults
@@ -122,10 +123,10 @@ pub record KeepsPromisesOn (job : Job) (over : Devices) (did : DidRuns) : Type 0
   pub cut : KeepsHeadlineCutOn job over did
   -- 7: memory was wanting, and nothing is written
   pub no_memory : did.status ≡ 7 → over.sink.new ≡ over.sink.old
-  -- 8: there are too few frames, or too many words in them
-  pub frames : StopsExactly 8 (asked_to_read job) over.shelf did.status
+  -- 8: there are too few frames, or too many words in them; only a shelf that failed while the table was read excuses it
+  pub frames : StopsExactly 8 FailsAtTable (asked_to_read job) over.shelf over.sink did.status
   -- 9: the batch is too long, or has too many statements or scans
-  pub no_batch : StopsExactly 9 (asked_to_read job) over.shelf did.status
+  pub no_batch : StopsExactly 9 FailsAtEither (asked_to_read job) over.shelf over.sink did.status
   -- 0, 1 and 6, over every device: what the workers did
   pub worked : LeavesItsWorkOn job over did
   -- with 0, 1 and 6 there is one run, under the policy's name, or one for each policy, in their order; without a comparison no worker ran

@@ -10,7 +10,8 @@ use Rattle.scan_story.specs.Views.{past}
 use Rattle.scan_story.specs.declared.cause.Cause.{Cause}
 use Rattle.run_output.specs.Stops.{line_of, status_of}
 use Rattle.run_output.specs.declared.stop.Stop.{Stop}
-use Rattle.run_inputs.specs.Ending.{AreInputs}
+use Rattle.run_output.specs.declared.stop.Stop.TheVariants as stop
+use Rattle.run_inputs.specs.Ending.{AreInputs, HasTable, SourceFails}
 use Rattle.run_inputs.specs.Order.{first_stop}
 use Rattle.run_inputs.specs.Sources.{batch_source, table_source, text_in}
 use Rattle.run_inputs.specs.Statements.{statements_in}
@@ -31,11 +32,15 @@ IsWritten text sink = sink.new ≡ grown sink.old text
 abbrev pub IsCutShort : List ℕ → OverSink → Type 0
 IsCutShort text sink = (k : ℕ) × (k < length text) × (sink.new ≡ grown sink.old (take k text)) × Rose sink.before sink.now
 
+-- the line of a stop is written, or a prefix of it
+abbrev pub IsLineWritten : Stop → OverSink → Type 0
+IsLineWritten s sink = IsWritten (line_of s) sink ⊎ IsCutShort (line_of s) sink
+
 -- what a decision writes, and the status that is answered: the whole text and its status, or a front of it and 6;
 -- the stop's line, or a front of it, and the stop's status
 abbrev pub Prints : Result Text Stop → ℕ → OverSink → Type 0
 Prints (Ok o) status sink = ((status ≡ o.0) × IsWritten o.1 sink) ⊎ ((status ≡ 6) × IsCutShort o.1 sink)
-Prints (Err s) status sink = (status ≡ status_of s) × (IsWritten (line_of s) sink ⊎ IsCutShort (line_of s) sink)
+Prints (Err s) status sink = (status ≡ status_of s) × IsLineWritten s sink
 
 -- the table of values of a text
 abbrev pub values_of : List ℕ → Values
@@ -99,11 +104,28 @@ stop_over r files = first_stop r (text_in (table_source r.table) files) (text_in
 abbrev pub HasStatus : ℕ → Option Stop → Type 0
 HasStatus status why = (s : Stop) × (why ≡ Some s) × (status_of s ≡ status)
 
--- for want of memory the run ends with 7, and where the shelf failed with 4
-abbrev pub IsExcused : ℕ → OverShelf → Type 0
-IsExcused status shelf = (status ≡ 7) ⊎ ((status ≡ 4) × Rose shelf.before shelf.now)
+-- 4, since the shelf failed while the table was read
+pub record FailsAtTable (r : Request) (shelf : OverShelf) (sink : OverSink) (status : ℕ) : Type 0 where
+  pub status_is : status ≡ 4
+  pub fails : SourceFails shelf.held (table_source r.table) shelf.before shelf.now
+  pub line : IsLineWritten stop.TableFault sink
 
--- a run ends with this status exactly where its first stop has it, but for want of memory and where the shelf failed
-pub record ComesExactly (due : ℕ) (why : Option Stop) (status : ℕ) (shelf : OverShelf) : Type 0 where
+-- 4, since the shelf failed while the batch was read, behind a table that is accepted and has enough frames
+pub record FailsAtBatch (r : Request) (shelf : OverShelf) (sink : OverSink) (status : ℕ) : Type 0 where
+  pub status_is : status ≡ 4
+  pub fails : SourceFails shelf.held (batch_source r.batch) shelf.before shelf.now
+  pub behind : HasTable r shelf.held
+  pub line : IsLineWritten stop.BatchFault sink
+
+-- 4, since the shelf failed while the one or the other was read
+abbrev pub FailsAtEither : Request → OverShelf → OverSink → ℕ → Type 0
+FailsAtEither r shelf sink status = FailsAtTable r shelf sink status ⊎ FailsAtBatch r shelf sink status
+
+-- out of memory a run ends with 7, and where the shelf counted a fault and failed so, with 4
+abbrev pub IsExcused : Type 0 → ℕ → OverShelf → Type 0
+IsExcused Fails status shelf = (status ≡ 7) ⊎ (Rose shelf.before shelf.now × Fails)
+
+-- a run ends with this status exactly where its first stop has it, but out of memory and where the shelf failed so
+pub record ComesExactly (due : ℕ) (why : Option Stop) (Fails : Type 0) (status : ℕ) (shelf : OverShelf) : Type 0 where
   pub only : status ≡ due → HasStatus due why
-  pub always : HasStatus due why → (status ≡ due) ⊎ IsExcused status shelf
+  pub always : HasStatus due why → (status ≡ due) ⊎ IsExcused Fails status shelf

@@ -6,14 +6,12 @@ use Rattle.scan_story.specs.Causes.{Licensed}
 use Rattle.scan_story.specs.Spent.{reads}
 use Rattle.scan_story.specs.Views.{past}
 use Rattle.run_output.specs.declared.stop.Stop.{Stop}
-use Rattle.run_inputs.specs.Ending.{SourceFails}
-use Rattle.run_inputs.specs.Sources.{batch_source, table_source}
 use Rattle.run_decision.specs.Deciding.{HasWorked, IsDecision}
-use Rattle.run_decision.specs.Devices.{OverShelf}
+use Rattle.run_decision.specs.Devices.{OverShelf, OverSink}
 use Rattle.run_decision.specs.Running.{Text}
 use Rattle.coop_run.specs.Devices.{AreFaultless, AreHonest, Devices}
 use Rattle.coop_run.specs.Did.{Did, work_of}
-use Rattle.coop_run.specs.Ending.{ComesExactly, HasStatus, Headline, IsCutShort, IsWritten, Prints, WritesAll, WritesForAnyParts, stop_over}
+use Rattle.coop_run.specs.Ending.{ComesExactly, FailsAtEither, FailsAtTable, HasStatus, Headline, IsCutShort, IsWritten, Prints, WritesAll, WritesForAnyParts, stop_over}
 
 -- THE HEADLINE: with 0 and 1 over honest devices it holds of a text, and this text is written
 abbrev pub KeepsHeadline : Option Request → Devices → Did → Type 0
@@ -42,15 +40,19 @@ pub record IsUsageExactly (asked : Option Request) (status : ℕ) : Type 0 where
   pub only : status ≡ 2 → asked ≡ None
   pub always : asked ≡ None → (status ≡ 2) ⊎ (status ≡ 7)
 
--- over a shelf that tells what it holds, this status exactly where the first stop in the order of the work has it, but for want of memory
--- and where the shelf failed
-abbrev pub StopsExactly : ℕ → Option Request → OverShelf → ℕ → Type 0
-StopsExactly due asked shelf status = (files : List ℕ → Option (List ℕ)) → shelf.held ≡ Some files → (r : Request) → asked ≡ Some r → ComesExactly due (stop_over r files) status shelf
+-- how a shelf fails that excuses a status
+abbrev pub Failing : Type 1
+Failing = Request → OverShelf → OverSink → ℕ → Type 0
 
--- 4 only where the shelf failed, or lacks the name
-abbrev pub FailsToRead : Option Request → OverShelf → ℕ → Type 0
-FailsToRead asked shelf status = status ≡ 4 → (r : Request) → asked ≡ Some r
-    → SourceFails shelf.held (table_source r.table) shelf.before shelf.now ⊎ SourceFails shelf.held (batch_source r.batch) shelf.before shelf.now
+-- over a shelf that tells what it holds, this status exactly where the first stop in the order of the work has it, but for want of memory
+-- and where the shelf failed so
+abbrev pub StopsExactly : ℕ → Failing → Option Request → OverShelf → OverSink → ℕ → Type 0
+StopsExactly due Fails asked shelf sink status = (files : List ℕ → Option (List ℕ)) → shelf.held ≡ Some files → (r : Request) → asked ≡ Some r
+    → ComesExactly due (stop_over r files) (Fails r shelf sink status) status shelf
+
+-- 4 only where the shelf failed, or lacks the name: at the table, or, where the table is accepted, at the batch; its line says which
+abbrev pub FailsToRead : Option Request → OverShelf → OverSink → ℕ → Type 0
+FailsToRead asked shelf sink status = status ≡ 4 → (r : Request) → asked ≡ Some r → FailsAtEither r shelf sink status
 
 -- 4, or for want of memory 7, always where the shelf tells that it lacks the name, and nothing is refused before
 abbrev pub MissesFile : Option Request → OverShelf → ℕ → Type 0
@@ -82,10 +84,11 @@ pub record KeepsPromises (asked : Option Request) (over : Devices) (did : Did) :
   pub parts : IsForAllParts asked over did
   -- 2: the words are refused
   pub usage : IsUsageExactly asked did.status
-  -- 3: the table is refused, or has too many chunks
-  pub no_table : StopsExactly 3 asked over.shelf did.status
-  -- 4: the shelf failed, or lacks the name; always where it tells that it lacks the name, and nothing is refused before
-  pub read_fault : FailsToRead asked over.shelf did.status
+  -- 3: the table is refused, or has too many chunks; only a shelf that failed while the table was read excuses it
+  pub no_table : StopsExactly 3 FailsAtTable asked over.shelf over.sink did.status
+  -- 4: the shelf failed, or lacks the name, at the batch only where the table is accepted; always where it tells that it lacks the name, and
+  -- nothing is refused before
+  pub read_fault : FailsToRead asked over.shelf over.sink did.status
   pub no_file : MissesFile asked over.shelf did.status
   -- 5: the depot failed while pieces were put
   pub put_fault : did.status ≡ 5 → Rose over.depot.old.faults over.depot.new.faults
@@ -94,10 +97,10 @@ pub record KeepsPromises (asked : Option Request) (over : Devices) (did : Did) :
   pub cut : KeepsHeadlineCut asked over did
   -- 7: memory was wanting, and nothing is written
   pub no_memory : did.status ≡ 7 → over.sink.new ≡ over.sink.old
-  -- 8: there are too few frames, or too many words in them
-  pub frames : StopsExactly 8 asked over.shelf did.status
+  -- 8: there are too few frames, or too many words in them; only a shelf that failed while the table was read excuses it
+  pub frames : StopsExactly 8 FailsAtTable asked over.shelf over.sink did.status
   -- 9: the batch is too long, or has too many statements or scans
-  pub no_batch : StopsExactly 9 asked over.shelf did.status
+  pub no_batch : StopsExactly 9 FailsAtEither asked over.shelf over.sink did.status
   -- 0, 1 and 6, over every device: what the workers did
   pub worked : LeavesItsWork asked over did
   -- no worker ran but with 0, 1, 6 and 7

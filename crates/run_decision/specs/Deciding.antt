@@ -42,10 +42,10 @@ ComesOf i w (Ok o) = IsRunOf i w o
 ComesOf i w (Err s) = LacksMemory i w s ⊎ IsNotStored i w s
 
 -- why a run stops before its batch runs, by the texts of its table and its batch: the first refusal in the order of the work,
--- or the shelf failed, or memory was wanting
+-- or memory was wanting, or the shelf failed in that order: while the batch was read only where the table is accepted
 abbrev pub StopsBefore : Request → Option (List ℕ) → Option (List ℕ) → OverShelf → Result Text Stop → Type 0
 StopsBefore r table batch shelf (Ok o) = ⊥
-StopsBefore r table batch shelf (Err s) = (first_stop r table batch ≡ Some s) ⊎ (s ≡ stop.Memory) ⊎ (IsReadFault s × Rose shelf.before shelf.now)
+StopsBefore r table batch shelf (Err s) = (first_stop r table batch ≡ Some s) ⊎ (s ≡ stop.Memory) ⊎ (IsReadFault r table s × Rose shelf.before shelf.now)
 
 -- the batch runs where nothing stops the run before
 pub record Runs (r : Request) (table batch : Option (List ℕ)) (w : Work) (d : Result Text Stop) : Type 0 where

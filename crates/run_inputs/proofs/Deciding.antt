@@ -13,7 +13,7 @@ use Rattle.run_output.specs.declared.stop.Stop.{Stop}
 use Rattle.run_output.specs.declared.stop.Stop.TheVariants as stop
 use Rattle.table_core.specs.Table.{TableRows}
 use Rattle.table_core.specs.Value.{row_values}
-use Rattle.run_inputs.specs.Ending.{AreInputs, Ends, IsRead, IsReadFault, IsReadWith, IsTextOf, IsTextRead, SourceFails}
+use Rattle.run_inputs.specs.Ending.{AreInputs, Ends, EndsOver, IsRead, IsReadFault, IsReadWith, IsTextOf, IsTextRead, SourceFails}
 use Rattle.run_inputs.specs.Order.{batch_stop, first_stop, load_stop, short_batch_stop, short_table_stop, size_stop, stop_in, table_size_stop, table_stop}
 use Rattle.run_inputs.specs.Sources.{Source, made, stored, batch_source, table_source, text_in}
 use Rattle.run_inputs.proofs.Texts.{not-past, some-text, text-told}
@@ -97,7 +97,7 @@ table-refused Is r held before now s (text, is, why) =
     let (batch, batch_is) = some-text held (batch_source r.batch) in
     record { table = text; batch = batch; table_is = is; batch_is = batch_is; ends = go why batch }
   where
-    go : Refuses (stop_in stop.TableFault (table_stop r) text) stop.TableFault before now s → (batch : Option (List ℕ)) → Ends (first_stop r text batch) (Is text batch) IsReadFault before now (Err s)
+    go : Refuses (stop_in stop.TableFault (table_stop r) text) stop.TableFault before now s → (batch : Option (List ℕ)) → Ends (first_stop r text batch) (Is text batch) (IsReadFault r text) before now (Err s)
     go (inl cause) batch = inl (first-of-table r text batch s cause)
     go (inr (inl memory)) batch = inr (inl memory)
     go (inr (inr (fault, rose))) batch = inr (inr (inl fault, rose))
@@ -109,10 +109,10 @@ pub batch-refused : {T : Type 0} (Is : Option (List ℕ) → Option (List ℕ) �
 batch-refused Is r held held' before mid now s table table_is passes same le (batch, is, why) =
     record { table = table; batch = batch; table_is = table_is; batch_is = subst (λ (h : Held). IsTextOf h (batch_source r.batch) batch) same is; ends = go why }
   where
-    go : Refuses (stop_in stop.BatchFault (batch_stop r) batch) stop.BatchFault mid now s → Ends (first_stop r table batch) (Is table batch) IsReadFault before now (Err s)
+    go : Refuses (stop_in stop.BatchFault (batch_stop r) batch) stop.BatchFault mid now s → Ends (first_stop r table batch) (Is table batch) (IsReadFault r table) before now (Err s)
     go (inl cause) = inl (first-of-batch r table batch passes ∙ cause)
     go (inr (inl memory)) = inr (inl memory)
-    go (inr (inr (fault, rose))) = inr (inr (inr fault, rose-since before mid now le rose))
+    go (inr (inr (fault, rose))) = inr (inr (inr (fault, passes), rose-since before mid now le rose))
 
 -- a run whose table and batch pass
 pub both-pass : {T : Type 0} (Is : Option (List ℕ) → Option (List ℕ) → T → Type 0) (r : Request) (held held' : Held) (before now : ℕ) (table batch : Option (List ℕ)) (i : T) → IsTextOf held (table_source r.table) table
@@ -126,15 +126,17 @@ both-pass Is r held held' before now table batch i table_is passes same batch_is
   ends = (first-of-batch r table batch passes ∙ passes', inputs);
 }
 
+-- what these texts of the table and of the batch decide
+abbrev pub EndsWith : Request → ℕ → ℕ → Result Inputs Stop → Option (List ℕ) → Option (List ℕ) → Type 0
+EndsWith r before now result table batch = Ends (first_stop r table batch) (AreInputs r table batch) (IsReadFault r table) before now result
+
 -- where the shelf tells what it holds, its texts decide
-pub told-ends : (r : Request) (held : Held) (before now : ℕ) (result : Result Inputs Stop) (files : List ℕ → Option (List ℕ)) → held ≡ Some files → IsRead r held before now result
-    → Ends (first_stop r (text_in (table_source r.table) files) (text_in (batch_source r.batch) files))
-    (AreInputs r (text_in (table_source r.table) files) (text_in (batch_source r.batch) files)) IsReadFault before now result
+pub told-ends : (r : Request) (held : Held) (before now : ℕ) (result : Result Inputs Stop) (files : List ℕ → Option (List ℕ)) → held ≡ Some files → IsRead r held before now result → EndsOver r files before now result
 told-ends r held before now result files told read =
     let table = text-told (table_source r.table) files read.table (subst (λ (h : Held). IsTextOf h (table_source r.table) read.table) told read.table_is) in
     let batch = text-told (batch_source r.batch) files read.batch (subst (λ (h : Held). IsTextOf h (batch_source r.batch) read.batch) told read.batch_is) in
-    subst (λ (b : Option (List ℕ)). Ends (first_stop r (text_in (table_source r.table) files) b) (AreInputs r (text_in (table_source r.table) files) b) IsReadFault before now result) batch
-    (subst (λ (t : Option (List ℕ)). Ends (first_stop r t read.batch) (AreInputs r t read.batch) IsReadFault before now result) table read.ends)
+    subst (λ (b : Option (List ℕ)). EndsWith r before now result (text_in (table_source r.table) files) b) batch
+    (subst (λ (t : Option (List ℕ)). EndsWith r before now result t read.batch) table read.ends)
 
 -- texts that are short enough, and that nothing else stops, give a run its inputs
 pub none-stops : (r : Request) (table batch : List ℕ) → length table ≤ 268435456 → length batch ≤ 1048576 → short_table_stop r table ≡ None → short_batch_stop r batch ≡ None

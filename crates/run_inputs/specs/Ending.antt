@@ -9,8 +9,8 @@ use Rattle.csv_load.specs.Rows.{table_records}
 use Rattle.run_output.specs.declared.stop.Stop.{Stop}
 use Rattle.run_output.specs.declared.stop.Stop.TheVariants as stop
 use Rattle.table_core.specs.Value.{places_of}
-use Rattle.run_inputs.specs.Order.{first_stop, frames_given, stop_in}
-use Rattle.run_inputs.specs.Sources.{Source, made, stored, batch_source, table_source}
+use Rattle.run_inputs.specs.Order.{first_stop, frames_given, stop_in, table_stop}
+use Rattle.run_inputs.specs.Sources.{Source, made, stored, batch_source, table_source, text_in}
 use Rattle.run_inputs.specs.Statements.{statements_in}
 use Rattle.run_output.specs.Outcomes.{ComeTo}
 use Rattle.run_output.specs.declared.outcome.Outcome.{Outcome}
@@ -25,8 +25,13 @@ abbrev pub Ends : {T : Type 0} → Option Stop → (T → Type 0) → (Stop → 
 Ends why Is IsFault before now (Ok x) = (why ≡ None) × Is x
 Ends why Is IsFault before now (Err s) = (why ≡ Some s) ⊎ (s ≡ stop.Memory) ⊎ (IsFault s × Rose before now)
 
-abbrev pub IsReadFault : Stop → Type 0
-IsReadFault s = (s ≡ stop.TableFault) ⊎ (s ≡ stop.BatchFault)
+-- the table is accepted: its text is there, and neither the text nor the frames stop the run
+abbrev pub AcceptsTable : Request → Option (List ℕ) → Type 0
+AcceptsTable r table = stop_in stop.TableFault (table_stop r) table ≡ None
+
+-- the shelf failed in the order of the work: while the table was read, or, behind a table that is accepted, while the batch was
+abbrev pub IsReadFault : Request → Option (List ℕ) → Stop → Type 0
+IsReadFault r table s = (s ≡ stop.TableFault) ⊎ ((s ≡ stop.BatchFault) × AcceptsTable r table)
 
 -- ---- texts
 
@@ -49,6 +54,12 @@ SourceFails held (stored name) before now = ReadFails held name before now
 abbrev pub IsTextRead : Held → Source → Stop → (List ℕ → Option Stop) → ℕ → ℕ → Result (List ℕ) Stop → Type 0
 IsTextRead held source fault why before now result = (text : Option (List ℕ)) × IsTextOf held source text
     × Ends (stop_in fault why text) (λ b. text ≡ Some b) (λ s. s ≡ fault) before now result
+
+-- over every shelf: the table is accepted with some text, which is the one that the shelf tells where it tells any
+pub record HasTable (r : Request) (held : Held) : Type 0 where
+  pub table : Option (List ℕ)
+  pub table_is : IsTextOf held (table_source r.table) table
+  pub accepted : AcceptsTable r table
 
 -- a stop that the table can be the cause of, and one that the batch can be the cause of
 abbrev pub IsOfTable : Stop → Type 0
@@ -97,7 +108,14 @@ pub record IsReadWith {T : Type 0} (Is : Option (List ℕ) → Option (List ℕ)
   pub batch : Option (List ℕ)
   pub table_is : IsTextOf held (table_source r.table) table
   pub batch_is : IsTextOf held (batch_source r.batch) batch
-  pub ends : Ends (first_stop r table batch) (Is table batch) IsReadFault before now result
+  pub ends : Ends (first_stop r table batch) (Is table batch) (IsReadFault r table) before now result
+
+-- where the shelf tells its files: what they give a run, or why it stops
+abbrev pub EndsOver : Request → (List ℕ → Option (List ℕ)) → ℕ → ℕ → Result Inputs Stop → Type 0
+EndsOver r files before now result =
+    let table = text_in (table_source r.table) files in
+    let batch = text_in (batch_source r.batch) files in
+    Ends (first_stop r table batch) (AreInputs r table batch) (IsReadFault r table) before now result
 
 -- they give a run these inputs
 abbrev pub IsRead : Request → Held → ℕ → ℕ → Result Inputs Stop → Type 0

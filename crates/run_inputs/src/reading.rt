@@ -1,8 +1,8 @@
 // From a request and a shelf to what a run is given.
 ghost use Rattle.std.specs.Prelude.{◌≡◌, ◌≢◌, ◌≤◌, ◌⊎◌, All, List, Option, ℕ, Err, IfErr, IfOk, None, Some, length};
-ghost use Rattle.run_inputs.specs.Ending.{AreInputs, AreKept, Ends, IsBatch, IsOfBatch, IsOfTable, IsRead, IsReadAndKept, IsReadFault, IsTable, IsTextOf, SourceFails};
+ghost use Rattle.run_inputs.specs.Ending.{AreInputs, Ends, EndsOver, IsBatch, IsOfBatch, IsOfTable, IsRead, IsReadAndKept, IsTable, IsTextOf, SourceFails};
 ghost use Rattle.run_inputs.specs.Order.{batch_stop, first_stop, short_batch_stop, short_table_stop, stop_in, table_stop};
-ghost use Rattle.run_inputs.specs.Sources.{batch_source, table_source, text_in};
+ghost use Rattle.run_inputs.specs.Sources.{batch_source, table_source};
 ghost use Rattle.run_inputs.specs.Statements.{spans_in};
 ghost use Rattle.command_words.specs.Limits.{IsWithinLimits};
 ghost use Rattle.command_words.specs.Views.{request_view};
@@ -28,12 +28,13 @@ use table_core::MOST_COLUMNS;
 /// What a request and the shelf give a run, or why the run stops: the first refusal in the order table, chunks, frames,
 /// batch, statements. The numbers of the request lie within their limits.
 ///
-/// The keys are those of the hash with which `load` looks texts up. No call changes what the shelf holds. After a stop
-/// nothing is left.
+/// The keys are those of the hash with which `load` looks texts up. No call changes what the shelf holds. The table's
+/// text is let go before the batch is read. After a stop nothing is left.
 ///
 /// # Errors
 ///
-/// `TableFault` and `BatchFault` only where the shelf failed. `Memory` may come in place of any other answer. Each other
+/// `TableFault` and `BatchFault` only where the shelf failed, `BatchFault` only behind a table that is accepted and whose
+/// frames are enough. `Memory` may come in place of any other answer. Each other
 /// stop comes exactly where it is the first that holds. `Usage` and `NotStored` never come.
 pub fn inputs_of<F: Shelf>(
     alloc: Global,
@@ -44,8 +45,7 @@ pub fn inputs_of<F: Shelf>(
     requires limits { IsWithinLimits (request_view request.now) }
     // where the shelf tells what it holds: what the request and the files give, but for faults and want of memory
     ensures told { (files : List ℕ → Option (List ℕ)) → F.held shelf.old ≡ Some files
-        → Ends (first_stop (request_view request.now) (text_in (table_source request.now.table.now) files) (text_in (batch_source request.now.batch.now) files))
-        (AreInputs (request_view request.now) (text_in (table_source request.now.table.now) files) (text_in (batch_source request.now.batch.now) files)) IsReadFault (F.faults shelf.old) (F.faults shelf.new) result }
+        → EndsOver (request_view request.now) files (F.faults shelf.old) (F.faults shelf.new) result }
     ensures no_usage { result ≢ Err stop.Usage }
     // 4: the shelf failed
     ensures table_fault { result ≡ Err stop.TableFault
@@ -60,11 +60,11 @@ pub fn inputs_of<F: Shelf>(
     ensures held { F.held shelf.new ≡ F.held shelf.old }
     ensures later { F.faults shelf.old ≤ F.faults shelf.new }
 {
-    drop_texts(alloc, keys, request, shelf)
+    read_in_turn(alloc, keys, request, shelf)
 }
 
 // The same with the clause from which the first follows.
-fn drop_texts<F: Shelf>(
+fn read_in_turn<F: Shelf>(
     alloc: Global,
     keys: RandomState,
     request: &Request<'_>,
@@ -83,11 +83,15 @@ fn drop_texts<F: Shelf>(
     ensures held { F.held shelf.new ≡ F.held shelf.old }
     ensures later { F.faults shelf.old ≤ F.faults shelf.new }
 {
-    let (inputs, _) = read_inputs(alloc, keys, request, shelf)?;
-    Ok(inputs)
+    let (loaded, frames, text) = read_table(alloc, keys, request, shelf)?;
+    // It may have 256 MiB, and the batch doesn't ask for it.
+    drop(text);
+    let (outcomes, _) = read_batch(alloc, request, &loaded, shelf)?;
+    Ok(inputs_with(request, loaded, frames, outcomes))
 }
 
-/// The same, and the texts that were read, for runs to come: `inputs_again` makes the inputs of them once more.
+/// The same, and the texts that were read, for runs to come: `inputs_again` makes the inputs of them once more. So the
+/// table's text is there while the batch is read.
 pub fn read_inputs<F: Shelf>(
     alloc: Global,
     keys: RandomState,

@@ -4,4 +4,4 @@ use Rattle.run_inputs.proofs.reading.inputs_of.Goals as goal
 
 pub returns-clause-told : goal.returns-clause-told
 returns-clause-told g c files held =
-    told-ends (request_view c.args.request.now) (g.F.Shelf.held c.args.shelf.now) _ _ c.drop_texts.result files held c.drop_texts.ensures.read
+    told-ends (request_view c.args.request.now) (g.F.Shelf.held c.args.shelf.now) _ _ c.read_in_turn.result files held c.read_in_turn.ensures.read
