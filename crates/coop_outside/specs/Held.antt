@@ -26,6 +26,11 @@ ReadsAt held name place (Ok n) buf = (n ≤ length buf)
     × ((bytes : List ℕ) → Holds held name bytes → (take n buf ≡ take n (drop place bytes)) × (n ≡ 0 → 0 < length buf → length bytes ≤ place))
 ReadsAt held name place (Err e) buf = ⊤
 
+-- how many bytes a read gave
+abbrev pub count_of : Result ℕ Failed → ℕ
+count_of (Ok n) = n
+count_of (Err e) = 0
+
 -- a read fails only where the count rose, or where the shelf tells that it lacks the name
 abbrev pub ReadFails : Held → List ℕ → ℕ → ℕ → Type 0
 ReadFails held name before now = Rose before now ⊎ Lacks held name

@@ -53,6 +53,8 @@ impl<R: Files<File = File> + AllocGlobal + Drop> Shelf for DiskShelf<R> {
 
     ghost faults = { λ s. s.faults };
 
+    ghost given = { λ s. 0 };
+
     fn read_at(&mut self, name: &str, place: u64, buf: &mut [u8]) -> Result<usize, Failed> {
         match self.read_part(name, place, buf) {
             Ok(count) => Ok(count),

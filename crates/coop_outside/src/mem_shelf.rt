@@ -1,8 +1,8 @@
 // Files in memory, for tests.
-ghost use Rattle.std.specs.Prelude.{◌≡◌, ◌≤◌, ◌<◌, ◌&&◌, length, take, drop, not, is_ok, is_some, OnErr};
+ghost use Rattle.std.specs.Prelude.{◌≡◌, ◌≤◌, ◌<◌, ◌+◌, ◌&&◌, length, take, drop, not, is_ok, is_some, OnErr};
 ghost use Rattle.std.specs.Option.{option_copied};
 ghost use Rattle.coop_outside.specs.Files.{file_of, held_in};
-ghost use Rattle.coop_outside.specs.Held.{ReadFails, ReadsAt};
+ghost use Rattle.coop_outside.specs.Held.{ReadFails, ReadsAt, count_of};
 ghost use Rattle.coop_outside.specs.Listed.{counted, counted_if, is_listed};
 
 use crate::bytes::Bytes;
@@ -56,10 +56,13 @@ impl Shelf for MemShelf {
 
     ghost faults = { λ s. s.faults };
 
+    ghost given = { λ s. 0 };
+
     fn read_at(&mut self, name: &str, place: u64, buf: &mut [u8]) -> Result<usize, Failed>
         ensures reads { ReadsAt (held_in self.old.files.items) name.now place result buf.new }
         ensures held { held_in self.new.files.items ≡ held_in self.old.files.items }
         ensures later { self.old.faults ≤ self.new.faults }
+        ensures given { 0 ≤ 0 + count_of result }
         ensures cause { OnErr result (ReadFails (held_in self.old.files.items) name.now self.old.faults
             self.new.faults) }
         // it fails where the call is listed or the name isn't there, and nowhere else

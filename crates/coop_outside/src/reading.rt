@@ -1,5 +1,5 @@
 // All the bytes of a name, up to a limit.
-ghost use Rattle.std.specs.Prelude.{◌≡◌, ◌≤◌, ◌<◌, List, ℕ, IfOk, IfErr, length, vec_len, ◌+◌};
+ghost use Rattle.std.specs.Prelude.{◌≡◌, ◌≤◌, ◌<◌, List, ℕ, IfOk, IfErr, OnOk, length, vec_len, ◌+◌};
 ghost use Rattle.coop_outside.specs.Held.{Holds, Lacks, ReadFails, ReadsMore};
 ghost use Rattle.coop_outside.specs.declared.reading.ReadFault.TheVariants.{TooLong, Memory};
 
@@ -69,6 +69,8 @@ fn read_more<F: Shelf>(
     ensures not_long { IfErr result (λ e. (l : ℕ) → e ≡ TooLong l → ⊥) }
     ensures held { F.held shelf.new ≡ F.held shelf.old }
     ensures later { F.faults shelf.old ≤ F.faults shelf.new }
+    ensures given { F.given shelf.new ≤ F.given shelf.old + length part.old }
+    ensures kept { OnOk result (F.given shelf.new + length bytes.old.items ≤ F.given shelf.old + length bytes.new.items) }
 {
     match shelf.read_at(name, bytes.len() as u64, part) {
         Ok(count) => {
@@ -80,7 +82,7 @@ fn read_more<F: Shelf>(
 }
 
 /// All bytes of a name, if they are at most `limit`, which is counted in bytes. It reads in pieces of
-/// up to 256 KiB and takes no more than one byte past the limit. `Fault` is only said where the shelf
+/// up to 256 KiB, and the shelf gives no more than one byte past the limit. `Fault` is only said where the shelf
 /// failed in this call, `TooLong` only where more than `limit` bytes of the name were read; after each
 /// of them the shelf holds what it held.
 pub fn read_all<F: Shelf>(
@@ -98,6 +100,7 @@ pub fn read_all<F: Shelf>(
         → (l ≡ limit) × ((told : List ℕ) → Holds (F.held shelf.old) name.now told → limit < length told) × (Lacks (F.held shelf.old) name.now → ⊥)) }
     ensures held { F.held shelf.new ≡ F.held shelf.old }
     ensures later { F.faults shelf.old ≤ F.faults shelf.new }
+    ensures few { F.given shelf.new ≤ F.given shelf.old + limit + 1 }
 {
     let mut block = zeroes(alloc, BLOCK)?;
     let mut bytes = Vec::new(alloc);

@@ -1,6 +1,6 @@
 // Where the bytes of a name are read.
-ghost use Rattle.std.specs.Prelude.{◌≡◌, ◌≤◌, ℕ, OnErr};
-ghost use Rattle.coop_outside.specs.Held.{Held, ReadFails, ReadsAt};
+ghost use Rattle.std.specs.Prelude.{◌≡◌, ◌≤◌, ◌+◌, ℕ, OnErr};
+ghost use Rattle.coop_outside.specs.Held.{Held, ReadFails, ReadsAt, count_of};
 
 use crate::failed::Failed;
 
@@ -12,6 +12,9 @@ pub trait Shelf {
     /// How many faults there were; the count never falls, and stands still at 2^64 - 1.
     ghost faults: { Self → ℕ };
 
+    /// How many bytes all reads gave, where the shelf counts them: it counts no more than a read gave.
+    ghost given: { Self → ℕ };
+
     /// Reads bytes of a name from a place on, counted in bytes from 0, into the front of `buf`, and says
     /// how many. `Ok(0)` with room in `buf` means that the name ends at or before the place. After an
     /// `Err` nothing is known of `buf`.
@@ -19,5 +22,6 @@ pub trait Shelf {
         ensures reads { ReadsAt (held self.old) name.now place result buf.new }
         ensures held { held self.new ≡ held self.old }
         ensures later { faults self.old ≤ faults self.new }
+        ensures given { given self.new ≤ given self.old + count_of result }
         ensures cause { OnErr result (ReadFails (held self.old) name.now (faults self.old) (faults self.new)) };
 }

@@ -19,11 +19,12 @@ fn shelf_of(alloc: Global, fail_read: u64) -> Result<MemShelf, Fail> {
     })
 }
 
-// Gives at most `most` bytes a read.
+// Gives at most `most` bytes a read, and counts what it gave.
 #[derive(Drop)]
 struct ShortShelf {
     inner: MemShelf,
     most: usize,
+    given: u64,
 }
 
 impl Shelf for ShortShelf {
@@ -31,10 +32,15 @@ impl Shelf for ShortShelf {
 
     ghost faults = { λ s. s.inner.faults };
 
+    ghost given = { λ s. s.given };
+
     fn read_at(&mut self, name: &str, place: u64, buf: &mut [u8]) -> Result<usize, Failed> {
         let room = buf.len().min(self.most);
         match self.inner.read_at(name, place, &mut buf[..room]) {
-            Ok(count) => Ok(count),
+            Ok(count) => {
+                self.given = self.given.saturating_add(count as u64);
+                Ok(count)
+            }
             Err(_) => {
                 self.inner.faults = self.inner.faults.saturating_add(1);
                 Err(Failed)
@@ -80,8 +86,36 @@ fn reads_all_up_to_the_limit(rt: HostRuntime) -> Result<(), Fail> {
 fn reads_all_where_each_read_gives_little(rt: HostRuntime) -> Result<(), Fail> {
     for most in [1, 7, 18, 19, 20] {
         let inner = shelf_of(rt.alloc(), 0)?;
-        let mut shelf = ShortShelf { inner, most };
+        let mut shelf = ShortShelf {
+            inner,
+            most,
+            given: 0,
+        };
         assert_eq!(rt; size_read(rt.alloc(), &mut shelf, "a", 19), Ok((19, true)));
+    }
+    Ok(())
+}
+
+// The limit, the most bytes that a read gives, and how many bytes are given of a text of 19.
+const GIVEN: [(u64, usize, u64); 6] = [
+    (0, 100, 1),
+    (5, 100, 6),
+    (5, 4, 6),
+    (5, 1, 6),
+    (18, 100, 19),
+    (19, 100, 19),
+];
+
+#[test]
+fn a_shelf_gives_one_byte_past_the_limit_and_no_more(rt: HostRuntime) -> Result<(), Fail> {
+    for (limit, most, given) in GIVEN {
+        let mut shelf = ShortShelf {
+            inner: shelf_of(rt.alloc(), 0)?,
+            most,
+            given: 0,
+        };
+        let got = size_read(rt.alloc(), &mut shelf, "a", limit);
+        assert_eq!(rt; (got.is_ok(), shelf.given), (limit == 19, given));
     }
     Ok(())
 }

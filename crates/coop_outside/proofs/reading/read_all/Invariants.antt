@@ -8,6 +8,7 @@ invariant-loop-bytes g l = record {
   within : vec_len l.bytes ≤ l.limit;
   held : g.F.Shelf.held l.shelf ≡ g.F.Shelf.held l.fn.shelf;
   later : g.F.Shelf.faults l.fn.shelf ≤ g.F.Shelf.faults l.shelf;
+  given : g.F.Shelf.given l.shelf ≤ g.F.Shelf.given l.fn.shelf + vec_len l.bytes;
   so_far : (told : List ℕ) → Holds (g.F.Shelf.held l.fn.shelf) l.name told → l.bytes.items ≡ take (vec_len l.bytes) told;
 }
 
