@@ -28,7 +28,7 @@ use Rattle.batch_plan.proofs.Rises.{rises_from, rises_to, rises_on, is_rising, p
 
 -- Numbers
 
-abbrev numbers : List Scan → List ℕ
+abbrev pub numbers : List Scan → List ℕ
 numbers ks = map (λ (k : Scan). k.number) ks
 
 numbers_joined : (ks js : List Scan) → numbers (ks ++ js) ≡ numbers ks ++ numbers js
@@ -70,6 +70,10 @@ module _ (workers parts : ℕ) where
       rw (numbers_joined mine later) (rises_on ((start - 1) * parts + 1) (numbers mine) (scan_number parts q (0 + parts)) (numbers later) 257
       (rises_from (scan_number parts q 0) ((start - 1) * parts + 1) (numbers mine) (scan_number parts q (0 + parts)) (omega (arith, before)) (numbers_of_parts t place 0 parts))
       (rises_from ((q + 1 - 1) * parts + 1) (scan_number parts q (0 + parts)) (numbers later) 257 (omega (arith, same, whole)) rest))
+
+pub scans_rise : (workers parts : ℕ) (tasks : List Task) → Rising 1 (map (λ (t : Task). t.query) tasks) 257 → AllByRecursion (λ (t : Task). t.query * parts ≤ 256) tasks → Rising 1 (numbers (scans workers parts tasks)) 257
+scans_rise workers parts tasks up few =
+    rises_from ((1 - 1) * parts + 1) 1 (numbers (scans workers parts tasks)) 257 (omega arith) (numbers_rise workers parts tasks 0 1 257 (omega arith) (omega arith) up few)
 
 -- needs with rising numbers are distinct
 apart : (x start : ℕ) (ns : List asked.Need) (end : ℕ) → x < start → Rising start (map (λ (n : asked.Need). n.query) ns) end → AllByRecursion (λ (m : asked.Need). x ≢ m.query) ns
@@ -191,7 +195,7 @@ module _ (z : TableShape) (zones : List ChunkZones) (tasks : List Task) (o : Opt
       let few = recursion_from_All (λ (t : Task). t.query * o.parts ≤ 256) tasks is.scans in
       let columns = recursion_from_All (λ (t : Task). NamesColumns (length z.kinds) t.plan) tasks is.columns in
       let risen = recursion_from_All (λ (t : Task). AreMembers 16 t.plan.columns) tasks rising in
-      let up : Rising 1 (numbers ks) 257 = rises_from ((1 - 1) * o.parts + 1) 1 (numbers ks) 257 (omega arith) (numbers_rise o.workers o.parts tasks 0 1 257 (omega arith) (omega arith) is.numbers few) in
+      let up = scans_rise o.workers o.parts tasks is.numbers few in
       record {
         distinct = distinct 1 (map as_need (needs zones o.parts ks)) 257 (rw (their_numbers zones o.parts ks) up);
         needs = all_needs ks (all_within z o.workers o.parts is.options.workers.0 tasks 0 1 257 (omega arith) is.numbers few risen columns);

@@ -17,7 +17,7 @@ mod options;
 mod task;
 
 pub use dealing::deal;
-pub use laws::all_are_dealt;
+pub use laws::{all_are_dealt, needs_add_up};
 pub use needs::{needs_of, scan_number};
 pub use options::Options;
 pub use task::Task;
