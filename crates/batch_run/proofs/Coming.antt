@@ -22,7 +22,7 @@ use Rattle.sql_bind.specs.declared.plan.Plan.{Plan as Query}
 use Rattle.query_gather.specs.declared.partial.Partial.{Partial}
 use Rattle.multi_scan.specs.Gathered.{Gathered}
 use Rattle.batch_run.specs.Came.{CameFor}
-use Rattle.batch_run.proofs.Delivered.{delivered_by}
+use Rattle.multi_scan.proofs.Delivered.{delivered_by}
 
 -- As the history grows
 

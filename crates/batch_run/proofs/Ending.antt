@@ -133,7 +133,7 @@ module _ (table : TableRows) (dicts : List Fields) (tasks : List Task) (o : Opti
 
       module _ (old mid end : DepotView) (story : List Entry) (results : List Came) (put : IsPut s table.rows old mid) (run : HaveRun mid end story results) where
         took_all : AllByRecursion (TookNeed zones o.parts story) ks
-        took_all = all_took setting zones o.parts story is_setting has_room_for run.whole.legal ks (ap (map as_need) made.needs_are)
+        took_all = all_took setting zones o.parts story is_setting run.whole.legal ks (ap (map as_need) made.needs_are)
 
         few_zones : length zones ≤ 1024
         few_zones = omega (arith, count_zones, made.limits.few_chunks)

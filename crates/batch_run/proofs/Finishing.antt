@@ -1,5 +1,5 @@
 -- The end of a batch: what each worker leaves is what came of all jobs, and the story is whole.
-use Rattle.std.proofs.Common.{◌≡◌, ◌≢◌, ◌==◌, ◌||◌, ◌&&◌, not, ◌<◌, ◌≤◌, ◌+◌, ◌*◌, ◌++◌, ◌∷◌, [], ℕ, zero, suc, Bool, true, false, List, Some, Result, All, map, reverse, get_or, length, min, if◌then◌else◌, add-one, arith, length-append, refl, sym, ap, ◌∙◌, subst, ⊎_elim}
+use Rattle.std.proofs.Common.{◌≡◌, ◌≢◌, ◌==◌, ◌||◌, ◌&&◌, not, ◌<◌, ◌≤◌, ◌+◌, ◌*◌, ◌++◌, ◌∷◌, [], ℕ, zero, suc, Bool, true, false, List, Some, Result, All, map, filter, reverse, get_or, length, min, if◌then◌else◌, add-one, arith, length-append, refl, sym, ap, ◌∙◌, subst, ⊎_elim}
 use Rattle.std.specs.List.{AllByRecursion, AllZip}
 use Rattle.std.proofs.lemmas.Bool.{cases_lt}
 use Rattle.std.proofs.lemmas.List.{get_or_append_left, get_or_push, length-map, map-append}
@@ -44,10 +44,11 @@ use Rattle.sql_bind.specs.declared.plan.Plan.{Plan}
 use Rattle.batch_plan.specs.Scans.{Scan}
 use Rattle.batch_run.specs.Jobs.{AreJobs, IsJob, IsJobOf, jobs_on, numbers_of}
 use Rattle.batch_run.specs.Lists.{AreCounted, AreSorted, CameOfAll, CameOfJob, list_of}
+use Rattle.batch_run.specs.Registering.{numbers_on}
 use Rattle.batch_run.specs.Whole.{LoadsAreBounded}
 use Rattle.batch_run.specs.Workers.{HasRun, Rests}
 use Rattle.batch_run.proofs.Coming.{came_later, came_over, over_inactive}
-use Rattle.batch_run.proofs.Delivered.{reverse-first}
+use Rattle.multi_scan.proofs.Delivered.{reverse-first}
 use Rattle.batch_run.proofs.Endings.{idle_at_end, none_underway}
 use Rattle.baton.proofs.Zips.{zip_length}
 use Rattle.batch_run.proofs.Registered.{registered_by, registered_once}
@@ -202,19 +203,22 @@ module _ {S C P D : Type 0} (o : Start) (told : Told) (z : TableShape) (id : Tab
         later ys [] on = tt
         later ys (z ∷ zs) on = (on z (here z zs), later ys zs (λ j is. on j (further j.worker j.number z zs is)))
 
-    -- each job's query was registered once, and is over
-    registered_one : (j : Job) → IsJob o.setting z j → j.worker < n → has (numbers_of (jobs_on j.worker js)) j.number ≡ true → count_among (registers j.number) (past story) ≡ 1
-    registered_one j job low among =
-        let at = at_place Leaves vs n j.worker all low both_facts in
+    -- each worker registered its jobs, in their order
+    pub registers_jobs : (w : ℕ) → w < n → registered (entries_by w story) ≡ numbers_of (jobs_on w js)
+    registers_jobs w low =
+        let at = at_place Leaves vs n w all low both_facts in
         let v = at.worker in
         let p = v.station.pass in
         let same = own_still o told z story legal v.number p (number_is v at.is) at.is.0.rests at.is.1 in
-        let mine : entries_by j.worker story ≡ p.mine =
+        let mine : entries_by w story ≡ p.mine =
         subst (λ (k : ℕ). entries_by k story ≡ p.mine) at.number (same ∙ (ap (λ (k : ℕ). entries_by k p.seen) (sym (number_is v at.is)) ∙ at.is.0.rests.own)) in
-        let its : registered p.mine ≡ numbers_of (jobs_on j.worker js) = at.is.0.registered ∙ ap (λ (k : ℕ). numbers_of (jobs_on k js)) at.number in
-        let there : is_registered (past story) j.number ≡ true =
-        sym (registered_by o.setting j.worker j.number job.on story legal) ∙ (ap (λ (l : List Entry). has (registered l) j.number) mine ∙ (ap (λ (l : List ℕ). has l j.number) its ∙ among)) in
-        registered_once o.setting j.number (past story) legal there
+        ap registered mine ∙ (at.is.0.registered ∙ ap (λ (k : ℕ). numbers_of (jobs_on k js)) at.number)
+
+    -- each job's query was registered once, and is over
+    registered_one : (j : Job) → IsJob o.setting z j → j.worker < n → has (numbers_of (jobs_on j.worker js)) j.number ≡ true → count_among (registers j.number) (past story) ≡ 1
+    registered_one j job low among =
+        registered_once o.setting j.number (past story) legal
+        (sym (registered_by o.setting j.worker j.number job.on story legal) ∙ (ap (λ (l : List ℕ). has l j.number) (registers_jobs j.worker low) ∙ among))
 
     abbrev IsDone : Job → Type 0
     IsDone j = (count_among (registers j.number) (past story) ≡ 1) × ((is_ended (past story) j.number || is_stopped (past story) j.number) ≡ true)
@@ -335,6 +339,18 @@ of_scans o told z story (k ∷ ks) (j ∷ js) (r ∷ rs) jobs came = (
   subst (λ (n : ℕ). CameFor o told z story n k.plan r) jobs.0.number (subst (λ (p : Plan). CameFor o told z story j.number p r) jobs.0.plan came.0),
   of_scans o told z story ks js rs jobs.1 came.1,
 )
+
+-- the jobs of a worker have the numbers of its scans
+pub numbered_on : (w : ℕ) (ks : List Scan) (js : List Job) → AllZip IsJobOf ks js → numbers_of (jobs_on w js) ≡ numbers_on w ks
+numbered_on w [] [] jobs = refl
+numbered_on w [] (j ∷ js) jobs = absurd jobs
+numbered_on w (k ∷ ks) [] jobs = absurd jobs
+numbered_on w (k ∷ ks) (j ∷ js) jobs =
+    ap (λ (v : ℕ). numbers_of (if v == w then j ∷ jobs_on w js else jobs_on w js)) jobs.0.worker
+    ∙ elim (k.worker == w) as (λ b. numbers_of (if b then j ∷ jobs_on w js else jobs_on w js) ≡ map (λ (i : Scan). i.number) (if b then k ∷ filter (λ (i : Scan). i.worker == w) ks else filter (λ (i : Scan). i.worker == w) ks)) [
+      | true ↦ ap (λ (n : ℕ). n ∷ numbers_of (jobs_on w js)) jobs.0.number ∙ ap (λ (l : List ℕ). k.number ∷ l) (numbered_on w ks js jobs.1)
+      | false ↦ numbered_on w ks js jobs.1
+    ]
 
 pub workers_below : (o : Start) (z : TableShape) (js : List Job) → IsStart o → AreJobs o.setting z js → All (λ (j : Job). j.worker < o.setting.workers) js
 workers_below o z js start jobs k d low = let job = jobs.each k d low in worker_below o.setting (get_or js k d).number (get_or js k d).worker start.setting job.on

@@ -12,7 +12,6 @@ pub mod Noted
 pub mod Batches
 pub mod Written
 pub mod Ending
-mod Delivered
 mod Registered
 mod Coming
 mod Resting

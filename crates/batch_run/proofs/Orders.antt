@@ -105,22 +105,3 @@ rising_order n [] once low = let To = λ (l : List ℕ). IsPermutation [] l in s
 rising_order n (x ∷ xs) once low =
     IsPermutation-trans (x ∷ xs) (x ∷ numbers_below (has xs) n) (numbers_below (has (x ∷ xs)) n) (IsPermutation-cons x xs (numbers_below (has xs) n) (rising_order n xs once.1 (λ c is. low c (or_right (x == c) (has xs c) is))))
     (one_more x (has xs) n (low x (rw (eq-eqb x x refl) refl)) once.0)
-
--- the same numbers, and none of them twice
-abbrev SameNumbers : List ℕ → List ℕ → Type 0
-SameNumbers xs ys = ((c : ℕ) → has xs c ≡ has ys c) × (NoneTwice xs → NoneTwice ys)
-
-or_turn : (a b c : Bool) → (a || (b || c)) ≡ (b || (a || c))
-or_turn true true c = refl
-or_turn true false c = refl
-or_turn false b c = refl
-
-turned : (x y : ℕ) (l : List ℕ) → NoneTwice (x ∷ y ∷ l) → NoneTwice (y ∷ x ∷ l)
-turned x y l once =
-    let o = or_false (y == x) (has l x) once.0 in
-    (or_off (x == y) (has l y) (flipped y x o.0) once.1.0, (o.1, once.1.1))
-
-pub none_twice_in_order : (xs ys : List ℕ) → IsPermutation xs ys → NoneTwice xs → NoneTwice ys
-none_twice_in_order xs ys same once =
-    (rearranged SameNumbers (λ l. (λ c. refl, λ o. o)) (λ l m n e f. (λ c. e.0 c ∙ f.0 c, λ o. f.1 (e.1 o))) (λ x l m e. (λ c. ap (λ b. (x == c) || b) (e.0 c), λ o. (sym (e.0 x) ∙ o.0, e.1 o.1)))
-    (λ x y l. (λ c. or_turn (x == c) (y == c) (has l c), turned x y l)) xs ys same).1 once

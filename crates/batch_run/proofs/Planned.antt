@@ -32,7 +32,7 @@ finds_later n ns (m ∷ ms) apart found = (
   finds_later n ns ms apart.1 found.1,
 )
 
-find_themselves : (ns : List Need) → AreDistinct ns → AllByRecursion (FindsItself ns) ns
+pub find_themselves : (ns : List Need) → AreDistinct ns → AllByRecursion (FindsItself ns) ns
 find_themselves [] apart = tt
 find_themselves (n ∷ ns) apart = (
   if_here (n.query == n.query) (Some n) (find (λ k. k.query == n.query) ns) (equal_number n.query n.query refl),

@@ -18,7 +18,7 @@ use Rattle.story_laws.proofs.Bools.{either, if_here, if_not, not_both, or_false,
 use Rattle.story_laws.proofs.Sums.{among_none}
 use Rattle.abm_policy.proofs.Meanwhile.{not_mine}
 use Rattle.multi_scan.specs.Parts.{registered}
-use Rattle.batch_run.proofs.Delivered.{by-past, delivered-past}
+use Rattle.multi_scan.proofs.Delivered.{by-past, delivered-past}
 
 -- By the entries of its worker
 

@@ -33,7 +33,7 @@ use Rattle.frame_pool.specs.Berths.{PoolView}
 use Rattle.multi_scan.specs.Gathered.{Gathered}
 use Rattle.sql_bind.specs.declared.plan.Plan.{Plan}
 use Rattle.batch_run.specs.Came.{CameFor}
-use Rattle.batch_run.proofs.Delivered.{delivered_by}
+use Rattle.multi_scan.proofs.Delivered.{delivered_by}
 use Rattle.cscan.proofs.Stories.{delivered_append}
 use Rattle.multi_scan.specs.declared.part.Unfinished.{Unfinished}
 use Rattle.multi_scan.specs.declared.part.Unfinished.TheVariants as unfinished

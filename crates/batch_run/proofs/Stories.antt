@@ -1,10 +1,8 @@
 -- What a whole story delivered to the scans of a batch, in its order.
-use Rattle.std.proofs.Common.{◌≡◌, ◌∙◌, ◌<◌, ◌++◌, ◌∷◌, ◌==◌, ◌&&◌, ℕ, Bool, true, false, List, [], map, reverse, cond, refl, sym, ap, subst}
-use Rattle.std.specs.Prelude.{◌≢◌, None, Some, IsPermutation, find, nat_lt}
+use Rattle.std.proofs.Common.{◌≡◌, ◌∙◌, ◌<◌, ◌++◌, ◌∷◌, ◌==◌, ◌&&◌, ℕ, Bool, true, false, List, [], map, refl, sym, ap, subst}
+use Rattle.std.specs.Prelude.{None, Some, IsPermutation, find, nat_lt}
 use Rattle.std.specs.List.{AllByRecursion}
 use Rattle.std.proofs.lemmas.Bool.{lt-ltb, ltb-true, and_parts}
-use Rattle.std.proofs.lemmas.List.{reverse-append}
-use Rattle.std.proofs.lemmas.List.Sorted.{IsPermutation-reverse, IsPermutation-sym, list_any-IsPermutation}
 use Rattle.table_core.specs.Sets.{has}
 use Rattle.table_core.proofs.Members.{has-numbers}
 use Rattle.filter_zones.specs.Possible.{needed}
@@ -16,70 +14,30 @@ use Rattle.scan_story.specs.declared.setting.Setting.{Setting}
 use Rattle.scan_story.specs.Causes.{cause_of}
 use Rattle.scan_story.specs.Legal.{Legal}
 use Rattle.scan_story.specs.Setting as settings
-use Rattle.scan_story.specs.Setting.{AreDistinct, HasRoom, IsSetting, asks_for, chunks_in}
+use Rattle.scan_story.specs.Setting.{IsSetting, asks_for, chunks_in}
 use Rattle.scan_story.specs.Views.{History, is_ended, is_stopped, past}
 use Rattle.story_laws.specs.Queries.{chunks_delivered}
-use Rattle.story_laws.proofs.Bools.{equal_number, other_number, or_false}
-use Rattle.story_laws.proofs.Laws.{delivered_once_each, ended_took_all}
+use Rattle.story_laws.proofs.Bools.{or_false}
 use Rattle.chunk_interest.specs.Fresh.{as_need}
-use Rattle.cscan.proofs.Stories.{delivered_append}
+use Rattle.multi_scan.proofs.Delivered.{story_all, story_once}
 use Rattle.batch_plan.specs.Deal.{deal, is_dealt}
 use Rattle.batch_plan.specs.Scans.{Scan, need_of, needs}
 use Rattle.batch_run.specs.Taken.{TookNeed}
-use Rattle.batch_run.proofs.Orders.{alike_below, none_twice_in_order, rising_order}
-
--- ---- the story's order, and the latest first
-
-one_delivered : (e : Entry) (q : ℕ) → reverse (chunks_delivered (e ∷ []) q) ≡ chunks_delivered (e ∷ []) q
-one_delivered (Deliver w r c) q = elim (r == q) as (λ b. reverse (cond b (c ∷ []) []) ≡ cond b (c ∷ []) []) [ true ↦ refl | false ↦ refl ]
-one_delivered (Register w r) q = refl
-one_delivered (Plan w r c) q = refl
-one_delivered (Evict w c) q = refl
-one_delivered (Fill w f p) q = refl
-one_delivered (Filled w f p) q = refl
-one_delivered (Failed w r p why) q = refl
-one_delivered (Release w r c) q = refl
-one_delivered (Stop w r) q = refl
-one_delivered (End w r) q = refl
-
-delivered_past : (story : List Entry) (q : ℕ) → chunks_delivered (past story) q ≡ reverse (chunks_delivered story q)
-delivered_past [] q = refl
-delivered_past (e ∷ es) q =
-    ap (λ h. chunks_delivered h q) (reverse-append (e ∷ []) es) ∙ delivered_append q (reverse es) (e ∷ []) ∙ ap (λ cs. cs ++ chunks_delivered (e ∷ []) q) (delivered_past es q)
-    ∙ ap (λ cs. reverse (chunks_delivered es q) ++ cs) (sym (one_delivered e q))
-    ∙ sym (ap reverse (delivered_append q (e ∷ []) es) ∙ reverse-append (chunks_delivered (e ∷ []) q) (chunks_delivered es q))
-
--- the same chunks as the history's
-module _ (story : List Entry) (q : ℕ) where
-  same_order : IsPermutation (chunks_delivered (past story) q) (chunks_delivered story q)
-  same_order =
-      let From = λ (cs : List ℕ). IsPermutation cs (chunks_delivered story q) in
-      subst From (sym (delivered_past story q)) (IsPermutation-sym (chunks_delivered story q) (reverse (chunks_delivered story q)) (IsPermutation-reverse (chunks_delivered story q)))
-
-  same_delivered : (c : ℕ) → has (chunks_delivered (past story) q) c ≡ has (chunks_delivered story q) c
-  same_delivered c = list_any-IsPermutation (λ x. x == c) (chunks_delivered (past story) q) (chunks_delivered story q) same_order
+use Rattle.batch_run.proofs.Orders.{alike_below, rising_order}
+use Rattle.batch_run.proofs.Planned.{find_themselves}
 
 -- ---- the need of each scan
 
-behind : (n : asked.Need) (ns ms : List asked.Need) → AllByRecursion (λ (m : asked.Need). n.query ≢ m.query) ms
-    → AllByRecursion (λ (m : asked.Need). find (λ k. k.query == m.query) ns ≡ Some m) ms → AllByRecursion (λ (m : asked.Need). find (λ k. k.query == m.query) (n ∷ ns) ≡ Some m) ms
-behind n ns [] apart found = tt
-behind n ns (m ∷ ms) apart found = (rw (other_number n.query m.query apart.0) found.0, behind n ns ms apart.1 found.1)
-
-found_each : (ns : List asked.Need) → AreDistinct ns → AllByRecursion (λ (m : asked.Need). find (λ k. k.query == m.query) ns ≡ Some m) ns
-found_each [] apart = tt
-found_each (n ∷ ns) apart = (rw (equal_number n.query n.query refl) refl, behind n ns ns apart.0 (found_each ns apart.1))
-
 -- what a setting is asked for the scans of a batch
-module _ (s : Setting) (zones : List ChunkZones) (parts : ℕ) (story : List Entry) (is : IsSetting s) (room : HasRoom s) (legal : Legal s (past story)) where
+module _ (s : Setting) (zones : List ChunkZones) (parts : ℕ) (story : List Entry) (is : IsSetting s) (legal : Legal s (past story)) where
   took_one : (k : Scan) → settings.need_of s k.number ≡ Some (as_need (need_of zones parts k)) → TookNeed zones parts story k
   took_one k found =
       let asks : (c : ℕ) → asks_for s k.number c ≡ has (need_of zones parts k).chunks c = λ c. ap (λ o. has (chunks_in o) c) found in
-      let each = delivered_once_each s (past story) is room legal k.number in
+      let each = story_once s k.number story legal in
       record {
-        asked = λ c took. sym (asks c) ∙ each.asked c (same_delivered story k.number c ∙ took);
-        once = none_twice_in_order (chunks_delivered (past story) k.number) (chunks_delivered story k.number) (same_order story k.number) each.once;
-        all = λ ended c need. sym (same_delivered story k.number c) ∙ ended_took_all s (past story) is room legal k.number c ended (asks c ∙ need);
+        asked = λ c took. sym (asks c) ∙ each.asked c took;
+        once = each.once;
+        all = λ ended c need. (story_all s k.number story legal is ended).asked c ∙ (asks c ∙ need);
       }
 
   each_took : (ks : List Scan) → AllByRecursion (λ (m : asked.Need). find (λ n. n.query == m.query) s.needs ≡ Some m) (map as_need (needs zones parts ks)) → AllByRecursion (TookNeed zones parts story) ks
@@ -89,7 +47,7 @@ module _ (s : Setting) (zones : List ChunkZones) (parts : ℕ) (story : List Ent
   pub all_took : (ks : List Scan) → s.needs ≡ map as_need (needs zones parts ks) → AllByRecursion (TookNeed zones parts story) ks
   all_took ks same =
       let Found = λ (ns : List asked.Need). AllByRecursion (λ (m : asked.Need). find (λ n. n.query == m.query) s.needs ≡ Some m) ns in
-      each_took ks (subst Found same (found_each s.needs is.distinct))
+      each_took ks (subst Found same (find_themselves s.needs is.distinct))
 
 -- ---- a scan that ended
 

@@ -2,6 +2,7 @@ pub mod Tasks
 pub mod Lost
 pub mod Story
 pub mod Taken
+pub mod Registering
 pub mod Refusals
 pub mod Noting
 pub mod Answering

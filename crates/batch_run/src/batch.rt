@@ -1,5 +1,5 @@
 // The top call: a batch on several workers.
-ghost use Rattle.std.specs.Prelude.{◌≡◌, ◌≤◌, ◌*◌, ◌^◌, All, IfErr, IfOk, is_some, length, map};
+ghost use Rattle.std.specs.Prelude.{◌≡◌, ◌<◌, ◌≤◌, ◌*◌, ◌^◌, ℕ, All, IfErr, IfOk, is_some, length, map};
 ghost use Rattle.std.specs.List.{AllZip};
 ghost use Rattle.table_core.specs.Chunk.{chunk_count};
 ghost use Rattle.table_core.specs.Sets.{Rising};
@@ -13,6 +13,7 @@ ghost use Rattle.batch_plan.specs.Scans.{scans};
 ghost use Rattle.batch_plan.specs.Setting.{AreOptions, batch_setting};
 ghost use Rattle.batch_run.specs.Lost.{IsLostBy, Tells, stop_of};
 ghost use Rattle.batch_run.specs.Refusals.{IsRefusal};
+ghost use Rattle.batch_run.specs.Registering.{RegistersInOrder};
 ghost use Rattle.batch_run.specs.Story.{IsStoryOver, counts};
 ghost use Rattle.batch_run.specs.Taken.{IsTakenBy, TookNeed};
 ghost use Rattle.batch_run.specs.Tasks.{CanBeLoaded, IsPlanOfTable};
@@ -87,6 +88,9 @@ pub fn run_batch<P: Policy, D: Depot + Send, T: Gate + Sync, R: Threads + Wait +
     // each scan took chunks of its need, each once, and where it ended all of them
     ensures took { let s = spec.shape_of loaded.table loaded.dicts.items options.now.layout options.now.per in
         IfOk result (λ e. All (TookNeed (chunk_zones s loaded.table.rows) options.now.parts e.ran.story.items) (scans options.now.workers options.now.parts tasks.now)) }
+    // each worker registered its scans in the order of its tasks
+    ensures registers { IfOk result (λ e. (w : ℕ) → w < options.now.workers
+        → RegistersInOrder e.ran.story.items (scans options.now.workers options.now.parts tasks.now) w) }
     // all pieces are put, and stay
     ensures stored { let s = spec.shape_of loaded.table loaded.dicts.items options.now.layout options.now.per in
         IfOk result (λ e. ArePut s loaded.table.rows (pieces s) (pieces s) (D.held depot) (D.held e.depot)) }

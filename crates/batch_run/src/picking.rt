@@ -1,5 +1,5 @@
 // The scans of a batch, run for the depot as it is.
-ghost use Rattle.std.specs.Prelude.{◌≡◌, ◌≤◌, ◌*◌, ◌^◌, All, IfErr, IfOk, map};
+ghost use Rattle.std.specs.Prelude.{◌≡◌, ◌<◌, ◌≤◌, ◌*◌, ◌^◌, ℕ, All, IfErr, IfOk, map};
 ghost use Rattle.std.specs.List.{AllZip};
 ghost use Rattle.scan_story.specs.Setting.{HasRoom, IsSetting};
 ghost use Rattle.scan_story.specs.Views.{past};
@@ -12,6 +12,7 @@ ghost use Rattle.batch_plan.specs.Setting.{AreOptions};
 ghost use Rattle.batch_run.specs.Came.{CameOf, IsNeedOf};
 ghost use Rattle.batch_run.specs.Whole.{IsWholeStory};
 ghost use Rattle.batch_run.specs.Picked.{HoldsSomeTable, content_of};
+ghost use Rattle.batch_run.specs.Registering.{RegistersInOrder};
 
 use crate::running::{ScansEnd, run_scans};
 use batch_plan::{Options, Task};
@@ -60,6 +61,8 @@ pub(crate) fn run_put<P: Policy, D: Depot + Send, T: Gate + Sync, R: Threads + W
         (groups shape.now) (P.name policy) (P.cursor policy) in
         IfOk result (λ e. AllZip (CameOf (start_of s (depot_view (D.held depot) (D.gets depot) (D.faults depot))) (content_of shape.now (D.held depot)) shape.now e.story.items)
         (scans options.now.workers options.now.parts tasks.now) e.results.items) }
+    ensures registers { IfOk result (λ e. (w : ℕ) → w < options.now.workers
+        → RegistersInOrder e.story.items (scans options.now.workers options.now.parts tasks.now) w) }
     ensures depot { let s = setting_of needs.items (chunks shape.now) options.now.workers options.now.frames
         (groups shape.now) (P.name policy) (P.cursor policy) in
         IfOk result (λ e. Agrees (start_of s (depot_view (D.held depot) (D.gets depot) (D.faults depot))) (past e.story.items) (depot_view (D.held e.depot) (D.gets e.depot) (D.faults e.depot))) }

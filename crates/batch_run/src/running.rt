@@ -1,5 +1,5 @@
 // All scans of a batch.
-ghost use Rattle.std.specs.Prelude.{◌≡◌, ◌≤◌, ◌*◌, [], All, IfErr, IfOk, length, map};
+ghost use Rattle.std.specs.Prelude.{◌≡◌, ◌<◌, ◌≤◌, ◌*◌, ℕ, [], All, IfErr, IfOk, length, map};
 ghost use Rattle.std.specs.List.{AllZip};
 ghost use Rattle.scan_story.specs.Setting.{IsStart};
 ghost use Rattle.scan_story.specs.Views.{past};
@@ -14,6 +14,7 @@ ghost use Rattle.batch_run.specs.Came.{CameOf, IsNeedOf};
 ghost use Rattle.cscan.specs.Scans.{Fits};
 ghost use Rattle.batch_run.specs.Crews.{AreFresh, IsCrew};
 ghost use Rattle.batch_run.specs.Jobs.{AreJobs};
+ghost use Rattle.batch_run.specs.Registering.{RegistersInOrder};
 ghost use Rattle.batch_run.specs.Whole.{IsWholeStory};
 ghost use Rattle.batch_run.specs.Works.{HasWorked, IsSeating};
 
@@ -159,6 +160,8 @@ pub fn run_scans<
     ensures story { IfOk result (λ e. IsWholeStory S.origin.setting e.story.items) }
     ensures results { IfOk result (λ e. AllZip (CameOf S.origin C.pieces shape.now e.story.items)
         (scans options.now.workers options.now.parts tasks.now) e.results.items) }
+    ensures registers { IfOk result (λ e. (w : ℕ) → w < options.now.workers
+        → RegistersInOrder e.story.items (scans options.now.workers options.now.parts tasks.now) w) }
     ensures depot { IfOk result (λ e. Agrees S.origin (past e.story.items)
         (depot_view (D.held e.depot) (D.gets e.depot) (D.faults e.depot))) }
     ensures held_back { IfErr result (λ r. D.held r.0 ≡ D.held depot) }

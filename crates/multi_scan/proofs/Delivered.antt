@@ -22,7 +22,7 @@ use Rattle.multi_scan.specs.Parts.{AreAllOnce}
 
 -- Lists
 
-reverse-first : {A : Type 0} (x : A) (xs : List A) → reverse (x ∷ xs) ≡ reverse xs ++ x ∷ []
+pub reverse-first : {A : Type 0} (x : A) (xs : List A) → reverse (x ∷ xs) ≡ reverse xs ++ x ∷ []
 reverse-first x xs = reverse_onto xs x []
 
 has-reverse : (xs : List ℕ) (c : ℕ) → has (reverse xs) c ≡ has xs c
@@ -72,7 +72,7 @@ delivered-past q (e ∷ es) =
     one : (xs ys : List ℕ) → reverse xs ≡ xs → reverse ys ++ xs ≡ reverse (xs ++ ys)
     one xs ys is = ap (λ (l : List ℕ). reverse ys ++ l) (sym is) ∙ sym (reverse-append xs ys)
 
-by-past : (w : ℕ) (es : List Entry) → entries_by w (past es) ≡ past (entries_by w es)
+pub by-past : (w : ℕ) (es : List Entry) → entries_by w (past es) ≡ past (entries_by w es)
 by-past w [] = refl
 by-past w (e ∷ es) =
     let mine = λ (f : Entry). maker_of f == w in

@@ -20,7 +20,7 @@ use Rattle.scan_story.specs.declared.setting.Need.{Need}
 use Rattle.scan_story.specs.Counting.{count_among}
 use Rattle.scan_story.specs.Views.{is_ended, is_stopped, past, registers}
 use Rattle.abm_policy.specs.Depots.{tells}
-use Rattle.batch_run.proofs.Finishing.{Queue, all_agree, all_counted, all_done, all_run, all_sorted, in_turn, is_whole, kept_numbers, kept_rest, length_up_to, loads_bounded, new_numbers, new_rest, new_unwritten, of_scans, their_lists, workers_below}
+use Rattle.batch_run.proofs.Finishing.{Queue, all_agree, all_counted, all_done, all_run, all_sorted, in_turn, is_whole, kept_numbers, kept_rest, length_up_to, loads_bounded, new_numbers, new_rest, new_unwritten, numbered_on, of_scans, registers_jobs, their_lists, workers_below}
 use Rattle.batch_run.proofs.Planned.{of_needs, planned}
 use Rattle.batch_run.proofs.running.run_scans.Goals as goal
 use Rattle.batch_run.proofs.running.run_scans.Goals.{After-close-depot, After-close-story, After-in_order-results, After-len-2, After-work-works}
@@ -157,6 +157,19 @@ returns-in-Ok-seat-clause-results g c =
     let at = (goal.at.returns-in-Ok-seat-clause-results g c).After-in_order-results in
     of_scans g.S.Origin.origin g.C.Content.pieces c.args.shape.now c.close-story.result.0.items (scans c.args.options.now.workers c.args.options.now.parts c.args.tasks.now) c.in-Ok.jobs.items
     c.in_order-results.result.items c.in-Ok.ensures.jobs (came_now g at)
+
+pub returns-in-Ok-seat-clause-registers : goal.returns-in-Ok-seat-clause-registers
+returns-in-Ok-seat-clause-registers g c = λ w low.
+    let o = g.S.Origin.origin in
+    let told = g.C.Content.pieces in
+    let z = c.args.shape.now in
+    let at = goal.at.returns-in-Ok-seat-clause-registers g c in
+    let works = c.work-works.result in
+    let js = c.in-Ok.jobs.items in
+    let within : w < o.setting.workers = omega (arith, low, workers_are g at.After-len-2) in
+    registers_jobs o told z works.baton works.pool js (reverse works.crew.workers.items) o.setting.workers (in_turn_now g at.After-work-works) (all_run o told z js c.in-Ok-seat.works works (worked g at.After-work-works))
+    c.close-story.result.0.items c.close-story.ensures.legal (are_jobs g at.After-len-2) (agree_now g at.After-close-story) w within
+    ∙ numbered_on w (scans c.args.options.now.workers c.args.options.now.parts c.args.tasks.now) js c.in-Ok.ensures.jobs
 
 pub returns-in-Ok-seat-clause-story : goal.returns-in-Ok-seat-clause-story
 returns-in-Ok-seat-clause-story g c =

@@ -1,0 +1,14 @@
+-- In which order a worker registers its scans.
+use Rattle.std.specs.Prelude.{◌≡◌, ◌==◌, ℕ, List, filter, map}
+use Rattle.scan_story.specs.declared.entry.Entry.{Entry}
+use Rattle.scan_story.specs.Makers.{entries_by}
+use Rattle.multi_scan.specs.Parts.{registered}
+use Rattle.batch_plan.specs.Scans.{Scan}
+
+-- the scans of a worker by their numbers, in their order
+abbrev pub numbers_on : ℕ → List Scan → List ℕ
+numbers_on w ks = map (λ (k : Scan). k.number) (filter (λ (k : Scan). k.worker == w) ks)
+
+-- IN THE ORDER OF ITS TASKS: the Registers of a worker are of its scans, each of them once, in their order
+abbrev pub RegistersInOrder : List Entry → List Scan → ℕ → Type 0
+RegistersInOrder story ks w = registered (entries_by w story) ≡ numbers_on w ks
