@@ -5,6 +5,7 @@ ghost use Rattle.scan_story.specs.Makers.{entries_by, StartsWith, Adds};
 ghost use Rattle.baton.specs.Rule.{dealer};
 ghost use Rattle.baton.specs.Passes.{AgreesWith, IsFree, new_passes};
 
+use crate::bell::Bell;
 use crate::line::{Line, absorb, pop, push};
 use crate::pass::Pass;
 use crate::rule::{Deals, Lays};
@@ -21,6 +22,7 @@ use std::sync::Wait;
 #[derive(Drop)]
 pub struct Baton<T: Storied + Drop> {
     line: Line<T>,
+    bell: Bell,
 }
 
 impl<T: Storied + Drop> Model for Baton<T> {
@@ -95,6 +97,11 @@ impl<T: Storied + Drop> Baton<T> {
         push(rt, &self.line, &mut pass.seat, state);
     }
 
+    /// The bell at which the workers of this baton wait for each other.
+    pub fn bell(&self) -> &Bell {
+        &self.bell
+    }
+
     /// Ends the baton: takes the state for good, and waits until it lies there.
     ///
     /// The passes are of this baton, at least one of them, and none is holding. The state agrees with each of them.
@@ -103,7 +110,7 @@ impl<T: Storied + Drop> Baton<T> {
         requires free { All (IsFree self) passes.items }
         ensures { All (AgreesWith (T.origin result) (T.story result)) passes.items }
     {
-        let Baton { line } = self;
+        let Baton { line, bell: _ } = self;
         let Some(last) = passes.pop() else {
             unreachable!()
         };
@@ -134,5 +141,6 @@ fn deal<T: Storied + Drop>(
         let seat = line.another::<Deals>(&mut seat);
         passes.push_reserved(Pass { seat });
     }
-    (Baton { line }, passes)
+    let bell = Bell::new();
+    (Baton { line, bell }, passes)
 }

@@ -12,6 +12,7 @@
 #![tactic(auto)]
 
 mod baton;
+mod bell;
 pub mod example;
 mod line;
 mod pass;
@@ -19,4 +20,5 @@ pub mod rule;
 pub mod view;
 
 pub use baton::Baton;
+pub use bell::Bell;
 pub use pass::Pass;

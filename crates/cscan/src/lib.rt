@@ -23,6 +23,7 @@ mod given;
 mod held;
 mod loading;
 mod next;
+mod pausing;
 mod pinning;
 mod rounds;
 mod row_cells;

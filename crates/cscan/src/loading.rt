@@ -81,4 +81,5 @@ pub(crate) fn load<S: Origin, C: Content, P: Policy, D: Depot, R: Wait>(
     let mut desk = take_desk(rt, baton, &mut station.pass);
     settle(&mut desk, ticket, depot, read);
     baton.give(rt, &mut station.pass, desk);
+    baton.bell().ring();
 }

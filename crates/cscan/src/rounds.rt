@@ -11,6 +11,7 @@ ghost use Rattle.cscan.specs.Stations.{IsSeated};
 use crate::desk::take_desk;
 use crate::given::Given;
 use crate::loading::load;
+use crate::pausing::{Patience, Pause, lets_others_first, others_have_none};
 use crate::pinning::pin_all;
 use crate::station::Station;
 use abm_policy::{Desk, Turn};
@@ -26,7 +27,7 @@ use table_core::chunk_span;
 /// What one turn with its load comes to.
 pub(crate) enum Round {
     Took(Given),
-    Again,
+    Again(Pause),
     Done,
     Stopped(Cause),
 }
@@ -49,6 +50,7 @@ pub(crate) fn turn_once<S: Origin, C: Content, P: Policy, D: Depot, R: Wait>(
     shape: &Shape,
     station: &mut Station<S, C, P, D>,
     query: u32,
+    is_patient: bool,
 ) -> Round
     requires seated { IsSeated baton.now pool.now S.origin [] station.old }
     requires fits { Fits S.origin C.pieces shape.now pool.now }
@@ -60,8 +62,16 @@ pub(crate) fn turn_once<S: Origin, C: Content, P: Policy, D: Depot, R: Wait>(
 {
     let number = station.number;
     let mut desk = take_desk(rt, baton, &mut station.pass);
+    if is_patient && lets_others_first(desk.book(), query) {
+        baton.give(rt, &mut station.pass, desk);
+        return Round::Again(Pause::ForOthers);
+    }
     let turn = desk.turn(number, query);
+    let rings = baton.bell().is_waited_for() && others_have_none(desk.book(), query);
     baton.give(rt, &mut station.pass, desk);
+    if rings {
+        baton.bell().ring();
+    }
     match turn {
         Turn::Take { chunk, slots } => {
             pin_all(rt, pool, &mut station.berth, &slots);
@@ -70,9 +80,9 @@ pub(crate) fn turn_once<S: Origin, C: Content, P: Policy, D: Depot, R: Wait>(
         }
         Turn::Load(ticket, depot) => {
             load(rt, baton, pool, shape, station, (ticket, depot));
-            Round::Again
+            Round::Again(Pause::None)
         }
-        Turn::NotYet => Round::Again,
+        Turn::NotYet => Round::Again(Pause::ForLoad),
         Turn::Finished => Round::Done,
         Turn::Stopped(cause) => Round::Stopped(cause),
     }
@@ -97,9 +107,13 @@ pub(crate) fn turn_on<S: Origin, C: Content, P: Policy, D: Depot, R: Wait>(
         result }
     ensures end { IsEnd result }
 {
+    let bell = baton.bell();
+    let mut patience = Patience::new();
     for _ in rt.forever() {
-        match turn_once(rt, baton, pool, shape, station, query) {
-            Round::Again => {}
+        let rings = bell.rings();
+        let is_patient = patience.is_left();
+        match turn_once(rt, baton, pool, shape, station, query, is_patient) {
+            Round::Again(pause) => patience.pause(rt, bell, rings, pause),
             Round::Took(given) => return Round::Took(given),
             Round::Done => return Round::Done,
             Round::Stopped(cause) => return Round::Stopped(cause),

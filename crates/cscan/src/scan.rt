@@ -104,7 +104,7 @@ impl<'a, S: Origin, C: Content, P: Policy, D: Depot> CScan<'a, S, C, P, D> {
             }
             Round::Done => Next::Done,
             Round::Stopped(cause) => Next::Stopped(cause),
-            Round::Again => unreachable!(),
+            Round::Again(_) => unreachable!(),
         }
     }
 
@@ -135,6 +135,7 @@ impl<'a, S: Origin, C: Content, P: Policy, D: Depot> CScan<'a, S, C, P, D> {
         }
         desk.stop(number, query);
         baton.give(rt, &mut station.pass, desk);
+        baton.bell().ring();
         Cause::Memory
     }
 }

@@ -23,7 +23,7 @@ loop-preserved g c =
     let s = g.S.Origin.origin.setting in
     let p = c.loop.station.pass in
     let t = c.turn_once.new.station.pass in
-    let r = subst (λ (w : ℕ). IsRound s c.args.shape.now w c.args.query p t Again) c.loop.invariant.1 c.in-Again.ensures.round in
+    let r = subst (λ (w : ℕ). IsRound s c.args.shape.now w c.args.query p t (Again c.in-Again.pause)) c.loop.invariant.1 c.in-Again.ensures.round in
     (c.in-Again.ensures.seated, c.turn_once.ensures.number ∙ c.loop.invariant.1, go_on s c.args.station.now.number c.args.query c.args.station.now.pass p t c.loop.invariant.2 r)
 
 pub returns-in-Took-clause-round : goal.returns-in-Took-clause-round

@@ -10,6 +10,7 @@ use Rattle.scan_story.specs.Views.{past}
 use Rattle.story_laws.specs.Lists.{NoneTwice}
 use Rattle.story_laws.specs.Queries.{chunks_delivered}
 use Rattle.story_laws.proofs.Grouped.{grouped}
+use Rattle.chunk_interest.proofs.Needs.{worker_within}
 use Rattle.abm_policy.specs.Depots.{IsHandedOut, depot_view}
 use Rattle.abm_policy.specs.Loads.{evicts, fills}
 use Rattle.abm_policy.specs.Turns.{MayTurn, RunsOn}
@@ -27,7 +28,7 @@ use Rattle.cscan.proofs.Rounding.{delivered_chunk, delivered_nothing}
 use Rattle.cscan.proofs.Stories.{adds_these, evicts_loads, fills_loads, loads_append, ready_fresh, went_turn}
 use Rattle.cscan.proofs.Turning.{ended_idle, ended_inactive, held_after, load_after, ready_below, row_finished, row_stopped, stand_apart, stopped_inactive, turn_added}
 use Rattle.cscan.proofs.rounds.turn_once.Goals as goal
-use Rattle.cscan.proofs.rounds.turn_once.Goals.{After-take_desk-desk, After-give}
+use Rattle.cscan.proofs.rounds.turn_once.Goals.{After-take_desk-desk, After-give-2}
 
 -- the story went on meanwhile
 went : (g : _) (c : After-take_desk-desk g) → WentOn g.S.Origin.origin.setting c.args.station.now.number c.args.station.now.pass.seen c.take_desk-desk.result
@@ -38,15 +39,37 @@ may : (g : _) (c : After-take_desk-desk g) → MayTurn g.S.Origin.origin.setting
 may g c = turns_stay g.S.Origin.origin.setting c.args.station.now.number c.args.query c.args.station.now.pass.seen c.take_desk-desk.result (went g c) c.requires.may
 
 -- the pass added these entries in the turn
-turned : (g : _) (c : After-give g) (new : List Entry) → c.turn-turn.new.self ≡ c.take_desk-desk.result ++ new → Went c.args.station.now.pass c.give.new.pass new
+turned : (g : _) (c : After-give-2 g) (new : List Entry) → c.turn-turn.new.self ≡ c.take_desk-desk.result ++ new → Went c.args.station.now.pass c.give-2.new.pass new
 turned g c new is =
-    went_turn c.args.station.now.pass c.take_desk-desk.new.pass c.give.new.pass c.take_desk-desk.result c.turn-turn.new.self new c.take_desk-desk.ensures.pass c.give.ensures.pass c.give.ensures.mine c.take_desk-desk.ensures.seen is
+    went_turn c.args.station.now.pass c.take_desk-desk.new.pass c.give-2.new.pass c.take_desk-desk.result c.turn-turn.new.self new c.take_desk-desk.ensures.pass c.give-2.ensures.pass c.give-2.ensures.mine c.take_desk-desk.ensures.seen is
+
+pub lets_others_first-requires : goal.lets_others_first-requires
+lets_others_first-requires g c =
+    record { query = (worker_within g.S.Origin.origin.setting c.args.query c.args.station.now.number c.take_desk-desk.ensures.start.setting (may g (goal.at.lets_others_first-requires g c).After-take_desk-desk).runs.on).1 }
+
+pub give-requires-clause-story : goal.give-requires-clause-story
+give-requires-clause-story g c =
+    adds_these c.args.station.now.pass c.take_desk-desk.new.pass c.args.station.now.number c.take_desk-desk.result c.take_desk-desk.result [] c.take_desk-desk.ensures.pass (sym (append-nil c.take_desk-desk.result)) c.requires.seated.0.1 tt
+
+pub returns-then-lets_others_first-clause-round : goal.returns-then-lets_others_first-clause-round
+returns-then-lets_others_first-clause-round g c =
+    let s = g.S.Origin.origin.setting in
+    let old = c.take_desk-desk.result in
+    let at = goal.at.returns-then-lets_others_first-clause-round g c in
+    let seen = ap (λ (p : PassView). p.seen) c.give.ensures.pass in
+    record {
+      loads = [];
+      only_loads = tt;
+      went = went_turn c.args.station.now.pass c.take_desk-desk.new.pass c.give.new.pass old old [] c.take_desk-desk.ensures.pass c.give.ensures.pass c.give.ensures.mine c.take_desk-desk.ensures.seen (sym (append-nil old));
+      legal = subst (λ (l : List Entry). Legal s (past l)) (sym seen) c.take_desk-desk.ensures.legal;
+      may = subst (λ (l : List Entry). MayTurn s (past l) c.args.station.now.number c.args.query) (sym seen) (may g at.After-take_desk-desk);
+    }
 
 pub turn-turn-requires-clause-may : goal.turn-turn-requires-clause-may
 turn-turn-requires-clause-may g c κs within = may g (goal.at.turn-turn-requires-clause-may g c).After-take_desk-desk
 
-pub give-requires-clause-story : goal.give-requires-clause-story
-give-requires-clause-story g c =
+pub give-requires-2-clause-story : goal.give-requires-2-clause-story
+give-requires-2-clause-story g c =
     let a = turn_added (λ (d : g.row.D.Denot). depot_view (g.D.Depot.held d) (g.D.Depot.gets d) (g.D.Depot.faults d)) g.S.Origin.origin c.args.station.now.number c.args.query c.take_desk-desk.result c.turn-turn.new.self c.turn-turn.result c.turn-turn.ensures.answer in
     adds_these c.args.station.now.pass c.take_desk-desk.new.pass c.args.station.now.number c.take_desk-desk.result c.turn-turn.new.self a.0 c.take_desk-desk.ensures.pass a.1 c.requires.seated.0.1 a.2
 
@@ -63,40 +86,40 @@ rows_of-rows-requires-clause-chunk g c =
     omega (arith, low, c.requires.fits.chunks)
 
 -- the pass waits again
-waits : (g : _) (c : After-give g) → Waits c.args.baton.now g.S.Origin.origin c.args.station.now.number c.give.new.pass
+waits : (g : _) (c : After-give-2 g) → Waits c.args.baton.now g.S.Origin.origin c.args.station.now.number c.give-2.new.pass
 waits g c =
-    waits_again c.args.baton.now g.S.Origin.origin c.args.station.now.number c.args.station.now.pass c.take_desk-desk.new.pass c.give.new.pass c.take_desk-desk.result c.turn-turn.new.self c.requires.seated.0 c.take_desk-desk.ensures.pass c.give.ensures.pass
+    waits_again c.args.baton.now g.S.Origin.origin c.args.station.now.number c.args.station.now.pass c.take_desk-desk.new.pass c.give-2.new.pass c.take_desk-desk.result c.turn-turn.new.self c.requires.seated.0 c.take_desk-desk.ensures.pass c.give-2.ensures.pass
 
 pub load-requires-clause-seated : goal.load-requires-clause-seated
-load-requires-clause-seated g c κs within = (waits g (goal.at.load-requires-clause-seated g c).After-give, c.requires.seated.1, c.requires.seated.2)
+load-requires-clause-seated g c κs within = (waits g (goal.at.load-requires-clause-seated g c).After-give-2, c.requires.seated.1, c.requires.seated.2)
 
 pub load-requires-clause-legal : goal.load-requires-clause-legal
 load-requires-clause-legal g c κs within =
-    subst (λ (l : List Entry). Legal g.S.Origin.origin.setting (past l)) (sym (ap (λ (p : PassView). p.seen) c.give.ensures.pass)) c.turn-turn.ensures.legal
+    subst (λ (l : List Entry). Legal g.S.Origin.origin.setting (past l)) (sym (ap (λ (p : PassView). p.seen) c.give-2.ensures.pass)) c.turn-turn.ensures.legal
 
 pub load-requires-clause-load : goal.load-requires-clause-load
 load-requires-clause-load g c κs within =
-    ap (λ (p : PassView). underway g.S.Origin.origin.setting (past p.seen)) c.give.ensures.pass ∙ c.in-Load.ensures.answer.load.underway
+    ap (λ (p : PassView). underway g.S.Origin.origin.setting (past p.seen)) c.give-2.ensures.pass ∙ c.in-Load.ensures.answer.load.underway
 
 pub load-requires-clause-depot : goal.load-requires-clause-depot
 load-requires-clause-depot g c κs within =
     subst (λ (l : List Entry). IsHandedOut g.S.Origin.origin (past l) (length c.in-Load.ticket.slots) (depot_view (g.D.Depot.held c.in-Load.depot) (g.D.Depot.gets c.in-Load.depot) (g.D.Depot.faults c.in-Load.depot)))
-    (sym (ap (λ (p : PassView). p.seen) c.give.ensures.pass)) c.in-Load.ensures.answer.depot
+    (sym (ap (λ (p : PassView). p.seen) c.give-2.ensures.pass)) c.in-Load.ensures.answer.depot
 
 pub returns-in-Take-clause-seated : goal.returns-in-Take-clause-seated
 returns-in-Take-clause-seated g c =
     let s = c.requires.seated in
     let b = c.pin_all.ensures in
-    (waits g (goal.at.returns-in-Take-clause-seated g c).After-give, ((ap (λ x. x.pool) b ∙ s.1.0.0, ap (λ x. x.shape) b ∙ s.1.0.1), ap (λ x. x.pins) b, ap (λ x. x.fill) b ∙ s.1.2), s.2)
+    (waits g (goal.at.returns-in-Take-clause-seated g c).After-give-2, ((ap (λ x. x.pool) b ∙ s.1.0.0, ap (λ x. x.shape) b ∙ s.1.0.1), ap (λ x. x.pins) b, ap (λ x. x.fill) b ∙ s.1.2), s.2)
 
 pub returns-in-NotYet-clause-seated : goal.returns-in-NotYet-clause-seated
-returns-in-NotYet-clause-seated g c = (waits g (goal.at.returns-in-NotYet-clause-seated g c).After-give, c.requires.seated.1, c.requires.seated.2)
+returns-in-NotYet-clause-seated g c = (waits g (goal.at.returns-in-NotYet-clause-seated g c).After-give-2, c.requires.seated.1, c.requires.seated.2)
 
 pub returns-in-Finished-clause-seated : goal.returns-in-Finished-clause-seated
-returns-in-Finished-clause-seated g c = (waits g (goal.at.returns-in-Finished-clause-seated g c).After-give, c.requires.seated.1, c.requires.seated.2)
+returns-in-Finished-clause-seated g c = (waits g (goal.at.returns-in-Finished-clause-seated g c).After-give-2, c.requires.seated.1, c.requires.seated.2)
 
 pub returns-in-Stopped-clause-seated : goal.returns-in-Stopped-clause-seated
-returns-in-Stopped-clause-seated g c = (waits g (goal.at.returns-in-Stopped-clause-seated g c).After-give, c.requires.seated.1, c.requires.seated.2)
+returns-in-Stopped-clause-seated g c = (waits g (goal.at.returns-in-Stopped-clause-seated g c).After-give-2, c.requires.seated.1, c.requires.seated.2)
 
 pub returns-in-Take-clause-round : goal.returns-in-Take-clause-round
 returns-in-Take-clause-round g c =
@@ -109,9 +132,9 @@ returns-in-Take-clause-round g c =
     let new = c.turn-turn.new.self in
     let a = c.in-Take.ensures.answer in
     let at = goal.at.returns-in-Take-clause-round g c in
-    let seen = ap (λ (p : PassView). p.seen) c.give.ensures.pass in
+    let seen = ap (λ (p : PassView). p.seen) c.give-2.ensures.pass in
     let out : Given = record { chunk = chunk; rows = c.rows_of-rows.result; slots = slots } in
-    let made = turned g at.After-give (Deliver w q chunk ∷ []) a.added in
+    let made = turned g at.After-give-2 (Deliver w q chunk ∷ []) a.added in
     let once = subst NoneTwice (sym a.read) ((grouped s c.take_desk-desk.ensures.start.setting).once q chunk) in (
       record {
         loads = [];
@@ -121,7 +144,7 @@ returns-in-Take-clause-round g c =
         seen = seen ∙ a.added;
         ready = a.ready;
         fresh = ap (λ (l : List Entry). has (chunks_delivered l q) chunk) (sym ((went g at.After-take_desk-desk).own ∙ c.requires.seated.0.4)) ∙ ready_fresh s w q chunk old a.ready;
-        taken = delivered_chunk w q chunk c.args.station.now.pass c.give.new.pass [] tt made;
+        taken = delivered_chunk w q chunk c.args.station.now.pass c.give-2.new.pass [] tt made;
       },
       subst (λ (l : List Entry). Legal s (past l)) (sym seen) c.turn-turn.ensures.legal,
       subst (λ (l : List Entry). IsAt s (past l) w q (Some out)) (sym seen)
@@ -145,8 +168,8 @@ returns-in-Finished-clause-round g c =
     let new = c.turn-turn.new.self in
     let a = c.in-Finished.ensures.answer in
     let at = goal.at.returns-in-Finished-clause-round g c in
-    let seen = ap (λ (p : PassView). p.seen) c.give.ensures.pass in
-    let made = turned g at.After-give (End w q ∷ []) a in
+    let seen = ap (λ (p : PassView). p.seen) c.give-2.ensures.pass in
+    let made = turned g at.After-give-2 (End w q ∷ []) a in
     let row = row_finished s (past old) q c.in-Finished.ensures.row in (
       record {
         loads = [];
@@ -156,7 +179,7 @@ returns-in-Finished-clause-round g c =
         seen = seen ∙ a;
         not_stopped = row.0;
         needs_nothing = row.1;
-        taken = delivered_nothing q c.args.station.now.pass c.give.new.pass [] (End w q ∷ []) tt made refl;
+        taken = delivered_nothing q c.args.station.now.pass c.give-2.new.pass [] (End w q ∷ []) tt made refl;
       },
       subst (λ (l : List Entry). IsAtRest s (past l) w q) (sym seen)
           (record { legal = c.turn-turn.ensures.legal; inactive = ended_inactive old new w q a; idle = ended_idle s old new w q a (may g at.After-take_desk-desk).idle }),
@@ -170,15 +193,15 @@ returns-in-Stopped-clause-round g c =
     let old = c.take_desk-desk.result in
     let a = c.in-Stopped.ensures.answer in
     let at = goal.at.returns-in-Stopped-clause-round g c in
-    let seen = ap (λ (p : PassView). p.seen) c.give.ensures.pass in
-    let made = turned g at.After-give [] (a.0 ∙ sym (append-nil old)) in
+    let seen = ap (λ (p : PassView). p.seen) c.give-2.ensures.pass in
+    let made = turned g at.After-give-2 [] (a.0 ∙ sym (append-nil old)) in
     let stopped = row_stopped s (past old) q c.in-Stopped.ensures.row in (
       record {
         loads = [];
         only_loads = tt;
         went = made;
         first = ap (λ (l : List Entry). cause_of (past l) q) (seen ∙ a.0) ∙ a.1;
-        taken = delivered_nothing q c.args.station.now.pass c.give.new.pass [] [] tt made refl;
+        taken = delivered_nothing q c.args.station.now.pass c.give-2.new.pass [] [] tt made refl;
       },
       subst (λ (l : List Entry). IsAtRest s (past l) w q) (sym (seen ∙ a.0))
           (record { legal = c.take_desk-desk.ensures.legal; inactive = stopped_inactive (past old) q stopped; idle = (may g at.After-take_desk-desk).idle }),
@@ -192,11 +215,11 @@ returns-in-NotYet-clause-round g c =
     let old = c.take_desk-desk.result in
     let a = c.in-NotYet.ensures.answer in
     let at = goal.at.returns-in-NotYet-clause-round g c in
-    let seen = ap (λ (p : PassView). p.seen) c.give.ensures.pass ∙ a in
+    let seen = ap (λ (p : PassView). p.seen) c.give-2.ensures.pass ∙ a in
     record {
       loads = [];
       only_loads = tt;
-      went = turned g at.After-give [] (a ∙ sym (append-nil old));
+      went = turned g at.After-give-2 [] (a ∙ sym (append-nil old));
       legal = subst (λ (l : List Entry). Legal s (past l)) (sym seen) c.take_desk-desk.ensures.legal;
       may = subst (λ (l : List Entry). MayTurn s (past l) w q) (sym seen) (may g at.After-take_desk-desk);
     }
@@ -209,14 +232,14 @@ returns-in-Load-clause-round g c =
     let t = c.in-Load.ticket in
     let a = c.in-Load.ensures.answer in
     let at = goal.at.returns-in-Load-clause-round g c in
-    let seen = ap (λ (p : PassView). p.seen) c.give.ensures.pass in
+    let seen = ap (λ (p : PassView). p.seen) c.give-2.ensures.pass in
     let begun : List Entry = Plan w t.query t.chunk ∷ evicts w a.load.evicted ++ fills w t.slots in
     let only : AreOfLoads begun = (refl, loads_append (evicts w a.load.evicted) (fills w t.slots) (evicts_loads w a.load.evicted) (fills_loads w t.slots)) in
     let end = c.load.ensures.settled in
     record {
       loads = begun ++ end.added;
       only_loads = loads_append begun end.added only end.of_loads;
-      went = went_on c.args.station.now.pass c.give.new.pass c.load.new.station.pass begun end.added (turned g at.After-give begun a.load.added) end.went;
+      went = went_on c.args.station.now.pass c.give-2.new.pass c.load.new.station.pass begun end.added (turned g at.After-give-2 begun a.load.added) end.went;
       legal = end.legal;
       may = end.may q (subst (λ (l : List Entry). RunsOn s (past l) q w) (sym seen) a.runs);
     }
