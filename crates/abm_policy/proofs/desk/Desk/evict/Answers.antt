@@ -20,7 +20,7 @@ unreachable-requires g c =
 pub returns-clause-entries : goal.returns-clause-entries
 returns-clause-entries g c =
     let A : List Entry → Type 0 = λ es. AddsEvicts c.args.w es c.write.new.story.entries in
-    subst A c.self.view_is (adds_one c.args.w c.in-Some.chunk c.self.inside.story.entries c.write.new.story.entries c.write.ensures.entries)
+    subst A c.self.view_is (adds_one c.args.w _ c.self.inside.story.entries c.write.new.story.entries c.write.ensures.entries)
 
 pub returns-clause-frees : goal.returns-clause-frees
 returns-clause-frees g c =
