@@ -1,14 +1,13 @@
 -- The scans of a query that the story didn't stop took each chunk that the query needs exactly once among them.
-use Rattle.std.proofs.Common.{◌≡◌, ◌<◌, ◌≤◌, ◌+◌, ◌==◌, ◌||◌, ◌++◌, ℕ, zero, suc, Bool, true, false, List, [], ◌∷◌, length, map, All, Option, Some, None, refl, arith, inl, inr, subst}
+use Rattle.std.proofs.Common.{◌≡◌, ◌<◌, ◌≤◌, ◌+◌, ◌==◌, ◌||◌, ℕ, zero, suc, Bool, true, false, List, [], ◌∷◌, length, map, All, Option, Some, None, refl, arith, inl, inr, subst}
 use Rattle.std.specs.Prelude.{IsPermutation}
 use Rattle.std.specs.List.{AllByRecursion}
 use Rattle.std.proofs.lemmas.Bool.{cases_eq}
 use Rattle.std.proofs.lemmas.List.Elements.{All-from_recursion, recursion_from_All}
 use Rattle.std.proofs.lemmas.List.Sorted.{IsPermutation-append, IsPermutation-refl, IsPermutation-trans}
-use Rattle.table_core.specs.Sets.{numbers_below, AreMembers}
+use Rattle.table_core.specs.Sets.{numbers_below}
 use Rattle.table_core.proofs.Members.{numbers-rise}
-use Rattle.filter_zones.specs.Possible.{chunk_at, is_needed, needed}
-use Rattle.filter_zones.specs.declared.cond.Cond.{Cond}
+use Rattle.filter_zones.specs.Possible.{needed}
 use Rattle.filter_zones.specs.declared.zone.ChunkZones.{ChunkZones}
 use Rattle.scan_story.specs.declared.cause.Cause.{Cause}
 use Rattle.scan_story.specs.declared.cause.Cause.TheVariants as cause
@@ -23,45 +22,20 @@ use Rattle.story_laws.proofs.Bools.{either, not_both, or_off}
 use Rattle.story_laws.proofs.Lists.{rising_once}
 use Rattle.chunk_interest.specs.Fresh.{as_need}
 use Rattle.batch_plan.specs.Deal.{deal, dealt_to, is_dealt}
+use Rattle.batch_plan.proofs.Adding.{needed_members}
 use Rattle.batch_plan.proofs.Dealt.{all_dealt}
-use Rattle.batch_plan.specs.Scans.{Scan, need_of, needs, scan_number, scan_of, scans, scans_from, scans_from_part}
+use Rattle.batch_plan.proofs.Parted.{OfParts, each_part}
+use Rattle.batch_plan.specs.Scans.{need_of, needs, scan_number, scans}
 use Rattle.batch_plan.specs.declared.task.Task.{Task}
-use Rattle.batch_plan.proofs.Rises.{is_rising, rises_to}
+use Rattle.batch_plan.proofs.Rises.{is_rising}
 use Rattle.batch_run.specs.Lost.{cause_from, cause_of_query, or_first}
 use Rattle.batch_run.specs.Taken.{TookNeed}
 use Rattle.run_decision.specs.Running.{TookEachOnce, delivered_to}
 use Rattle.run_decision.proofs.Permuted.{same_numbers}
 
--- ---- the scans of a batch, by task and part
-
-split_all : {X : Type 0} (P : X → Type 0) (xs ys : List X) → AllByRecursion P (xs ++ ys) → AllByRecursion P xs × AllByRecursion P ys
-split_all P [] ys h = (tt, h)
-split_all P (x ∷ xs) ys h = (let rest = split_all P xs ys h.1 in ((h.0, rest.0), rest.1))
-
 of_mapped : {X Y : Type 0} (P : Y → Type 0) (f : X → Y) (xs : List X) → AllByRecursion P (map f xs) → AllByRecursion (λ x. P (f x)) xs
 of_mapped P f [] h = tt
 of_mapped P f (x ∷ xs) h = (h.0, of_mapped P f xs h.1)
-
-module _ (P : Scan → Type 0) (workers parts : ℕ) where
-  -- it holds of the scan of each part of a task, at some place
-  abbrev pub OfParts : Task → Type 0
-  OfParts t = (part : ℕ) → part < parts → (place : ℕ) × P (scan_of workers parts t place part)
-
-  part_of : (t : Task) (place part left : ℕ) → AllByRecursion P (scans_from_part workers parts t place part left) → (j : ℕ) → part ≤ j → j < part + left → (at : ℕ) × P (scan_of workers parts t at j)
-  part_of t place part zero all j low high = absurd (omega (arith, low, high))
-  part_of t place part (suc left) all j low high = elim (cases_eq part j) [
-    | inl here ↦ (place, subst (λ n. P (scan_of workers parts t place n)) here all.0)
-    | inr other ↦ part_of t (place + 1) (part + 1) left all.1 j (omega (arith, low, other)) (omega (arith, high))
-  ]
-
-  tasks_from : (place : ℕ) (tasks : List Task) → AllByRecursion P (scans_from workers parts place tasks) → AllByRecursion OfParts tasks
-  tasks_from place [] all = tt
-  tasks_from place (t ∷ tasks) all =
-      let both = split_all P (scans_from_part workers parts t place 0 parts) (scans_from workers parts (place + parts) tasks) all in
-      ((λ part low. part_of t place 0 parts both.0 part (omega arith) (omega (arith, low))), tasks_from (place + parts) tasks both.1)
-
-  pub each_part : (tasks : List Task) → AllByRecursion P (scans workers parts tasks) → AllByRecursion OfParts tasks
-  each_part tasks all = tasks_from 0 tasks all
 
 -- ---- what the story stopped
 
@@ -102,11 +76,6 @@ no_cause h parts query part (suc left) none j low high =
 
 members_once : (p : ℕ → Bool) (n : ℕ) → NoneTwice (numbers_below p n)
 members_once p n = rising_once (numbers_below p n) (is_rising 0 (numbers_below p n) n (numbers-rise p n))
-
-needed_members : (c : Option Cond) (zones : List ChunkZones) → length zones ≤ 1024 → AreMembers 1024 (needed c zones)
-needed_members c zones few =
-    let p : ℕ → Bool = λ x. is_needed c (chunk_at zones x) in
-    rises_to 0 (numbers_below p (length zones)) (length zones) 1024 few (numbers-rise p (length zones))
 
 -- a scan has its End, or the story stopped it
 abbrev pub IsOver : List Entry → ℕ → Type 0
