@@ -1,9 +1,10 @@
 -- A table's records, judged one by one.
-use Rattle.std.proofs.Common.{◌≡◌, ◌≢◌, ◌+◌, ◌≤◌, ℕ, List, ◌∷◌, length, arith, Fits, w32, sym, refl, None}
+use Rattle.std.proofs.Common.{◌≡◌, ◌≢◌, ◌+◌, ◌≤◌, ℕ, List, ◌∷◌, length, arith, Fits, w32, sym, refl, inl, inr, None}
 use Rattle.std.specs.Prelude.{All}
+use Rattle.std.proofs.lemmas.Bool.{cases_eq}
 use Rattle.std.proofs.lemmas.Bool.Decides.{nat_tests}
 use Rattle.std.proofs.lemmas.List.Elements.{All-head, All-same}
-use Rattle.csv_load.specs.Judged.{refusal_of, header_refusal, first_bad_row}
+use Rattle.csv_load.specs.Judged.{refusal_of, header_refusal, first_bad_row, row_refusal}
 use Rattle.csv_load.specs.declared.limits.TheConstants.{MOST_TEXT_BYTES}
 use Rattle.table_core.specs.declared.limits.TheConstants.{MOST_ROWS}
 
@@ -15,6 +16,16 @@ fits-row size r rest all small e short =
 pub first-judged : (all rest : List (List (List ℕ))) (r : List (List ℕ)) (width : ℕ) → all ≡ r ∷ rest → width ≡ length r → header_refusal r ≡ None → refusal_of all ≡ first_bad_row width 0 rest
 first-judged all rest r width e w none = rw (e, w) (rw none refl)
 
-pub next-judged : (all rest : List (List (List ℕ))) (r : List (List ℕ)) (width count : ℕ) → all ≡ r ∷ rest → length r ≡ width → count ≢ MOST_ROWS
+-- a record that is a row has the width, and is within the limit
+pub row-taken : (r : List (List ℕ)) (width count : ℕ) → row_refusal width count r ≡ None → (length r ≡ width) × (count ≢ MOST_ROWS)
+row-taken r width count none = elim (cases_eq count MOST_ROWS) [
+  | inl full ↦ grind (arith, nat_tests)
+  | inr more ↦ elim (cases_eq (length r) width) [
+    | inl same ↦ (same, more)
+    | inr other ↦ grind (arith, nat_tests)
+  ]
+]
+
+pub next-judged : (all rest : List (List (List ℕ))) (r : List (List ℕ)) (width count : ℕ) → all ≡ r ∷ rest → row_refusal width count r ≡ None
     → first_bad_row width count all ≡ first_bad_row width (count + 1) rest
-next-judged all rest r width count e w below = rw e (grind (arith, nat_tests))
+next-judged all rest r width count e none = rw e (rw none refl)

@@ -38,14 +38,15 @@ header_refusal header =
     else or_else (option_map (λ column. LongName column) (first_long 0 header))
     (option_map (λ p. TwiceNamed p.0 p.1) (first_twice header 0 header))
 
--- the first of these data records that is not as wide as the header; one past the limit of rows is one too many, however wide.
--- `row` of the data records stand before them
+-- why a data record is no row, where `row` of them stand before it: it isn't as wide as the header, or it is one past
+-- the limit of rows, however wide
+abbrev pub row_refusal : ℕ → ℕ → Fields → Option LoadRefusal
+row_refusal width row r = if row == MOST_ROWS then Some TooManyRows else if length r == width then None else Some (Ragged (row + 1) (length r))
+
+-- the first of these data records that is no row; `row` of the data records stand before them
 abbrev pub first_bad_row : ℕ → ℕ → List Fields → Option LoadRefusal
 first_bad_row width row [] = None
-first_bad_row width row (r ∷ rs) =
-    if row == MOST_ROWS then Some TooManyRows
-    else if length r == width then first_bad_row width (row + 1) rs
-    else Some (Ragged (row + 1) (length r))
+first_bad_row width row (r ∷ rs) = or_else (row_refusal width row r) (first_bad_row width (row + 1) rs)
 
 -- why a list of records is no table; its first record is the header
 abbrev pub refusal_of : List Fields → Option LoadRefusal

@@ -12,6 +12,7 @@
 //! docs/TABLES.md has the rules for users.
 #![tactic(auto)]
 
+mod data_row;
 mod fields;
 mod gathered;
 mod header;

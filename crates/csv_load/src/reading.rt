@@ -7,6 +7,7 @@ ghost use Rattle.csv_load.specs.Judged.{refusal_of};
 ghost use Rattle.csv_load.specs.Rows.{table_records};
 ghost use Rattle.csv_load.specs.declared.refusal.LoadRefusal.TheVariants as refusal;
 
+use crate::data_row::judge_row;
 use crate::fields::field;
 use crate::gathered::Gathered;
 use crate::header::judge_header;
@@ -16,7 +17,7 @@ use crate::rows::Rows;
 use crate::seeded::Seeded;
 use csv::ByteRecord;
 use std::alloc::{AllocError, Global};
-use table_core::{Bytes, Cell, MOST_ROWS};
+use table_core::{Bytes, Cell};
 
 // The names of a header, the texts of each column below it, and a cell for each field row by row.
 #[derive(Drop)]
@@ -99,14 +100,8 @@ pub(crate) fn read_rows(alloc: Global, hash: Seeded, text: &[u8]) -> Result<Read
     let mut read = no_rows(alloc, hash, &row)?;
     let mut count: u32 = 0;
     while rows.next(&mut row)? {
-        if count == MOST_ROWS {
-            return Err(LoadRefusal::TooManyRows);
-        }
-        if row.len() != width {
-            return Err(LoadRefusal::Ragged {
-                row: count + 1,
-                fields: row.len() as u32,
-            });
+        if let Some(cause) = judge_row(&row, width, count) {
+            return Err(cause);
         }
         put_row(&mut read.columns, &mut read.cells, &row)?;
         count += 1;

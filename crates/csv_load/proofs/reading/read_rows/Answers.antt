@@ -3,7 +3,7 @@ use Rattle.std.proofs.lemmas.List.Elements.{All-rest}
 use Rattle.csv.specs.Records.{fields_of}
 use Rattle.csv_load.specs.Rows.{table_records}
 use Rattle.csv_load.proofs.Left.{table-short}
-use Rattle.csv_load.proofs.Judging.{fits-row, first-judged, next-judged}
+use Rattle.csv_load.proofs.Judging.{fits-row, first-judged, next-judged, row-taken}
 use Rattle.csv_load.proofs.Rowwise.{so_far-none, so_far-more, rest-none}
 use Rattle.csv_load.proofs.reading.read_rows.Goals as goal
 
@@ -13,10 +13,14 @@ judge_header-requires c =
     let t = c.args.text.now in
     record { small = omega (arith, fits-row (length t) (fields_of c.next.new.row) c.next.new.self (table_records t) c.requires.small (sym c.new-rows.ensures.all ∙ e) (table-short t)) }
 
-pub overflow_cast-result : goal.overflow_cast-result
-overflow_cast-result c =
+pub judge_row-requires : goal.judge_row-requires
+judge_row-requires c =
     let e = (rw c.if-branch.true at c.in_ok-next-2.ensures.found) refl in
-    rw c.len-then-len-width.ensures (fits-row (length c.args.text.now) (fields_of c.next-in-loop-read.new.row) c.next-in-loop-read.new.self c.loop-read.rows c.requires.small e c.loop-read.invariant.short)
+    let t = c.args.text.now in
+    record {
+      small = omega (arith, fits-row (length t) (fields_of c.next-in-loop-read.new.row) c.next-in-loop-read.new.self c.loop-read.rows c.requires.small e c.loop-read.invariant.short);
+      few = c.loop-read.invariant.within;
+    }
 
 pub loop-read-init : goal.loop-read-init
 loop-read-init c =
@@ -40,14 +44,16 @@ loop-read-preserved c =
     let t = c.args.text.now in
     let is = c.loop-read.invariant in
     let put = rw c.deref_mut.ensures.value at c.in_ok-put_row.ensures in
+    let none = sym c.in_default-judge_row.ensures.refusal in
+    let taken = row-taken (fields_of c.next-in-loop-read.new.row) c.len-width.result c.loop-read.count none in
     record {
       wide = is.wide;
-      within = omega arith;
-      judged = is.judged ∙ next-judged c.loop-read.rows c.next-in-loop-read.new.self (fields_of c.next-in-loop-read.new.row) c.len-width.result c.loop-read.count e (omega arith) (omega arith);
+      within = omega (arith, is.within, taken.1);
+      judged = is.judged ∙ next-judged c.loop-read.rows c.next-in-loop-read.new.self (fields_of c.next-in-loop-read.new.row) c.len-width.result c.loop-read.count e none;
       counted = omega (arith, is.counted, ap length e);
       short = All-rest (λ (r : List (List ℕ)). length r ≤ length t + 1) (fields_of c.next-in-loop-read.new.row) c.next-in-loop-read.new.self c.loop-read.rows e is.short;
       so_far = rw (rest-none c.put_row.new.columns c.loop-read.read.columns.items c.loop-read.read.columns.len put.width (omega (arith, c.loop-read.read.columns.ok.0)))
           (so_far-more (table_records t) c.loop-read.read.names.items c.loop-read.read.columns.items c.put_row.new.columns c.loop-read.read.cells.items c.put_row.new.cells.items
           (fields_of c.next-in-loop-read.new.row) c.loop-read.rows c.next-in-loop-read.new.self is.so_far e
-          (omega (arith, c.len.ensures, c.if-len-width.false, is.wide)) put);
+          (omega (arith, taken.0, is.wide)) put);
     }
