@@ -8,7 +8,10 @@ use std::sync::Wait;
 use std::time::Duration;
 
 // How often in a row a scan lets others go first.
-const PATIENCE: u32 = 4;
+const SLEEPS: u32 = 16;
+
+// How often of these in a row while nobody does anything.
+const QUIET_SLEEPS: u32 = 4;
 
 // The microseconds that it sleeps for them each time.
 const FOR_OTHERS: u64 = 40;
@@ -27,40 +30,54 @@ pub(crate) enum Pause {
     ForOthers,
 }
 
-/// How often a scan lets others go first before it loads.
+/// How often a scan still lets others go first before it loads.
 #[derive(Drop)]
 pub(crate) struct Patience {
-    left: u32,
+    sleeps: u32,
+    quiet_sleeps: u32,
+    // How many entries the query had waited when it last let others go first.
+    waited: u64,
 }
 
 impl Patience {
     pub(crate) fn new() -> Patience {
-        Patience { left: PATIENCE }
+        Patience {
+            sleeps: SLEEPS,
+            quiet_sleeps: QUIET_SLEEPS,
+            waited: 0,
+        }
     }
 
-    /// Whether it lets others go first.
-    pub(crate) fn is_left(&self) -> bool {
-        self.left > 0
+    /// Whether the query lets others go first now: it would load, another has a chunk to take, and its patience isn't at an
+    /// end.
+    pub(crate) fn lets_others_first(&mut self, book: &Book, query: u32) -> bool
+        requires query { query ≤ 256 }
+    {
+        if self.sleeps == 0 || self.quiet_sleeps == 0 {
+            return false;
+        }
+        if !book.is_trigger(query) || book.available(query) > 0 || !others_have(book, query) {
+            return false;
+        }
+        let waited = book.waiting(query);
+        self.quiet_sleeps = if waited == self.waited {
+            self.quiet_sleeps - 1
+        } else {
+            QUIET_SLEEPS
+        };
+        self.sleeps -= 1;
+        self.waited = waited;
+        true
     }
 
     /// Waits as the pause says. The bell's rings were read before the turn.
     pub(crate) fn pause<R: Wait>(&mut self, rt: &R, bell: &Bell, rings: u64, pause: Pause) {
         match pause {
-            Pause::None => self.left = PATIENCE,
+            Pause::None => *self = Patience::new(),
             Pause::ForLoad => bell.wait(rt, rings, Duration::from_micros(FOR_LOAD)),
-            Pause::ForOthers => {
-                self.left = self.left.saturating_sub(1);
-                bell.wait(rt, rings, Duration::from_micros(FOR_OTHERS));
-            }
+            Pause::ForOthers => bell.wait(rt, rings, Duration::from_micros(FOR_OTHERS)),
         }
     }
-}
-
-/// Whether a turn of the query would load, while another query has a chunk to take.
-pub(crate) fn lets_others_first(book: &Book, query: u32) -> bool
-    requires query { query ≤ 256 }
-{
-    book.is_trigger(query) && book.available(query) == 0 && others_have(book, query)
 }
 
 /// Whether no load is underway, and no other query has a chunk to take.

@@ -11,7 +11,7 @@ ghost use Rattle.cscan.specs.Stations.{IsSeated};
 use crate::desk::take_desk;
 use crate::given::Given;
 use crate::loading::load;
-use crate::pausing::{Patience, Pause, lets_others_first, others_have_none};
+use crate::pausing::{Patience, Pause, others_have_none};
 use crate::pinning::pin_all;
 use crate::station::Station;
 use abm_policy::{Desk, Turn};
@@ -50,7 +50,7 @@ pub(crate) fn turn_once<S: Origin, C: Content, P: Policy, D: Depot, R: Wait>(
     shape: &Shape,
     station: &mut Station<S, C, P, D>,
     query: u32,
-    is_patient: bool,
+    patience: &mut Patience,
 ) -> Round
     requires seated { IsSeated baton.now pool.now S.origin [] station.old }
     requires fits { Fits S.origin C.pieces shape.now pool.now }
@@ -62,7 +62,7 @@ pub(crate) fn turn_once<S: Origin, C: Content, P: Policy, D: Depot, R: Wait>(
 {
     let number = station.number;
     let mut desk = take_desk(rt, baton, &mut station.pass);
-    if is_patient && lets_others_first(desk.book(), query) {
+    if patience.lets_others_first(desk.book(), query) {
         baton.give(rt, &mut station.pass, desk);
         return Round::Again(Pause::ForOthers);
     }
@@ -111,8 +111,7 @@ pub(crate) fn turn_on<S: Origin, C: Content, P: Policy, D: Depot, R: Wait>(
     let mut patience = Patience::new();
     for _ in rt.forever() {
         let rings = bell.rings();
-        let is_patient = patience.is_left();
-        match turn_once(rt, baton, pool, shape, station, query, is_patient) {
+        match turn_once(rt, baton, pool, shape, station, query, &mut patience) {
             Round::Again(pause) => patience.pause(rt, bell, rings, pause),
             Round::Took(given) => return Round::Took(given),
             Round::Done => return Round::Done,
