@@ -3,14 +3,17 @@
 //! output; the theorem is `run_boxed`'s.
 #![tactic(auto)]
 
-ghost use Rattle.std.specs.Prelude.{◌≡◌, ◌≤◌, ◌^◌, IfOk, is_some};
-ghost use Rattle.command_words.specs.Matched.{texts};
-ghost use Rattle.command_words.specs.Options.{scratch_of as name_of_file};
-ghost use Rattle.coop_cli.specs.Chosen.{is_in_file};
+mod depot;
+mod ending;
+mod words;
+
+ghost use Rattle.std.specs.Prelude.{◌≤◌, ◌^◌};
 ghost use Rattle.coop_outside.specs.Either.{any_gets};
 
-use command_words::scratch_of;
-use coop_outside::{AnyDepot, DiskShelf, MemDepot, ScratchDepot, StdoutSink, write_all};
+use crate::depot::depot_of;
+use crate::ending::end;
+use crate::words::{behind_name, stop_of};
+use coop_outside::{AnyDepot, DiskShelf, StdoutSink};
 pub use coop_run::{BoxedEnd, Ended, PolicyRun, Settings, run, run_boxed, run_settings};
 use cscan::NoGate;
 use policy_box::Elevator;
@@ -24,39 +27,13 @@ use std::sync::Wait;
 use std::thread::Threads;
 use std::{env, io};
 
-// The words after the program's name.
-fn words_of(rt: &HostRuntime) -> io::Result<Vec<String>> {
-    let mut words = Vec::new(rt.alloc());
-    for word in env::args(rt)?.skip(1) {
-        words.push(word)?;
+// All words of the command line, with the program's name.
+fn all_words(rt: &HostRuntime) -> io::Result<Vec<String>> {
+    let mut all = Vec::new(rt.alloc());
+    for word in env::args(rt)? {
+        all.push(word)?;
     }
-    Ok(words)
-}
-
-// Why the words could not be had: a word that isn't UTF-8 is a faulty command line, all else is want of memory.
-fn stop_of(error: io::Error) -> Stop {
-    if error.kind() == io::ErrorKind::InvalidData {
-        Stop::Usage
-    } else {
-        Stop::Memory
-    }
-}
-
-// The depot that the words ask for: a file of this name, or memory.
-fn depot_of(rt: HostRuntime, words: &[String]) -> Result<AnyDepot<HostRuntime>, Stop>
-    ensures fresh { IfOk result (λ depot. any_gets depot ≡ 0) }
-    ensures asked { IfOk result (λ depot. is_in_file depot ≡ is_some (name_of_file (texts words.now))) }
-    ensures refused { (stop : Stop) → result ≡ Err stop → stop ≡ Stop.Memory }
-{
-    let alloc = rt.alloc();
-    match scratch_of(alloc, words) {
-        Ok(Some(name)) => {
-            let name = String::from_str(alloc, name)?;
-            Ok(AnyDepot::Scratch(ScratchDepot::new(alloc, rt, name)))
-        }
-        Ok(None) => Ok(AnyDepot::Mem(MemDepot::new(alloc))),
-        Err(_) => Err(Stop::Memory),
-    }
+    Ok(all)
 }
 
 // Runs the program with the four policies, and answers its status; or memory was wanting for a box.
@@ -89,19 +66,15 @@ fn run_on<R: Threads + Wait + Sync>(
     rt: HostRuntime,
     out: &mut StdoutSink<HostRuntime>,
 ) -> Result<u8, Stop> {
-    let words = words_of(&rt).map_err(stop_of)?;
+    let all = all_words(&rt).map_err(stop_of)?;
+    let words = behind_name(&all);
     let keys = RandomState::new(&rt).map_err(stop_of)?;
-    let depot = depot_of(rt, &words)?;
-    Ok(run_with_four(handle, rt, keys, &words, depot, out)?)
+    let depot = depot_of(rt, words)?;
+    Ok(run_with_four(handle, rt, keys, words, depot, out)?)
 }
 
 fn main(rt: HostRuntime) -> ExitCode {
     let mut out = StdoutSink::new(rt);
-    match run_on(&rt, rt, &mut out) {
-        Ok(status) => ExitCode::from(status),
-        Err(stop) => {
-            let _ = write_all(&mut out, stop.line().as_slice());
-            ExitCode::from(stop.status())
-        }
-    }
+    let ended = run_on(&rt, rt, &mut out);
+    end(ended, &mut out)
 }
