@@ -70,7 +70,8 @@ fn read_more<F: Shelf>(
     ensures held { F.held shelf.new ≡ F.held shelf.old }
     ensures later { F.faults shelf.old ≤ F.faults shelf.new }
     ensures given { F.given shelf.new ≤ F.given shelf.old + length part.old }
-    ensures kept { OnOk result (F.given shelf.new + length bytes.old.items ≤ F.given shelf.old + length bytes.new.items) }
+    ensures kept { OnOk result (F.given shelf.new + length bytes.old.items
+        ≤ F.given shelf.old + length bytes.new.items) }
 {
     match shelf.read_at(name, bytes.len() as u64, part) {
         Ok(count) => {
