@@ -101,6 +101,13 @@ fn check(rt: &impl Abort, alloc: Global, case: &Case) -> Result<(), Fail> {
     Ok(())
 }
 
+fn check_cases(rt: &impl Abort, alloc: Global, cases: &[Case]) -> Result<(), Fail> {
+    for case in cases {
+        check(rt, alloc, case)?;
+    }
+    Ok(())
+}
+
 const BOTH: [&[Row]; 2] = [&PAY, &MIXED];
 
 const ID_UP: Order = Order {
@@ -128,7 +135,7 @@ const AMOUNT_DOWN: Order = Order {
     descending: true,
 };
 
-const IN_ORDER: [Case; 5] = [
+const IN_ORDER: &[Case] = &[
     (
         "the greatest first",
         &[ID, AMOUNT],
@@ -166,13 +173,10 @@ const IN_ORDER: [Case; 5] = [
 
 #[test]
 fn first_rows_in_an_order(rt: HostRuntime) -> Result<(), Fail> {
-    for case in &IN_ORDER {
-        check(&rt, rt.alloc(), case)?;
-    }
-    Ok(())
+    check_cases(&rt, rt.alloc(), IN_ORDER)
 }
 
-const EQUAL: [Case; 3] = [
+const EQUAL: &[Case] = &[
     (
         "two of a dept",
         &[ID, DEPT],
@@ -199,10 +203,7 @@ const EQUAL: [Case; 3] = [
 
 #[test]
 fn equal_rows_stand_by_their_numbers(rt: HostRuntime) -> Result<(), Fail> {
-    for case in &EQUAL {
-        check(&rt, rt.alloc(), case)?;
-    }
-    Ok(())
+    check_cases(&rt, rt.alloc(), EQUAL)
 }
 
 // The text of two picked rows of a column with two places.

@@ -199,10 +199,17 @@ fn cond_of(alloc: Global, rows: Where) -> Result<Option<Cond>, Memory> {
 // A name, what is asked, of which rows, those of the table, and the answer.
 type Case = (&'static str, Asked, Where, &'static [Row], Wanted);
 
-fn check_case(rt: &impl Abort, alloc: Global, case: Case) -> Result<(), Fail> {
+fn check_case(rt: &impl Abort, alloc: Global, case: &Case) -> Result<(), Fail> {
     let (name, asked, rows, table, wanted) = case;
-    let plan = plan_of(alloc, asked, cond_of(alloc, rows)?)?;
-    check(rt, alloc, name, &plan, table, &wanted)
+    let plan = plan_of(alloc, *asked, cond_of(alloc, *rows)?)?;
+    check(rt, alloc, name, &plan, table, wanted)
+}
+
+fn check_cases(rt: &impl Abort, alloc: Global, cases: &[Case]) -> Result<(), Fail> {
+    for case in cases {
+        check_case(rt, alloc, case)?;
+    }
+    Ok(())
 }
 
 const BY_DEPT: Asked = Asked::Groups(&[Item::Key(0), Item::CountAll, Item::Sum(PAY)], &[DEPT]);
@@ -225,7 +232,7 @@ const NO_GROUPS: Wanted = Wanted::Rows(&[]);
 
 const ONE_GROUP: Wanted = Wanted::Rows(&[&[Int(0), Null]]);
 
-const GROUPS: [Case; 3] = [
+const GROUPS: &[Case] = &[
     ("all rows", BY_DEPT, Where::All, &ROWS, ALL_GROUPS),
     (
         "no row, no group",
@@ -245,13 +252,10 @@ const GROUPS: [Case; 3] = [
 
 #[test]
 fn groups_are_answered_with_their_rows(rt: HostRuntime) -> Result<(), Fail> {
-    for case in GROUPS {
-        check_case(&rt, rt.alloc(), case)?;
-    }
-    Ok(())
+    check_cases(&rt, rt.alloc(), GROUPS)
 }
 
-const UNKNOWN: [Case; 2] = [
+const UNKNOWN: &[Case] = &[
     (
         "more than 0",
         BY_DEPT,
@@ -270,15 +274,12 @@ const UNKNOWN: [Case; 2] = [
 
 #[test]
 fn a_condition_that_is_unknown_leaves_a_row_out(rt: HostRuntime) -> Result<(), Fail> {
-    for case in UNKNOWN {
-        check_case(&rt, rt.alloc(), case)?;
-    }
-    Ok(())
+    check_cases(&rt, rt.alloc(), UNKNOWN)
 }
 
 const SUMS: Asked = Asked::Groups(&[Item::Max(ID), Item::Sum(PAY), Item::Sum(ID)], &[DEPT]);
 
-const OVERFLOWS: [Case; 2] = [
+const OVERFLOWS: &[Case] = &[
     (
         "first in key order",
         SUMS,
@@ -297,10 +298,7 @@ const OVERFLOWS: [Case; 2] = [
 
 #[test]
 fn the_first_sum_that_overflows_is_answered(rt: HostRuntime) -> Result<(), Fail> {
-    for case in OVERFLOWS {
-        check_case(&rt, rt.alloc(), case)?;
-    }
-    Ok(())
+    check_cases(&rt, rt.alloc(), OVERFLOWS)
 }
 
 const GREATEST_FIRST: [Order; 1] = [Order {
@@ -308,7 +306,7 @@ const GREATEST_FIRST: [Order; 1] = [Order {
     descending: true,
 }];
 
-const FIRSTS: [Case; 2] = [
+const FIRSTS: &[Case] = &[
     (
         "the greatest first",
         Asked::Rows(&[ID, PAY], &GREATEST_FIRST, 2),
@@ -327,13 +325,10 @@ const FIRSTS: [Case; 2] = [
 
 #[test]
 fn first_rows_are_answered(rt: HostRuntime) -> Result<(), Fail> {
-    for case in FIRSTS {
-        check_case(&rt, rt.alloc(), case)?;
-    }
-    Ok(())
+    check_cases(&rt, rt.alloc(), FIRSTS)
 }
 
-const PLAIN: [Case; 2] = [
+const PLAIN: &[Case] = &[
     (
         "by their numbers",
         Asked::Rows(&[ID], &[], 3),
@@ -352,10 +347,7 @@ const PLAIN: [Case; 2] = [
 
 #[test]
 fn first_rows_without_an_order_stand_by_their_numbers(rt: HostRuntime) -> Result<(), Fail> {
-    for case in PLAIN {
-        check_case(&rt, rt.alloc(), case)?;
-    }
-    Ok(())
+    check_cases(&rt, rt.alloc(), PLAIN)
 }
 
 #[test]

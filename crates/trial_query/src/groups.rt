@@ -70,6 +70,13 @@ fn check(rt: &impl Abort, alloc: Global, case: &Case) -> Result<(), Fail> {
     Ok(())
 }
 
+fn check_cases(rt: &impl Abort, alloc: Global, cases: &[Case]) -> Result<(), Fail> {
+    for case in cases {
+        check(rt, alloc, case)?;
+    }
+    Ok(())
+}
+
 const PAY: [[Cell; 2]; 5] = [
     [Code(0), Int(10)],
     [Code(1), Int(20)],
@@ -88,7 +95,7 @@ const OF_EACH_ITEM: [Item; 5] = [
     Item::Max(1),
 ];
 
-const CASES: [Case; 7] = [
+const CASES: &[Case] = &[
     (
         "sums and counts by dept",
         &BY_DEPT,
@@ -149,13 +156,10 @@ const CASES: [Case; 7] = [
 
 #[test]
 fn sums_counts_least_and_greatest_by_key(rt: HostRuntime) -> Result<(), Fail> {
-    for case in &CASES {
-        check(&rt, rt.alloc(), case)?;
-    }
-    Ok(())
+    check_cases(&rt, rt.alloc(), CASES)
 }
 
-const EDGES: [Case; 5] = [
+const EDGES: &[Case] = &[
     (
         "one above",
         &[Item::Sum(0)],
@@ -206,10 +210,7 @@ const EDGES: [Case; 5] = [
 
 #[test]
 fn sums_at_the_edge_of_64_bits(rt: HostRuntime) -> Result<(), Fail> {
-    for case in &EDGES {
-        check(&rt, rt.alloc(), case)?;
-    }
-    Ok(())
+    check_cases(&rt, rt.alloc(), EDGES)
 }
 
 // The text of one row with a count, a sum and a NULL over a column with two places.

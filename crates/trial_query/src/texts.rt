@@ -1,7 +1,7 @@
 // Texts with their queries or refusals, written by hand from the rules of `docs/SQL.md`.
 
 use itoa::Buffer;
-use sql_text::{Literal, QCond, QItem, Query, TextRefusal, read_query, write_query};
+use sql_text::{Literal, QCond, QItem, QOrder, Query, TextRefusal, read_query, write_query};
 use std::alloc::Global;
 use std::process::Abort;
 use std::test::Fail;
@@ -9,7 +9,7 @@ use table_core::{Bytes, Op};
 
 // A query is shown as its items (# counts, + sums, < and > are least and greatest), its table, ? and its condition with
 // a parenthesis round each AND and OR, / and its keys, ^ and its orders, = and its limit.
-const QUERIES: [(&[u8], &[u8]); 54] = [
+const QUERIES: &[(&[u8], &[u8])] = &[
     (b"SELECT COUNT(*) FROM t", b"# t"),
     (b"select count ( * )\nfrom t -- all", b"# t"),
     (
@@ -88,7 +88,7 @@ const QUERIES: [(&[u8], &[u8]); 54] = [
 ];
 
 // What stands behind WHERE.
-const CONDITIONS: [(&[u8], &[u8]); 43] = [
+const CONDITIONS: &[(&[u8], &[u8])] = &[
     (b"a = 1", b"a=1"),
     (b"a <> 1", b"a!1"),
     (b"a != 1", b"a!1"),
@@ -227,32 +227,52 @@ fn show_names(mark: u8, names: &[Bytes], out: &mut Vec<u8>) -> Result<(), Fail> 
     Ok(())
 }
 
-fn show_query(alloc: Global, query: &Query) -> Result<Vec<u8>, Fail> {
-    let mut out = Vec::new(alloc);
-    for (i, item) in query.items.iter().enumerate() {
+fn show_items(items: &[QItem], out: &mut Vec<u8>) -> Result<(), Fail> {
+    for (i, item) in items.iter().enumerate() {
         if i > 0 {
             out.push(b',')?;
         }
-        show_item(item, &mut out)?;
+        show_item(item, out)?;
     }
-    out.push(b' ')?;
-    out.extend_from_slice(query.table.as_slice())?;
-    if let Some(cond) = &query.cond {
+    Ok(())
+}
+
+fn show_where(cond: &Option<QCond>, out: &mut Vec<u8>) -> Result<(), Fail> {
+    if let Some(cond) = cond {
         out.extend_from_slice(b" ?")?;
-        show_cond(9, cond, &mut out)?;
+        show_cond(9, cond, out)?;
     }
-    show_names(b'/', &query.keys, &mut out)?;
-    for (i, order) in query.order.iter().enumerate() {
+    Ok(())
+}
+
+fn show_order(orders: &[QOrder], out: &mut Vec<u8>) -> Result<(), Fail> {
+    for (i, order) in orders.iter().enumerate() {
         out.extend_from_slice(if i == 0 { b" ^" } else { b"," })?;
         out.extend_from_slice(order.column.as_slice())?;
         if order.descending {
             out.push(b'-')?;
         }
     }
-    if let Some(limit) = query.limit {
+    Ok(())
+}
+
+fn show_limit(limit: Option<u32>, out: &mut Vec<u8>) -> Result<(), Fail> {
+    if let Some(limit) = limit {
         out.extend_from_slice(b" =")?;
         out.extend_from_slice(Buffer::new().format(limit).as_bytes())?;
     }
+    Ok(())
+}
+
+fn show_query(alloc: Global, query: &Query) -> Result<Vec<u8>, Fail> {
+    let mut out = Vec::new(alloc);
+    show_items(&query.items, &mut out)?;
+    out.push(b' ')?;
+    out.extend_from_slice(query.table.as_slice())?;
+    show_where(&query.cond, &mut out)?;
+    show_names(b'/', &query.keys, &mut out)?;
+    show_order(&query.order, &mut out)?;
+    show_limit(query.limit, &mut out)?;
     Ok(out)
 }
 
@@ -273,29 +293,45 @@ fn answer(rt: &impl Abort, alloc: Global, text: &[u8]) -> Result<Vec<u8>, Fail> 
     }
 }
 
+// Tests how the query of each text is shown, or why it is refused.
+fn expect_queries(rt: &impl Abort, alloc: Global, rows: &[(&[u8], &[u8])]) -> Result<(), Fail> {
+    for (text, want) in rows {
+        let shown = answer(rt, alloc, text)?;
+        assert!(rt; shown.as_slice() == *want, "{text:?}");
+    }
+    Ok(())
+}
+
 #[test]
 fn each_text_is_its_query_or_is_refused(rt: HostRuntime) -> Result<(), Fail> {
-    for (text, want) in QUERIES {
-        let shown = answer(&rt, rt.alloc(), text)?;
-        assert_eq!(rt; shown.as_slice(), want);
+    expect_queries(&rt, rt.alloc(), QUERIES)
+}
+
+// The answer for a query with this condition.
+fn answer_where(rt: &impl Abort, alloc: Global, condition: &[u8]) -> Result<Vec<u8>, Fail> {
+    let mut text = b"SELECT a FROM t WHERE ".to_vec(alloc)?;
+    text.extend_from_slice(condition)?;
+    answer(rt, alloc, &text)
+}
+
+// Tests how each condition is shown behind its query, or that it is refused.
+fn expect_conditions(rt: &impl Abort, alloc: Global, rows: &[(&[u8], &[u8])]) -> Result<(), Fail> {
+    for (condition, want) in rows {
+        let shown = answer_where(rt, alloc, condition)?;
+        let is_refused = *want == b"syntax".as_slice();
+        let tree = if is_refused {
+            Some(shown.as_slice())
+        } else {
+            shown.as_slice().strip_prefix(b"a t ?")
+        };
+        assert!(rt; tree == Some(*want), "{condition:?}");
     }
     Ok(())
 }
 
 #[test]
 fn each_condition_is_its_tree_or_is_refused(rt: HostRuntime) -> Result<(), Fail> {
-    for (condition, want) in CONDITIONS {
-        let mut text = b"SELECT a FROM t WHERE ".to_vec(rt.alloc())?;
-        text.extend_from_slice(condition)?;
-        let mut whole = Vec::new(rt.alloc());
-        if want != b"syntax".as_slice() {
-            whole.extend_from_slice(b"a t ?")?;
-        }
-        whole.extend_from_slice(want)?;
-        let shown = answer(&rt, rt.alloc(), &text)?;
-        assert_eq!(rt; shown.as_slice(), whole.as_slice());
-    }
-    Ok(())
+    expect_conditions(&rt, rt.alloc(), CONDITIONS)
 }
 
 /// The front, so many times the part, and the end.
@@ -314,78 +350,70 @@ fn repeated(
     Ok(text)
 }
 
-// A front, a part, how many times it stands, an end, and what the text is.
-const OVER: [(&[u8], &[u8], u32, &[u8], &[u8]); 14] = [
-    (b"SELECT COUNT(*) FROM t WHERE ", b"(", 255, b"", b"syntax"),
+// A front, a part, how many times it stands, and an end.
+type Long<'a> = (&'a [u8], &'a [u8], u32, &'a [u8]);
+
+// Long texts, and what each of them is.
+const OVER: &[(Long<'static>, &[u8])] = &[
     (
-        b"SELECT COUNT(*) FROM t WHERE ",
-        b"(",
-        256,
-        b"",
+        (b"SELECT COUNT(*) FROM t WHERE ", b"(", 255, b""),
+        b"syntax",
+    ),
+    (
+        (b"SELECT COUNT(*) FROM t WHERE ", b"(", 256, b""),
         b"too nested",
     ),
     (
-        b"SELECT COUNT(*) FROM t WHERE ",
-        b"(",
-        257,
-        b"",
-        b"too nested",
-    ),
-    (b"SELECT COUNT(*) FROM t WHERE ", b"(", 256, b"!", b"syntax"),
-    (
-        b"SELECT a FROM t WHERE ",
-        b"NOT ",
-        257,
-        b"a = 1",
+        (b"SELECT COUNT(*) FROM t WHERE ", b"(", 257, b""),
         b"too nested",
     ),
     (
-        b"SELECT COUNT(*)",
-        b", COUNT(*)",
-        32,
-        b" FROM t",
+        (b"SELECT COUNT(*) FROM t WHERE ", b"(", 256, b"!"),
+        b"syntax",
+    ),
+    (
+        (b"SELECT a FROM t WHERE ", b"NOT ", 257, b"a = 1"),
+        b"too nested",
+    ),
+    (
+        (b"SELECT COUNT(*)", b", COUNT(*)", 32, b" FROM t"),
         b"too many items",
     ),
     (
-        b"SELECT a",
-        b", a",
-        32,
-        b" FROM t LIMIT 1",
+        (b"SELECT a", b", a", 32, b" FROM t LIMIT 1"),
         b"too many items",
     ),
     (
-        b"SELECT a FROM t GROUP BY a",
-        b", a",
-        32,
-        b"",
+        (b"SELECT a FROM t GROUP BY a", b", a", 32, b""),
         b"too many items",
     ),
     (
-        b"SELECT a FROM t ORDER BY a",
-        b", a",
-        32,
-        b" LIMIT 1",
+        (b"SELECT a FROM t ORDER BY a", b", a", 32, b" LIMIT 1"),
         b"too many items",
     ),
-    (b"SELECT a", b", a", 100000, b" FROM t", b"too many items"),
-    (b"SELECT a", b", a", 100000, b"", b"syntax"),
-    (b"", b"(", 1048576, b"", b"too nested"),
-    (b"", b"'", 1048576, b"", b"syntax"),
-    (b"", b" ", 1048576, b"", b"syntax"),
+    ((b"SELECT a", b", a", 100000, b" FROM t"), b"too many items"),
+    ((b"SELECT a", b", a", 100000, b""), b"syntax"),
+    ((b"", b"(", 1048576, b""), b"too nested"),
+    ((b"", b"'", 1048576, b""), b"syntax"),
+    ((b"", b" ", 1048576, b""), b"syntax"),
 ];
 
-#[test]
-fn the_limits_are_exact(rt: HostRuntime) -> Result<(), Fail> {
-    for (front, part, count, end, want) in OVER {
-        let text = repeated(rt.alloc(), front, part, count, end)?;
-        let shown = answer(&rt, rt.alloc(), &text)?;
-        assert_eq!(rt; shown.as_slice(), want);
+fn expect_over(rt: &impl Abort, alloc: Global, rows: &[(Long<'_>, &[u8])]) -> Result<(), Fail> {
+    for (long, want) in rows {
+        let (front, part, count, end) = *long;
+        let text = repeated(alloc, front, part, count, end)?;
+        let shown = answer(rt, alloc, &text)?;
+        assert!(rt; shown.as_slice() == *want, "{front:?} {count}");
     }
     Ok(())
 }
 
-// A front, a part, how many times it stands, and an end.
-const WITHIN: [(&[u8], &[u8], u32, &[u8]); 6] = [
+#[test]
+fn the_limits_are_exact(rt: HostRuntime) -> Result<(), Fail> {
+    expect_over(&rt, rt.alloc(), OVER)
+}
+
+const WITHIN: &[Long<'static>] = &[
     (b"SELECT a FROM t WHERE a = 1", b" OR a = 1", 256, b""),
     (b"SELECT a FROM t WHERE a = 1", b" AND a = 1", 256, b""),
     (b"SELECT a FROM t WHERE ", b"NOT ", 256, b"a = 1"),
@@ -394,18 +422,26 @@ const WITHIN: [(&[u8], &[u8], u32, &[u8]); 6] = [
     (b"SELECT a FROM t ORDER BY a", b", a", 31, b" LIMIT 1"),
 ];
 
-#[test]
-fn what_is_just_within_the_limits_is_read(rt: HostRuntime) -> Result<(), Fail> {
-    for (front, part, count, end) in WITHIN {
-        let text = repeated(rt.alloc(), front, part, count, end)?;
-        assert!(rt; text.len() <= 1 << 21);
-        assert!(rt; read_query(rt.alloc(), &text).is_ok());
+fn is_read(rt: &impl Abort, alloc: Global, text: &[u8]) -> bool {
+    assert!(rt; text.len() <= 1 << 21);
+    read_query(alloc, text).is_ok()
+}
+
+fn expect_read(rt: &impl Abort, alloc: Global, rows: &[Long<'_>]) -> Result<(), Fail> {
+    for (front, part, count, end) in rows {
+        let text = repeated(alloc, front, part, *count, end)?;
+        assert!(rt; is_read(rt, alloc, &text), "{front:?}");
     }
     Ok(())
 }
 
+#[test]
+fn what_is_just_within_the_limits_is_read(rt: HostRuntime) -> Result<(), Fail> {
+    expect_read(&rt, rt.alloc(), WITHIN)
+}
+
 // Texts, and how their queries are written.
-const WRITTEN: [(&[u8], &[u8]); 10] = [
+const WRITTEN: &[(&[u8], &[u8])] = &[
     (b"select count(*) from t", b"SELECT COUNT ( * ) FROM \"t\""),
     (
         b"SELECT SUM(a), b FROM t WHERE b IS NULL GROUP BY b, c",
@@ -452,14 +488,18 @@ fn rewritten(rt: &impl Abort, alloc: Global, text: &[u8]) -> Result<Vec<u8>, Fai
     Ok(bytes.into_vec())
 }
 
-#[test]
-fn a_query_is_written_and_read_back(rt: HostRuntime) -> Result<(), Fail> {
-    for (text, want) in WRITTEN {
-        let written = rewritten(&rt, rt.alloc(), text)?;
-        assert_eq!(rt; written.as_slice(), want);
-        let before = answer(&rt, rt.alloc(), text)?;
-        let after = answer(&rt, rt.alloc(), &written)?;
-        assert_eq!(rt; after.as_slice(), before.as_slice());
+fn expect_written(rt: &impl Abort, alloc: Global, rows: &[(&[u8], &[u8])]) -> Result<(), Fail> {
+    for (text, want) in rows {
+        let written = rewritten(rt, alloc, text)?;
+        assert!(rt; written.as_slice() == *want, "{text:?}");
+        let before = answer(rt, alloc, text)?;
+        let after = answer(rt, alloc, &written)?;
+        assert!(rt; after.as_slice() == before.as_slice(), "{text:?}");
     }
     Ok(())
+}
+
+#[test]
+fn a_query_is_written_and_read_back(rt: HostRuntime) -> Result<(), Fail> {
+    expect_written(&rt, rt.alloc(), WRITTEN)
 }

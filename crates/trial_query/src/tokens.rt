@@ -9,7 +9,7 @@ use std::process::Abort;
 use std::test::Fail;
 
 // k keyword, n name, q quoted name, t text, i number, d decimal, s symbol, each with its span.
-const LEXED: [(&[u8], &str); 72] = [
+const LEXED: &[(&[u8], &str)] = &[
     (b"", ""),
     (b" \t\r\n", ""),
     (b"-- only a comment", ""),
@@ -90,7 +90,7 @@ const LEXED: [(&[u8], &str); 72] = [
     ),
 ];
 
-const SPLIT: [(&[u8], &str); 25] = [
+const SPLIT: &[(&[u8], &str)] = &[
     (b"", ""),
     (b" ;\n; -- x\n", ""),
     (b"--a;b", ""),
@@ -168,26 +168,36 @@ fn parts(rt: &impl Abort, alloc: Global, batch: &[u8]) -> Result<String, Fail> {
     Ok(out)
 }
 
-#[test]
-fn each_text_has_its_tokens_or_none(rt: HostRuntime) -> Result<(), Fail> {
-    for (text, want) in LEXED {
-        let tokens = lexed(&rt, rt.alloc(), text)?;
-        assert_eq!(rt; tokens.as_str(), want);
+// Tests the tokens of each text.
+fn expect_lexed(rt: &impl Abort, alloc: Global, rows: &[(&[u8], &str)]) -> Result<(), Fail> {
+    for (text, want) in rows {
+        let tokens = lexed(rt, alloc, text)?;
+        assert!(rt; tokens.as_str() == *want, "{text:?}");
     }
     Ok(())
+}
+
+// Tests the statements of each batch.
+fn expect_parts(rt: &impl Abort, alloc: Global, rows: &[(&[u8], &str)]) -> Result<(), Fail> {
+    for (batch, want) in rows {
+        let spans = parts(rt, alloc, batch)?;
+        assert!(rt; spans.as_str() == *want, "{batch:?}");
+    }
+    Ok(())
+}
+
+#[test]
+fn each_text_has_its_tokens_or_none(rt: HostRuntime) -> Result<(), Fail> {
+    expect_lexed(&rt, rt.alloc(), LEXED)
 }
 
 #[test]
 fn each_batch_has_its_statements(rt: HostRuntime) -> Result<(), Fail> {
-    for (batch, want) in SPLIT {
-        let spans = parts(&rt, rt.alloc(), batch)?;
-        assert_eq!(rt; spans.as_str(), want);
-    }
-    Ok(())
+    expect_parts(&rt, rt.alloc(), SPLIT)
 }
 
 // A byte, and how many tokens and statements a text of it has.
-const LONG: [(u8, usize, usize); 7] = [
+const LONG: &[(u8, usize, usize)] = &[
     (b'(', 1 << 20, 1),
     (b'\'', 1, 1),
     (b' ', 0, 0),
@@ -205,14 +215,27 @@ fn repeated(rt: &impl Abort, alloc: Global, byte: u8) -> Result<Vec<u8>, Fail>
     Ok(text)
 }
 
+// How many tokens and statements a long text of this byte has.
+fn counts(rt: &impl Abort, alloc: Global, byte: u8) -> Result<(usize, usize), Fail> {
+    let text = repeated(rt, alloc, byte)?;
+    let tokens = lex(alloc, &text)?;
+    let statements = split(alloc, &text)?;
+    Ok((tokens.len(), statements.len()))
+}
+
+fn expect_counts(rt: &impl Abort, alloc: Global, rows: &[(u8, usize, usize)]) -> Result<(), Fail> {
+    for (byte, tokens, statements) in rows {
+        let found = counts(rt, alloc, *byte)?;
+        assert!(rt; found == (*tokens, *statements), "{byte}");
+    }
+    Ok(())
+}
+
 #[test]
 fn long_texts_take_time_that_grows_with_them(rt: HostRuntime) -> Result<(), Fail> {
-    for (byte, tokens, statements) in LONG {
-        let text = repeated(&rt, rt.alloc(), byte)?;
-        assert_eq!(rt; lex(rt.alloc(), &text)?.len(), tokens);
-        assert_eq!(rt; split(rt.alloc(), &text)?.len(), statements);
-    }
+    expect_counts(&rt, rt.alloc(), LONG)?;
+    // no statement stands between semicolons
     let semicolons = repeated(&rt, rt.alloc(), b';')?;
-    assert_eq!(rt; split(rt.alloc(), &semicolons)?.len(), 0);
+    assert!(rt; split(rt.alloc(), &semicolons)?.is_empty());
     Ok(())
 }

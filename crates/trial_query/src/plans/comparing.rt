@@ -65,8 +65,10 @@ const MOST: i64 = 9223372036854775807;
 
 const LEAST: i64 = -9223372036854775808;
 
-// Literals with the number that they are, a point left out, and the power of ten by which it is divided.
-const NUMBERS: [(&[u8], i64, i128); 22] = [
+// A literal, the number that it is, a point left out, and the power of ten by which it is divided.
+type Number<'a> = (&'a [u8], i64, i128);
+
+const NUMBERS: &[Number<'static>] = &[
     (b"0", 0, 1),
     (b"-0.0", 0, 10),
     (b"1", 1, 1),
@@ -119,7 +121,7 @@ fn compares(
     alloc: Global,
     (name, column, scale): (&[u8], usize, i128),
     (op, sign): (usize, &[u8]),
-    (literal, number, power): (&[u8], i64, i128),
+    (literal, number, power): Number<'_>,
 ) -> Result<(), Fail> {
     let plan = plan_where(rt, alloc, [name, sign, literal])?;
     for cell in CELLS {
@@ -137,19 +139,30 @@ fn compares(
     Ok(())
 }
 
+// Each number under a comparison, with a column of whole numbers and with one of two places.
+fn expect_numbers(
+    rt: &impl Abort,
+    alloc: Global,
+    op: (usize, &[u8]),
+    rows: &[Number<'_>],
+) -> Result<(), Fail> {
+    for number in rows {
+        compares(rt, alloc, (b"id", 0, 1), op, *number)?;
+        compares(rt, alloc, (b"price", 3, 100), op, *number)?;
+    }
+    Ok(())
+}
+
 #[test]
 fn numbers_are_compared_exactly(rt: HostRuntime) -> Result<(), Fail> {
     for op in 0..OPS.len() {
-        for number in NUMBERS {
-            compares(&rt, rt.alloc(), (b"id", 0, 1), (op, OPS[op]), number)?;
-            compares(&rt, rt.alloc(), (b"price", 3, 100), (op, OPS[op]), number)?;
-        }
+        expect_numbers(&rt, rt.alloc(), (op, OPS[op]), NUMBERS)?;
     }
     Ok(())
 }
 
 // Literals with the texts that they are.
-const TEXTS: [(&[u8], &[u8]); 11] = [
+const TEXTS: &[(&[u8], &[u8])] = &[
     (b"''", b""),
     (b"' '", b" "),
     (b"'A'", b"A"),
@@ -163,19 +176,40 @@ const TEXTS: [(&[u8], &[u8]); 11] = [
     (b"'\xFF0'", b"\xFF0"),
 ];
 
+// Tests a comparison of each text of the column `code` with a literal.
+fn compares_text(
+    rt: &impl Abort,
+    alloc: Global,
+    (op, sign): (usize, &[u8]),
+    (literal, text): (&[u8], &[u8]),
+) -> Result<(), Fail> {
+    let plan = plan_where(rt, alloc, [b"code", sign, literal])?;
+    for code in 0..CODES.len() {
+        let truth = truth(rt, &plan, &row_with(4, Code(code as u32)));
+        let order = CODES[code].cmp(text);
+        assert!(rt; truth == said(is_met(op, order)), "{code} {op} {text:?}");
+    }
+    let truth = truth(rt, &plan, &row_with(4, Null));
+    assert!(rt; truth == Some(Truth::Unknown), "{text:?}");
+    Ok(())
+}
+
+fn expect_texts(
+    rt: &impl Abort,
+    alloc: Global,
+    op: (usize, &[u8]),
+    rows: &[(&[u8], &[u8])],
+) -> Result<(), Fail> {
+    for text in rows {
+        compares_text(rt, alloc, op, *text)?;
+    }
+    Ok(())
+}
+
 #[test]
 fn texts_are_compared_byte_by_byte(rt: HostRuntime) -> Result<(), Fail> {
     for op in 0..OPS.len() {
-        for (literal, text) in TEXTS {
-            let plan = plan_where(&rt, rt.alloc(), [b"code", OPS[op], literal])?;
-            for code in 0..CODES.len() {
-                let truth = truth(&rt, &plan, &row_with(4, Code(code as u32)));
-                let order = CODES[code].cmp(text);
-                assert!(rt; truth == said(is_met(op, order)), "{code} {op} {text:?}");
-            }
-            let truth = truth(&rt, &plan, &row_with(4, Null));
-            assert!(rt; truth == Some(Truth::Unknown), "{text:?}");
-        }
+        expect_texts(&rt, rt.alloc(), (op, OPS[op]), TEXTS)?;
     }
     Ok(())
 }
@@ -190,7 +224,7 @@ const ROWS: [[Cell; 5]; 5] = [
 ];
 
 // Conditions, and for each row whether it is True, Unknown or False.
-const CONDITIONS: [(&[u8], &[u8]); 12] = [
+const CONDITIONS: &[(&[u8], &[u8])] = &[
     (b"id >= 4", b"FFFTT"),
     (b"id > 9", b"FFFFF"),
     (b"NOT pay > 15", b"TFUFT"),
@@ -205,20 +239,34 @@ const CONDITIONS: [(&[u8], &[u8]); 12] = [
     (b"dept > 'aa' AND dept < 'bz'", b"FTFFT"),
 ];
 
-#[test]
-fn conditions_have_three_truths(rt: HostRuntime) -> Result<(), Fail> {
-    for (text, wanted) in CONDITIONS {
-        let plan = plan_where(&rt, rt.alloc(), [text, b"", b""])?;
-        assert_eq!(rt; wanted.len(), ROWS.len());
-        for i in 0..wanted.len() {
-            let letter = match truth(&rt, &plan, &ROWS[i]) {
-                Some(Truth::True) => b'T',
-                Some(Truth::Unknown) => b'U',
-                Some(Truth::False) => b'F',
-                None => b'-',
-            };
-            assert_eq!(rt; letter, wanted[i], "{text:?} {i}");
-        }
+fn letter(truth: Option<Truth>) -> u8 {
+    match truth {
+        Some(Truth::True) => b'T',
+        Some(Truth::Unknown) => b'U',
+        Some(Truth::False) => b'F',
+        None => b'-',
+    }
+}
+
+// Tests the truth of a condition on each of the five rows.
+fn expect_truths(rt: &impl Abort, alloc: Global, text: &[u8], wanted: &[u8]) -> Result<(), Fail> {
+    let plan = plan_where(rt, alloc, [text, b"", b""])?;
+    assert!(rt; wanted.len() == ROWS.len());
+    for i in 0..wanted.len() {
+        let found = letter(truth(rt, &plan, &ROWS[i]));
+        assert!(rt; found == wanted[i], "{text:?} {i}");
     }
     Ok(())
+}
+
+fn expect_conditions(rt: &impl Abort, alloc: Global, rows: &[(&[u8], &[u8])]) -> Result<(), Fail> {
+    for (text, wanted) in rows {
+        expect_truths(rt, alloc, text, wanted)?;
+    }
+    Ok(())
+}
+
+#[test]
+fn conditions_have_three_truths(rt: HostRuntime) -> Result<(), Fail> {
+    expect_conditions(&rt, rt.alloc(), CONDITIONS)
 }

@@ -3,6 +3,8 @@ use crate::plans::plan;
 use agg_groups::Item;
 use sql_bind::{BindRefusal, Plan, StatementRefusal};
 use sql_text::TextRefusal;
+use std::alloc::Global;
+use std::process::Abort;
 use std::test::Fail;
 use top_rows::Order;
 
@@ -31,7 +33,7 @@ fn shown(plan: &Result<Plan, StatementRefusal>) -> (&'static [u8], &[u8]) {
     }
 }
 
-const REFUSALS: [(&[u8], &[u8], &[u8]); 38] = [
+const REFUSALS: &[(&[u8], &[u8], &[u8])] = &[
     (b"SELECT COUNT(*) FROM u", b"table", b"u"),
     (b"SELECT COUNT(*) FROM \"T\"", b"table", b"T"),
     (b"SELECT zz FROM u", b"table", b"u"),
@@ -132,13 +134,22 @@ const REFUSALS: [(&[u8], &[u8], &[u8]); 38] = [
     (b"SELECT COUNT(*) FROM \"t\"", b"", b""),
 ];
 
-#[test]
-fn a_query_is_refused_for_its_first_cause_at_the_first_place(rt: HostRuntime) -> Result<(), Fail> {
-    for (text, word, name) in REFUSALS {
-        let plan = plan(&rt, rt.alloc(), text)?;
-        assert!(rt; shown(&plan) == (word, name), "{text:?}");
+// Tests the word and the name of each refusal.
+fn expect_shown(
+    rt: &impl Abort,
+    alloc: Global,
+    rows: &[(&[u8], &[u8], &[u8])],
+) -> Result<(), Fail> {
+    for (text, word, name) in rows {
+        let plan = plan(rt, alloc, text)?;
+        assert!(rt; shown(&plan) == (*word, *name), "{text:?}");
     }
     Ok(())
+}
+
+#[test]
+fn a_query_is_refused_for_its_first_cause_at_the_first_place(rt: HostRuntime) -> Result<(), Fail> {
+    expect_shown(&rt, rt.alloc(), REFUSALS)
 }
 
 // The columns of a plan, as bits.
@@ -152,7 +163,10 @@ fn named(plan: &Plan) -> u32 {
     bits
 }
 
-const PLANS: [(&[u8], &[Item], &[u32], u32); 7] = [
+// A query, and its plan's items, keys and columns.
+type Planned<'a> = (&'a [u8], &'a [Item], &'a [u32], u32);
+
+const PLANS: &[Planned<'static>] = &[
     (b"SELECT COUNT(*) FROM t", &[Item::CountAll], &[], 0b1),
     (b"SELECT SUM(pay) FROM t", &[Item::Sum(2)], &[], 0b100),
     (
@@ -182,17 +196,27 @@ const PLANS: [(&[u8], &[Item], &[u32], u32); 7] = [
     ),
 ];
 
-#[test]
-fn a_plan_has_the_columns_that_its_query_names(rt: HostRuntime) -> Result<(), Fail> {
-    for (text, items, keys, columns) in PLANS {
-        let Ok(plan) = plan(&rt, rt.alloc(), text)? else {
+// Whether the plan has these items, keys and columns, and rows where it has no items.
+fn is_planned(plan: &Plan, items: &[Item], keys: &[u32], columns: u32) -> bool {
+    plan.items.as_slice() == items
+        && plan.keys.as_slice() == keys
+        && named(plan) == columns
+        && plan.rows.is_some() == items.is_empty()
+}
+
+fn expect_planned(rt: &impl Abort, alloc: Global, rows: &[Planned<'_>]) -> Result<(), Fail> {
+    for (text, items, keys, columns) in rows {
+        let Ok(plan) = plan(rt, alloc, text)? else {
             panic!(rt; "{text:?}")
         };
-        let found = (plan.items.as_slice(), plan.keys.as_slice(), named(&plan));
-        assert!(rt; found == (items, keys, columns), "{text:?}");
-        assert!(rt; plan.rows.is_some() == items.is_empty(), "{text:?}");
+        assert!(rt; is_planned(&plan, items, keys, *columns), "{text:?}");
     }
     Ok(())
+}
+
+#[test]
+fn a_plan_has_the_columns_that_its_query_names(rt: HostRuntime) -> Result<(), Fail> {
+    expect_planned(&rt, rt.alloc(), PLANS)
 }
 
 const ORDERS: [Order; 3] = [
@@ -210,17 +234,24 @@ const ORDERS: [Order; 3] = [
     },
 ];
 
+// Whether the plan asks for so many rows of these columns in this order.
+fn asks_for(plan: &Plan, columns: &[u32], order: &[Order], limit: u32) -> bool {
+    match &plan.rows {
+        Some(rows) => {
+            rows.columns.as_slice() == columns
+                && rows.order.as_slice() == order
+                && rows.limit == limit
+        }
+        None => false,
+    }
+}
+
 #[test]
 fn a_query_with_a_limit_asks_for_columns_in_an_order(rt: HostRuntime) -> Result<(), Fail> {
     let text = b"SELECT pay, id, pay FROM t ORDER BY pay DESC, dept, code ASC LIMIT 30";
     let Ok(plan) = plan(&rt, rt.alloc(), text)? else {
         panic!(rt; "no plan")
     };
-    let Some(rows) = &plan.rows else {
-        panic!(rt; "no rows")
-    };
-    assert!(rt; rows.columns.as_slice() == [2, 0, 2].as_slice());
-    assert!(rt; rows.order.as_slice() == ORDERS.as_slice());
-    assert_eq!(rt; rows.limit, 30);
+    assert!(rt; asks_for(&plan, &[2, 0, 2], &ORDERS, 30));
     Ok(())
 }
