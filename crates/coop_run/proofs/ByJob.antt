@@ -25,8 +25,10 @@ use Rattle.run_policies.specs.Policies.{PolicyAt, policy_at}
 use Rattle.run_policies.specs.Joined.{joined_story}
 use Rattle.run_policies.proofs.Ends.{compared_tells, compared_writes}
 use Rattle.run_policies.proofs.Joining as joining
+use Rattle.run_policies.proofs.Unanswered.{one-cause}
+use Rattle.run_policies.specs.Unanswered.{HasCause}
 use Rattle.run_policies.specs.declared.policy_run.PolicyRun.{PolicyRun}
-use Rattle.coop_run.specs.Boxed.{ComparesNothing, DecidesAndPrintsOn, DecidesOn, IsCompleteOn, IsForAllPartsOn, IsUndone, KeepsHeadlineCutOn, KeepsHeadlineOn, KeepsPromisesOn, LacksMemoryAtFirst, LeavesItsWorkOn, LeavesRuns, WritesLines}
+use Rattle.coop_run.specs.Boxed.{ComparesNothing, DecidesAndPrintsOn, DecidesOn, HasCauseOn, IsCompleteOn, IsForAllPartsOn, IsUndone, KeepsHeadlineCutOn, KeepsHeadlineOn, KeepsPromisesOn, LacksMemoryAtFirst, LeavesItsWorkOn, LeavesRuns, WritesLines}
 use Rattle.coop_run.specs.Comparing.{AllHaveWorked, AreComplete, AreForAllParts, AreLines, Headlines, KeepsHeadlines, KeepsHeadlinesCut, Remark, for_any_parts, lost_for_memory, nothing_more}
 use Rattle.coop_run.specs.Devices.{Devices}
 use Rattle.coop_run.specs.Ending.{ComesExactly, FailsAtEither, FailsAtTable, HasStatus, IsCutShort, IsExcused, IsWritten, Prints, stop_over}
@@ -329,6 +331,18 @@ writes-lines refused shelf old new runs d status sink is prints = tt
 writes-lines (alone r p) shelf old new runs d status sink is prints = tt
 writes-lines (compared r ps) shelf old new runs d status sink is prints = are-lines r ps shelf old new runs d status sink is prints
 
+-- 1 of a comparison has its cause
+compared-one : (r : Request) (ps : List PolicyAt) (shelf : OverShelf) (old new : DepotAt) (runs : List PolicyRun) (d : Result Text Stop) (status : ℕ) (sink : OverSink) → DecidesOn (compared r ps) shelf old new runs d → Prints d status sink → status ≡ 1
+    → HasCause r shelf ps old runs
+compared-one r ps shelf old new runs (Err s) status sink is prints one = absurd (never-stops s status sink prints (inl (omega (arith, one))))
+compared-one r ps shelf old new runs (Ok o) status sink (inl lacks) prints one = cc lacks.stop_is
+compared-one r ps shelf old new runs (Ok o) status sink (inr is) prints one = let same = small-ends o status sink prints (omega (arith, one)) in one-cause r shelf ps old new runs o is (sym same ∙ one)
+
+has-cause : (job : Job) (shelf : OverShelf) (old new : DepotAt) (runs : List PolicyRun) (d : Result Text Stop) (status : ℕ) (sink : OverSink) → DecidesOn job shelf old new runs d → Prints d status sink → HasCauseOn job (devices_of shelf old new sink) (did_runs status runs)
+has-cause refused shelf old new runs d status sink is prints = tt
+has-cause (alone r p) shelf old new runs d status sink is prints = tt
+has-cause (compared r ps) shelf old new runs d status sink is prints = compared-one r ps shelf old new runs d status sink is prints
+
 -- what holds of the depot's counts, whatever the job
 none-tells : (old new : DepotAt) (runs : List PolicyRun) → new ≡ old → runs ≡ [] → joining.Tells old new (past (joined_story runs))
 none-tells old new runs same none = rw (same, none) (record { licensed = omega arith; gets = omega arith })
@@ -526,6 +540,7 @@ module _ (shelf : OverShelf) (old new : DepotAt) (runs : List PolicyRun) (d : Re
         worked = leaves-its-work job is prints;
         runs = left;
         lines = writes-lines job shelf old new runs d status sink is prints;
+        one = has-cause job shelf old new runs d status sink is prints;
         nothing = nothing-left job shelf old new runs d status sink is prints;
         licensed = counted.licensed;
         reads = counted.gets;

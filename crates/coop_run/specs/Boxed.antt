@@ -13,6 +13,7 @@ use Rattle.run_decision.specs.Running.{Text}
 use Rattle.run_policies.specs.Comparing.{IsCompared}
 use Rattle.run_policies.specs.Joined.{joined_story}
 use Rattle.run_policies.specs.Policies.{PolicyAt}
+use Rattle.run_policies.specs.Unanswered.{HasCause}
 use Rattle.run_policies.specs.declared.policy_run.PolicyRun.{PolicyRun}
 use Rattle.coop_run.specs.Comparing.{AllHaveWorked, AreComplete, AreForAllParts, AreLines, KeepsHeadlines, KeepsHeadlinesCut, LeavesAll}
 use Rattle.coop_run.specs.Devices.{Devices}
@@ -62,6 +63,12 @@ abbrev pub WritesLines : Job → Devices → DidRuns → Type 0
 WritesLines refused over did = ⊤
 WritesLines (alone r p) over did = ⊤
 WritesLines (compared r ps) over did = AreLines did.runs did.status over.sink
+
+-- 1, of a comparison: some run leaves a statement unanswered, and why
+abbrev pub HasCauseOn : Job → Devices → DidRuns → Type 0
+HasCauseOn refused over did = ⊤
+HasCauseOn (alone r p) over did = ⊤
+HasCauseOn (compared r ps) over did = did.status ≡ 1 → HasCause r over.shelf ps over.depot.old did.runs
 
 -- with no policy to compare nothing is read and nothing written
 abbrev pub ComparesNothing : Job → Devices → DidRuns → Type 0
@@ -134,6 +141,9 @@ pub record KeepsPromisesOn (job : Job) (over : Devices) (did : DidRuns) : Type 0
   pub runs : LeavesRuns job did.status did.runs
   -- of a comparison: a line for each run is written, with 6 a front of them; with no policy nothing is read and nothing written
   pub lines : WritesLines job over did
+  -- of a comparison with 1, over every device: a statement is unanswered in some run, since its text is refused, or a sum is no number of 64
+  -- bits, or its query was stopped, for the cause that the story tells of its scans or out of memory
+  pub one : HasCauseOn job over did
   pub nothing : ComparesNothing job over did
   -- with every status: each fault of the stories joined in order has its own rise of the depot's count, and the depot's gets rose by their reads
   pub licensed : Licensed (is_some over.depot.old.held) over.depot.old.faults over.depot.new.faults (past (joined_story did.runs))

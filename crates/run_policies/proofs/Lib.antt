@@ -5,3 +5,4 @@ pub mod Joining
 pub mod Chain
 pub mod Meaning
 pub mod Ends
+pub mod Unanswered

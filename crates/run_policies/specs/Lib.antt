@@ -4,3 +4,4 @@ pub mod Runs
 pub mod Next
 pub mod Comparing
 pub mod Joined
+pub mod Unanswered

@@ -14,6 +14,7 @@ ghost use Rattle.run_policies.specs.Comparing.{AreRuns, IsCompared};
 ghost use Rattle.run_policies.specs.Joined.{joined_story};
 ghost use Rattle.run_policies.specs.Lines.{lines_of};
 ghost use Rattle.run_policies.specs.Policies.{policy_at};
+ghost use Rattle.run_policies.specs.Unanswered.{HasCause};
 
 use crate::compared::Compared;
 use crate::made::{Made, run_next, stopped};
@@ -130,6 +131,11 @@ pub fn compare<F: Shelf, D: Depot + Send, T: Gate + Sync, R: Threads + Wait + Sy
         (depot_at (D.held depot) (D.gets depot) (D.faults depot)) (depot_at (D.held result.depot) (D.gets result.depot) (D.faults result.depot)) result.runs.items (shown result.ending) }
     // a line for each run, with the counts of its story
     ensures lines { IfOk result.ending (λ o. o.text ≡ lines_of result.runs.items) }
+    // 1: some run leaves a statement unanswered, and why
+    ensures one { IfOk result.ending (λ o. o.status ≡ 1 → HasCause (request_view request.now)
+        (over_shelf (F.held shelf.old) (F.faults shelf.old) (F.faults shelf.new))
+        (map (λ p. policy_at (name p) (cursor p)) policies.items)
+        (depot_at (D.held depot) (D.gets depot) (D.faults depot)) result.runs.items) }
     // however it ends: each fault of the stories joined in order has its own rise of the depot's count, and the depot's gets rose by the reads of all runs
     ensures licensed { Licensed (is_some (D.held depot)) (D.faults depot) (D.faults result.depot)
         (past (joined_story result.runs.items)) }

@@ -1,4 +1,5 @@
 use Rattle.run_policies.proofs.Ends.{compared_tells, lines_are}
+use Rattle.run_policies.proofs.Unanswered.{one-has-cause}
 use Rattle.run_policies.proofs.comparing.compare.Goals as goal
 
 pub returns-clause-lines : goal.returns-clause-lines
@@ -9,3 +10,6 @@ returns-clause-licensed g c = (compared_tells _ _ _ _ _ c.compare_all.result.run
 
 pub returns-clause-reads : goal.returns-clause-reads
 returns-clause-reads g c = (compared_tells _ _ _ _ _ c.compare_all.result.runs.items _ c.compare_all.ensures.compared).gets
+
+pub returns-clause-one : goal.returns-clause-one
+returns-clause-one g c = one-has-cause _ _ _ _ _ c.compare_all.result.runs.items c.compare_all.result.ending c.compare_all.ensures.compared
