@@ -1,5 +1,5 @@
 -- What the scans of a query's parts ask for adds up to the chunks that the query needs.
-use Rattle.std.proofs.Common.{◌≡◌, ◌∙◌, ◌<◌, ◌≤◌, ◌+◌, ◌*◌, ◌%◌, ◌++◌, ◌∷◌, ◌&&◌, ◌==◌, ℕ, zero, suc, Bool, true, List, [], length, map, find, All, Option, Some, arith, refl, sym, ap, subst, inl, inr}
+use Rattle.std.proofs.Common.{◌≡◌, ◌∙◌, ◌<◌, ◌≤◌, ◌+◌, ◌*◌, ◌%◌, ◌++◌, ◌∷◌, ◌==◌, ℕ, zero, suc, Bool, true, List, [], length, map, find, All, Option, Some, arith, refl, sym, ap, subst, inl, inr}
 use Rattle.std.specs.Prelude.{IsPermutation, nat_lt}
 use Rattle.std.specs.List.{AllByRecursion}
 use Rattle.std.proofs.lemmas.Bool.{and_parts, cases_eq, eq-eqb, ne_eqb}
