@@ -29,7 +29,7 @@ use Rattle.run_policies.specs.declared.policy_run.PolicyRun.{PolicyRun}
 
 module _ (columns : List Column) (dicts : List Fields) (h : History) (parts : ℕ) where
   -- where not all that is printed is an answer, some statement has no rows
-  some-unanswered : (n : ℕ) (os : List Outcome) (given : List Answer) → AreLostBy h parts n (losses os given) → list_all is_answered (printed columns dicts n os given) ≡ false → SomeHasNoRows h parts n os given
+  some-unanswered : (n : ℕ) (os : List Outcome) (given : List Answer) → AreLostBy h parts n os (losses os given) → list_all is_answered (printed columns dicts n os given) ≡ false → SomeHasNoRows h parts n os given
   some-unanswered n [] given lost e = cc e
   some-unanswered n (outcome.Refused why ∷ os) given lost e = tt
   some-unanswered n (outcome.Planned p ∷ os) [] lost e = cc e
