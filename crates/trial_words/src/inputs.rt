@@ -8,6 +8,8 @@ use sql_bind::{BindRefusal, StatementRefusal};
 use sql_tokens::TextRefusal;
 use std::alloc::Global;
 use std::hash::RandomState;
+use std::process::Abort;
+use std::random::RandomSource;
 use std::test::Fail;
 
 const TABLE: &[u8] = b"id,dept,pay\n1,a,10\n2,b,20\n3,a,\n4,c,40\n5,b,-5\n";
@@ -60,13 +62,13 @@ fn words_of(alloc: Global, line: &str) -> Result<Vec<String>, Fail> {
 }
 
 fn read(
-    rt: &HostRuntime,
+    rt: &impl RandomSource,
+    alloc: Global,
     line: &str,
     table: Option<&[u8]>,
     batch: Option<&[u8]>,
     fail_read: u64,
 ) -> Result<Result<Inputs, Stop>, Fail> {
-    let alloc = rt.alloc();
     let words = words_of(alloc, line)?;
     let mut shelf = shelf_of(alloc, table, batch, fail_read)?;
     let keys = RandomState::new(rt)?;
@@ -78,13 +80,14 @@ fn read(
 
 // Why a run stops that is given so, if it does.
 fn stop_of(
-    rt: &HostRuntime,
+    rt: &impl RandomSource,
+    alloc: Global,
     line: &str,
     table: Option<&[u8]>,
     batch: Option<&[u8]>,
     fail_read: u64,
 ) -> Result<Option<Stop>, Fail> {
-    Ok(read(rt, line, table, batch, fail_read)?.err())
+    Ok(read(rt, alloc, line, table, batch, fail_read)?.err())
 }
 
 const SOME: Option<&[u8]> = Some(TABLE);
@@ -92,7 +95,9 @@ const SOME: Option<&[u8]> = Some(TABLE);
 const ONE: Option<&[u8]> = Some(COUNT);
 
 // Words, a table, a batch, and why the run stops.
-const STOPS: [(&str, Option<&[u8]>, Option<&[u8]>, Stop); 19] = [
+type Stopped<'a> = (&'a str, Option<&'a [u8]>, Option<&'a [u8]>, Stop);
+
+const STOPS: &[Stopped<'static>] = &[
     ("", SOME, ONE, Stop::Usage),
     ("a.csv", SOME, ONE, Stop::Usage),
     ("--threads 33 a.csv b.sql", SOME, ONE, Stop::Usage),
@@ -160,13 +165,21 @@ const STOPS: [(&str, Option<&[u8]>, Option<&[u8]>, Stop); 19] = [
     ("--layout column a.csv b.sql", SOME, None, Stop::BatchFault),
 ];
 
-#[test]
-fn the_first_refusal_stops_a_run(rt: HostRuntime) -> Result<(), Fail> {
-    for (line, table, batch, stop) in STOPS {
-        let found = stop_of(&rt, line, table, batch, 0)?;
-        assert!(rt; found == Some(stop), "{line}");
+fn expect_stops<R: Abort + RandomSource>(
+    rt: &R,
+    alloc: Global,
+    rows: &[Stopped<'_>],
+) -> Result<(), Fail> {
+    for (line, table, batch, stop) in rows {
+        let found = stop_of(rt, alloc, line, *table, *batch, 0)?;
+        assert!(rt; found == Some(*stop), "{line}");
     }
     Ok(())
+}
+
+#[test]
+fn the_first_refusal_stops_a_run(rt: HostRuntime) -> Result<(), Fail> {
+    expect_stops(&rt, rt.alloc(), STOPS)
 }
 
 // A text, and so many copies of another behind it.
@@ -185,7 +198,9 @@ const FIVE_ROWS: Text = (TABLE, b"", 0);
 const ONE_COUNT: Text = (b"", COUNT, 1);
 
 // Words, a table, a batch, and why the run stops, if it does.
-const LIMITS: [(&str, Text, Text, Option<Stop>); 13] = [
+type Limit<'a> = (&'a str, Text, Text, Option<Stop>);
+
+const LIMITS: &[Limit<'static>] = &[
     ("a.csv b.sql", (HEADER_OF_16, b"", 0), ONE_COUNT, None),
     ("a.csv b.sql", (b"a,", b"n", 128), ONE_COUNT, None),
     (
@@ -241,19 +256,27 @@ const LIMITS: [(&str, Text, Text, Option<Stop>); 13] = [
     ),
 ];
 
-#[test]
-fn limits_are_exact(rt: HostRuntime) -> Result<(), Fail> {
-    for (line, table, batch, stop) in LIMITS {
-        let table = written(rt.alloc(), table)?;
-        let batch = written(rt.alloc(), batch)?;
-        let found = stop_of(&rt, line, Some(&table), Some(&batch), 0)?;
-        assert!(rt; found == stop, "{line}");
+fn expect_limits<R: Abort + RandomSource>(
+    rt: &R,
+    alloc: Global,
+    rows: &[Limit<'_>],
+) -> Result<(), Fail> {
+    for (line, table, batch, stop) in rows {
+        let table = written(alloc, *table)?;
+        let batch = written(alloc, *batch)?;
+        let found = stop_of(rt, alloc, line, Some(&table), Some(&batch), 0)?;
+        assert!(rt; found == *stop, "{line}");
     }
     Ok(())
 }
 
+#[test]
+fn limits_are_exact(rt: HostRuntime) -> Result<(), Fail> {
+    expect_limits(&rt, rt.alloc(), LIMITS)
+}
+
 // Which read fails, and why the run stops, if it does.
-const READS: [(u64, Option<Stop>); 5] = [
+const READS: &[(u64, Option<Stop>)] = &[
     (1, Some(Stop::TableFault)),
     (2, Some(Stop::TableFault)),
     (3, Some(Stop::BatchFault)),
@@ -261,13 +284,21 @@ const READS: [(u64, Option<Stop>); 5] = [
     (5, None),
 ];
 
-#[test]
-fn each_read_that_fails_is_a_fault(rt: HostRuntime) -> Result<(), Fail> {
-    for (call, stop) in READS {
-        let found = stop_of(&rt, "a.csv b.sql", SOME, ONE, call)?;
-        assert!(rt; found == stop, "{call}");
+fn expect_reads<R: Abort + RandomSource>(
+    rt: &R,
+    alloc: Global,
+    rows: &[(u64, Option<Stop>)],
+) -> Result<(), Fail> {
+    for (call, stop) in rows {
+        let found = stop_of(rt, alloc, "a.csv b.sql", SOME, ONE, *call)?;
+        assert!(rt; found == *stop, "{call}");
     }
     Ok(())
+}
+
+#[test]
+fn each_read_that_fails_is_a_fault(rt: HostRuntime) -> Result<(), Fail> {
+    expect_reads(&rt, rt.alloc(), READS)
 }
 
 // Workers, frames, rows of a chunk, the layout and parts.
@@ -283,7 +314,7 @@ fn settings_of(inputs: &Inputs) -> Settings {
     )
 }
 
-const SETTINGS: [(&str, Settings); 4] = [
+const SETTINGS: &[(&str, Settings)] = &[
     ("a.csv b.sql", (4, 13, 1024, Layout::Row, 1)),
     (
         "--threads 1 --frames 4 --rows 2 a.csv b.sql",
@@ -299,16 +330,34 @@ const SETTINGS: [(&str, Settings); 4] = [
     ),
 ];
 
-#[test]
-fn what_is_not_asked_for_has_its_default(rt: HostRuntime) -> Result<(), Fail> {
-    for (line, wanted) in SETTINGS {
-        let Ok(inputs) = read(&rt, line, SOME, ONE, 0)? else {
-            panic!(rt; "{line}")
-        };
-        assert!(rt; settings_of(&inputs) == wanted, "{line}");
-        assert!(rt; !inputs.summary && !inputs.trace, "{line}");
+// Whether the words of a line give these settings, with neither summary nor trace.
+fn has_settings(
+    rt: &impl RandomSource,
+    alloc: Global,
+    line: &str,
+    wanted: Settings,
+) -> Result<bool, Fail> {
+    match read(rt, alloc, line, SOME, ONE, 0)? {
+        Ok(inputs) => Ok(settings_of(&inputs) == wanted && !inputs.summary && !inputs.trace),
+        Err(_) => Ok(false),
+    }
+}
+
+fn expect_settings<R: Abort + RandomSource>(
+    rt: &R,
+    alloc: Global,
+    rows: &[(&str, Settings)],
+) -> Result<(), Fail> {
+    for (line, wanted) in rows {
+        let has = has_settings(rt, alloc, line, *wanted)?;
+        assert!(rt; has, "{line}");
     }
     Ok(())
+}
+
+#[test]
+fn what_is_not_asked_for_has_its_default(rt: HostRuntime) -> Result<(), Fail> {
+    expect_settings(&rt, rt.alloc(), SETTINGS)
 }
 
 const BATCH: &[u8] =
@@ -317,7 +366,7 @@ const BATCH: &[u8] =
     SELECT id FROM t LIMIT 4097";
 
 // What each of its statements comes to, with the name that a refusal has.
-const OUTCOMES: [(&str, &[u8]); 7] = [
+const OUTCOMES: &[(&str, &[u8])] = &[
     ("wrong kind", b"dept"),
     ("syntax", b""),
     ("a plan", b""),
@@ -350,17 +399,21 @@ fn shown(outcome: &Outcome) -> (&'static str, &[u8]) {
     }
 }
 
+fn are_shown(outcomes: &[Outcome], wanted: &[(&str, &[u8])]) -> bool {
+    outcomes.len() == wanted.len()
+        && outcomes
+            .iter()
+            .zip(wanted)
+            .all(|(outcome, one)| shown(outcome) == *one)
+}
+
 #[test]
 fn each_statement_has_a_plan_or_a_refusal(rt: HostRuntime) -> Result<(), Fail> {
-    let Ok(inputs) = read(&rt, "a.csv b.sql", SOME, Some(BATCH), 0)? else {
+    let Ok(inputs) = read(&rt, rt.alloc(), "a.csv b.sql", SOME, Some(BATCH), 0)? else {
         panic!(rt; "stopped")
     };
-    assert_eq!(rt; inputs.loaded.table.len(), 5);
-    let outcomes = inputs.outcomes.as_slice();
-    assert!(rt; outcomes.len() == OUTCOMES.len());
-    for i in 0..OUTCOMES.len() {
-        assert!(rt; shown(&outcomes[i]) == OUTCOMES[i], "{i}");
-    }
+    assert!(rt; inputs.loaded.table.len() == 5);
+    assert!(rt; are_shown(inputs.outcomes.as_slice(), OUTCOMES));
     Ok(())
 }
 
@@ -368,6 +421,7 @@ fn each_statement_has_a_plan_or_a_refusal(rt: HostRuntime) -> Result<(), Fail> {
 fn a_batch_without_statements_is_empty(rt: HostRuntime) -> Result<(), Fail> {
     let Ok(inputs) = read(
         &rt,
+        rt.alloc(),
         "a.csv b.sql",
         Some(b"id,dept,pay"),
         Some(b"; -- nothing"),
@@ -384,7 +438,7 @@ fn a_batch_without_statements_is_empty(rt: HostRuntime) -> Result<(), Fail> {
 #[test]
 fn generated_texts_are_not_read(rt: HostRuntime) -> Result<(), Fail> {
     let line = "--summary --trace --threads 2 gen:7:2000 gen";
-    let Ok(inputs) = read(&rt, line, None, None, 1)? else {
+    let Ok(inputs) = read(&rt, rt.alloc(), line, None, None, 1)? else {
         panic!(rt; "stopped")
     };
     assert!(rt; inputs.summary && inputs.trace);

@@ -15,7 +15,7 @@ fn bytes_of(alloc: Global, text: &[u8]) -> Result<Bytes, AllocError> {
 }
 
 // A stop, and its status and its line.
-const STOPS: [(Stop, u8, &[u8]); 19] = [
+const STOPS: &[(Stop, u8, &[u8])] = &[
     (Stop::Usage, 2, b"stopped 2: usage\n"),
     (Stop::TableTooLong, 3, b"stopped 3: table text too long\n"),
     (Stop::NoHeader, 3, b"stopped 3: no header\n"),
@@ -81,12 +81,16 @@ const STOPS: [(Stop, u8, &[u8]); 19] = [
     (Stop::Memory, 7, b""),
 ];
 
+fn expect_lines(rt: &impl Abort, rows: &[(Stop, u8, &[u8])]) {
+    for (stop, status, line) in rows {
+        assert!(rt; stop.line().as_slice() == *line, "{stop:?}");
+        assert!(rt; stop.status() == *status, "{stop:?}");
+    }
+}
+
 #[test]
 fn each_stop_has_its_status_and_its_line(rt: HostRuntime) {
-    for (stop, status, line) in STOPS {
-        assert_eq!(rt; stop.line().as_slice(), line);
-        assert!(rt; stop.status() == status, "{stop:?}");
-    }
+    expect_lines(&rt, STOPS)
 }
 
 // Tests that the line of a refused statement is this one, and that it stands behind what was written before.

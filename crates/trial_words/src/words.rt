@@ -31,7 +31,7 @@ const DEFAULTS: Request<'static> = Request {
 };
 
 // Words, and what they ask of each call.
-const GIVEN: [(&str, Request<'static>); 16] = [
+const GIVEN: &[(&str, Request<'static>)] = &[
     ("a|b", DEFAULTS),
     (
         "--threads|1|--frames|4|--rows|2|a|b",
@@ -165,17 +165,22 @@ fn gives(
     Ok(())
 }
 
-#[test]
-fn what_words_give(rt: HostRuntime) -> Result<(), Fail> {
-    for (line, wanted) in GIVEN {
-        gives(&rt, rt.alloc(), Call::Run, line, Ok(wanted))?;
-        gives(&rt, rt.alloc(), Call::RunBoxed, line, Ok(wanted))?;
+// Tests that the words of each line give this, whichever call they are of.
+fn both_give(rt: &impl Abort, alloc: Global, rows: &[(&str, Request<'_>)]) -> Result<(), Fail> {
+    for (line, wanted) in rows {
+        gives(rt, alloc, Call::Run, line, Ok(*wanted))?;
+        gives(rt, alloc, Call::RunBoxed, line, Ok(*wanted))?;
     }
     Ok(())
 }
 
+#[test]
+fn what_words_give(rt: HostRuntime) -> Result<(), Fail> {
+    both_give(&rt, rt.alloc(), GIVEN)
+}
+
 // Words that only a call with policies in boxes takes, and what they ask of it.
-const POLICIES: [(&str, Request<'static>); 6] = [
+const POLICIES: &[(&str, Request<'static>)] = &[
     (
         "--policy|attach|a|b",
         Request {
@@ -216,17 +221,22 @@ const POLICIES: [(&str, Request<'static>); 6] = [
     ),
 ];
 
-#[test]
-fn what_words_with_policies_give(rt: HostRuntime) -> Result<(), Fail> {
-    for (line, wanted) in POLICIES {
-        gives(&rt, rt.alloc(), Call::RunBoxed, line, Ok(wanted))?;
-        gives(&rt, rt.alloc(), Call::Run, line, Err(Refused::Usage))?;
+// Tests that the words of each line give this to a call with policies in boxes, and nothing to the other.
+fn boxed_give(rt: &impl Abort, alloc: Global, rows: &[(&str, Request<'_>)]) -> Result<(), Fail> {
+    for (line, wanted) in rows {
+        gives(rt, alloc, Call::RunBoxed, line, Ok(*wanted))?;
+        gives(rt, alloc, Call::Run, line, Err(Refused::Usage))?;
     }
     Ok(())
 }
 
+#[test]
+fn what_words_with_policies_give(rt: HostRuntime) -> Result<(), Fail> {
+    boxed_give(&rt, rt.alloc(), POLICIES)
+}
+
 // Words that are refused.
-const REFUSED: [&str; 67] = [
+const REFUSED: &[&str] = &[
     "",
     "a",
     "a|b|c",
@@ -303,20 +313,26 @@ fn keeps(rt: &impl Abort, alloc: Global, line: &str, wanted: Option<&str>) -> Re
     Ok(())
 }
 
+// Tests that the words of each line are refused, and name no scratch file.
+fn are_refused(rt: &impl Abort, alloc: Global, lines: &[&str]) -> Result<(), Fail> {
+    for line in lines {
+        gives(rt, alloc, Call::Run, line, Err(Refused::Usage))?;
+        gives(rt, alloc, Call::RunBoxed, line, Err(Refused::Usage))?;
+        keeps(rt, alloc, line, None)?;
+    }
+    Ok(())
+}
+
 #[test]
 fn what_is_refused(rt: HostRuntime) -> Result<(), Fail> {
-    for line in REFUSED {
-        gives(&rt, rt.alloc(), Call::Run, line, Err(Refused::Usage))?;
-        gives(&rt, rt.alloc(), Call::RunBoxed, line, Err(Refused::Usage))?;
-        keeps(&rt, rt.alloc(), line, None)?;
-    }
+    are_refused(&rt, rt.alloc(), REFUSED)?;
     let none = options_of(rt.alloc(), Call::Run, &[]);
     assert!(rt; none == Err(Refused::Usage));
     Ok(())
 }
 
 // Words, and the scratch file that they name.
-const SCRATCHES: [(&str, Option<&str>); 6] = [
+const SCRATCHES: &[(&str, Option<&str>)] = &[
     ("--scratch|s|a.csv|b.sql", Some("s")),
     ("a.csv|b.sql", None),
     ("--policy|fast|--scratch|s|a|b", None),
@@ -325,16 +341,20 @@ const SCRATCHES: [(&str, Option<&str>); 6] = [
     ("--scratch|s|a", None),
 ];
 
-#[test]
-fn the_scratch_file_of_words(rt: HostRuntime) -> Result<(), Fail> {
-    for (line, wanted) in SCRATCHES {
-        keeps(&rt, rt.alloc(), line, wanted)?;
+fn all_keep(rt: &impl Abort, alloc: Global, rows: &[(&str, Option<&str>)]) -> Result<(), Fail> {
+    for (line, wanted) in rows {
+        keeps(rt, alloc, line, *wanted)?;
     }
     Ok(())
 }
 
+#[test]
+fn the_scratch_file_of_words(rt: HostRuntime) -> Result<(), Fail> {
+    all_keep(&rt, rt.alloc(), SCRATCHES)
+}
+
 // Words in the place of a table, and what they name.
-const TABLES: [(&str, Option<Table<'static>>); 9] = [
+const TABLES: &[(&str, Option<Table<'static>>)] = &[
     (
         "gen:7:200000",
         Some(Table::Generated {
@@ -361,11 +381,15 @@ const TABLES: [(&str, Option<Table<'static>>); 9] = [
     ("gen:1:00000000001", None),
 ];
 
+fn all_name(rt: &impl Abort, rows: &[(&str, Option<Table<'_>>)]) {
+    for (word, wanted) in rows {
+        assert!(rt; Table::named(word) == *wanted, "{word}");
+    }
+}
+
 #[test]
 fn what_the_places_name(rt: HostRuntime) {
-    for (word, wanted) in TABLES {
-        assert!(rt; Table::named(word) == wanted, "{word}");
-    }
+    all_name(&rt, TABLES);
     assert!(rt; Batch::named("gen") == Batch::Generated);
     assert!(rt; Batch::named("gen:1:1") == Batch::File("gen:1:1"));
 }
