@@ -43,6 +43,21 @@ fn followed(
     Ok(follows(s, entries, &load, cursor.as_slice(), entry))
 }
 
+/// Whether the entry may follow the entries, whichever policy would choose what it takes. The error is want of memory.
+pub fn may_follow(
+    alloc: Global,
+    s: &Setting,
+    entries: &[Entry],
+    entry: &Entry,
+) -> Result<bool, AllocError>
+    requires { IsSmall s.now }
+    ensures { IfOk result (λ b. IsTrue b ↔ Allowed s.now (past entries.now) entry.now) }
+{
+    let load = underway(alloc, s, entries)?;
+    let may = allows(s, entries, &load, entry);
+    Ok(may)
+}
+
 /// Whether the entry may come after the entries: it may follow them, and takes a choice of the policy. The error is
 /// want of memory.
 pub fn may_come(

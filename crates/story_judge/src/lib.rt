@@ -16,7 +16,7 @@ mod undisturbed;
 mod whole;
 
 pub use choices::chooses;
-pub use legal::{first_illegal, is_legal, may_come};
+pub use legal::{first_illegal, is_legal, may_come, may_follow};
 pub use licensed::is_licensed;
 pub use undisturbed::is_undisturbed;
 pub use whole::is_whole;

@@ -11,6 +11,8 @@ use scan_story::{Entry, PolicyName, Setting};
 use std::alloc::{AllocError, Global};
 use std::process::Abort;
 use std::test::Fail;
+use story_judge::first_illegal;
+use trial_stories::stories::TWO_LOADED;
 use trial_stories::{
     COUNTS, POLICIES, Printed, SIX, SIX_ATTACH, Scene, TO_EVICT, TURNS, TWO_TO_DELIVER, entries_of,
     need, setting,
@@ -162,18 +164,40 @@ fn ranks_and_load_ratios(rt: HostRuntime) -> Result<(), Fail> {
     Ok(())
 }
 
+/// Both queries register first, then query 1 gets chunks 0 and 2, and last it takes the one that is picked. Relevance
+/// would load another chunk first, but the book follows whatever may follow.
+const NINE: &str = "register 0 1
+register 1 2
+plan 0 1 0
+fill 0 0 0
+filled 0 0 0
+plan 0 1 2
+fill 0 1 2
+filled 0 1 2
+deliver 0 1 0
+";
+
 #[test]
 fn a_delivery_prefers_what_nobody_else_needs(rt: HostRuntime) -> Result<(), Fail> {
     let alloc = rt.alloc();
-    let s = TWO_TO_DELIVER.setting(alloc)?;
-    let entries = TWO_TO_DELIVER.entries(alloc)?;
-    let b = book(&rt, alloc, &s, entries.as_slice())?;
-    assert_eq!(rt;
-        (use_ratio(&b, 1, 0), use_ratio(&b, 1, 2)),
-        (ratio(1, 1), ratio(1, 2))
-    );
-    let taken = delivery(&mut Relevance, &s, &entries, &b, 1);
-    assert_eq!(rt; taken, Some(0));
+    let s = Scene::Shorter.setting(alloc, PolicyName::Relevance)?;
+    for (text, illegal) in [(TWO_LOADED, None), (NINE, Some(2))] {
+        let entries = entries_of(alloc, text)?;
+        assert!(rt; entries.len() >= 8);
+        let loaded = &entries[..8];
+        let b = book(&rt, alloc, &s, loaded)?;
+        let taken = delivery(&mut Relevance, &s, loaded, &b, 1);
+        assert!(rt;
+            (use_ratio(&b, 1, 0), use_ratio(&b, 1, 2), taken)
+                == (ratio(1, 1), ratio(1, 2), Some(0)),
+            "{text}"
+        );
+        let b = book(&rt, alloc, &s, &entries)?;
+        assert!(rt;
+            agrees(alloc, &s, &entries, &b)? && first_illegal(alloc, &s, &entries)? == illegal,
+            "{text}"
+        );
+    }
     Ok(())
 }
 

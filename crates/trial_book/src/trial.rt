@@ -9,7 +9,7 @@ use crate::settings::book_of;
 use interest_book::{Book, Memory};
 use scan_story::{Entry, Setting};
 use std::alloc::Global;
-use story_judge::may_come;
+use story_judge::{may_come, may_follow};
 
 /// How a trial ends.
 #[derive(Clone, Copy, Debug, PartialEq, Eq)]
@@ -22,6 +22,28 @@ pub enum Trial {
     Differs(usize),
     /// Each number is the judge's after each entry.
     Agrees,
+}
+
+/// Notes the entry at the place, where it may follow those before it, whichever policy would choose what it takes.
+fn follow_next(
+    alloc: Global,
+    s: &Setting,
+    entries: &[Entry],
+    i: usize,
+    book: &mut Book,
+) -> Result<bool, Memory>
+    requires small { IsSmall s.now }
+    requires there { i < length entries.now }
+    requires few { i < 2 ^ 63 - 1 }
+    requires stands { Stands book.old s.now (past (take i entries.now)) }
+    ensures { IfOk result (λ b. IsTrue b → Stands book.new s.now (past (take (i + 1) entries.now))) }
+{
+    let entry = &entries[i];
+    if !may_follow(alloc, s, &entries[..i], entry)? {
+        return Ok(false);
+    }
+    book.note(entry);
+    Ok(true)
 }
 
 /// Notes the entry at the place, where it may come after those before it.
@@ -38,15 +60,13 @@ pub fn note_next(
     requires stands { Stands book.old s.now (past (take i entries.now)) }
     ensures { IfOk result (λ b. IsTrue b → Stands book.new s.now (past (take (i + 1) entries.now))) }
 {
-    let entry = &entries[i];
-    if !may_come(alloc, s, &entries[..i], entry)? {
+    if !may_come(alloc, s, &entries[..i], &entries[i])? {
         return Ok(false);
     }
-    book.note(entry);
-    Ok(true)
+    follow_next(alloc, s, entries, i, book)
 }
 
-/// A book that has noted the story, where it is one that a book can follow.
+/// A book that has noted the story, where each entry may follow those before it.
 pub fn played(alloc: Global, s: &Setting, entries: &[Entry]) -> Result<Option<Book>, Memory>
     requires small { IsSmall s.now }
     ensures { IfOk result (λ o. IfSome o (λ b. Stands b s.now (past entries.now))) }
@@ -55,7 +75,7 @@ pub fn played(alloc: Global, s: &Setting, entries: &[Entry]) -> Result<Option<Bo
         return Ok(None);
     };
     for i in 0..entries.len() {
-        if !note_next(alloc, s, entries, i, &mut book)? {
+        if !follow_next(alloc, s, entries, i, &mut book)? {
             return Ok(None);
         }
     }

@@ -15,7 +15,9 @@ use std::alloc::Global;
 use std::process::Abort;
 use std::test::Fail;
 use story_judge::{first_illegal, is_licensed, is_undisturbed, is_whole};
-use trial_stories::{COUNTS, Printed, SIX_ATTACH, SIX_ELEVATOR, SIX_NORMAL, SIX_RELEVANCE, TURNS};
+use trial_stories::{
+    COUNTS, POLICIES, Printed, SIX_ATTACH, SIX_ELEVATOR, SIX_NORMAL, SIX_RELEVANCE, TURNS,
+};
 use trial_walks::some_setting;
 
 /// No piece has this number.
@@ -158,10 +160,11 @@ fn expect_good<R: Abort>(
 
 /// One walk, over a depot that had 5 gets and 3 faults before. One in three walks meets a get that fails, and one in three
 /// a piece that is spoilt.
-fn expect_walk<R: Abort>(
+fn expect_walk<R: Abort, P: Policy>(
     rt: &R,
     alloc: Global,
     s: &Setting,
+    policy: P,
     seed: u64,
     met: &mut Met,
 ) -> Result<(), Fail>
@@ -172,7 +175,7 @@ fn expect_walk<R: Abort>(
     let mut depot = depot(rt, alloc, s, fail_gets, spoilt)?;
     depot.inner.gets = 5;
     depot.inner.faults = 3;
-    let Some(walked) = walk(alloc, s, Relevance, depot, seed, STEPS)? else {
+    let Some(walked) = walk(alloc, s, policy, depot, seed, STEPS)? else {
         panic!(rt; "a load is left, seed {seed}")
     };
     let story = walked.story.as_slice();
@@ -186,18 +189,34 @@ fn expect_walk<R: Abort>(
 /// Of how many steps a walk is.
 const STEPS: u32 = 600;
 
-/// Walks over so many chunks, by so many workers, with so many pieces a chunk: enough is met in them.
+/// The same under the policy of the setting.
+fn expect_walk_under<R: Abort>(
+    rt: &R,
+    alloc: Global,
+    s: &Setting,
+    seed: u64,
+    met: &mut Met,
+) -> Result<(), Fail>
+    requires { IsSmall s.now }
+{
+    match s.policy {
+        PolicyName::Relevance => expect_walk(rt, alloc, s, Relevance, seed, met),
+        PolicyName::Elevator => expect_walk(rt, alloc, s, Elevator::new(), seed, met),
+        PolicyName::Normal => expect_walk(rt, alloc, s, Normal::new(), seed, met),
+        PolicyName::Attach => expect_walk(rt, alloc, s, Attach::new(), seed, met),
+    }
+}
+
+/// Walks over so many chunks, by so many workers, with so many pieces a chunk, and how many.
+type Walks = (u32, u32, u32, u64);
+
+/// Enough is met in the walks under the policy.
 fn expect_walks<R: Abort>(
     rt: &R,
     alloc: Global,
-    chunks: u32,
-    workers: u32,
-    groups: u32,
-    seeds: u64,
-) -> Result<(), Fail>
-    requires workers { (0 < workers) × (workers ≤ 32) }
-    requires groups { (0 < groups) × (groups ≤ 16) }
-{
+    policy: PolicyName,
+    walks: &[Walks],
+) -> Result<(), Fail> {
     let mut met = Met {
         entries: 0,
         evictions: 0,
@@ -206,35 +225,45 @@ fn expect_walks<R: Abort>(
         damages: 0,
         ends: 0,
     };
-    for seed in 0..seeds {
-        let mut rng = Pcg32::new(seed, 7);
-        let s = some_setting(
-            alloc,
-            PolicyName::Relevance,
-            chunks,
-            workers,
-            groups,
-            &mut rng,
-        )?;
-        expect_walk(rt, alloc, &s, seed, &mut met)?;
+    for (chunks, workers, groups, seeds) in walks {
+        let (chunks, workers, groups) = (*chunks, *workers, *groups);
+        assert!(rt; workers > 0 && workers <= 32 && groups > 0 && groups <= 16);
+        for seed in 0..*seeds {
+            let mut rng = Pcg32::new(seed, 7);
+            let s = some_setting(alloc, policy, chunks, workers, groups, &mut rng)?;
+            expect_walk_under(rt, alloc, &s, seed, &mut met)?;
+        }
     }
-    assert!(rt; met.faults > 0 && met.damages > 0, "{met:?}");
-    assert!(rt; met.evictions > 0 && met.stops > 0, "{met:?}");
-    assert!(rt; met.ends > 0 && met.entries > 150, "{met:?}");
+    assert!(rt;
+        met.faults > 0
+            && met.damages > 0
+            && met.evictions > 0
+            && met.stops > 0
+            && met.ends > 0
+            && met.entries > 150,
+        "{met:?}"
+    );
     Ok(())
 }
 
 #[test]
 fn walks_over_rows(rt: HostRuntime) -> Result<(), Fail> {
-    let alloc = rt.alloc();
-    expect_walks(&rt, alloc, 7, 1, 1, 6)?;
-    expect_walks(&rt, alloc, 9, 2, 1, 4)?;
-    expect_walks(&rt, alloc, 12, 3, 1, 3)
+    expect_walks(
+        &rt,
+        rt.alloc(),
+        PolicyName::Relevance,
+        &[(7, 1, 1, 6), (9, 2, 1, 4), (12, 3, 1, 3)],
+    )?;
+    for policy in POLICIES {
+        expect_walks(&rt, rt.alloc(), policy, &[(7, 1, 1, 3), (9, 2, 1, 3)])?;
+    }
+    Ok(())
 }
 
 #[test]
 fn walks_over_columns(rt: HostRuntime) -> Result<(), Fail> {
-    let alloc = rt.alloc();
-    expect_walks(&rt, alloc, 6, 1, 2, 4)?;
-    expect_walks(&rt, alloc, 9, 2, 2, 3)
+    for policy in POLICIES {
+        expect_walks(&rt, rt.alloc(), policy, &[(6, 1, 2, 4), (9, 2, 2, 3)])?;
+    }
+    Ok(())
 }
