@@ -1,5 +1,5 @@
 -- What a batch comes to, from the contract of `run_batch`.
-use Rattle.std.proofs.Common.{◌≡◌, ℕ, List, length, map, All, Option, Result, Ok, Err, refl, arith, inl, inr}
+use Rattle.std.proofs.Common.{◌≡◌, ◌<◌, ℕ, List, length, map, All, Option, Result, Ok, Err, refl, arith, inl, inr}
 use Rattle.std.specs.Prelude.{IfErr, IfOk, is_some}
 use Rattle.std.specs.List.{AllZip}
 use Rattle.csv_load.specs.Loaded as loaded
@@ -18,6 +18,7 @@ use Rattle.table_pieces.specs.Putting.{ArePut}
 use Rattle.table_pieces.proofs.Zoned.{count_zones}
 use Rattle.run_inputs.specs.declared.inputs.Inputs.{Inputs}
 use Rattle.batch_run.specs.Lost.{Tells}
+use Rattle.batch_run.specs.Registering.{RegistersInOrder}
 use Rattle.batch_run.specs.Story.{IsStoryOver, counts}
 use Rattle.batch_run.specs.Taken.{IsTakenBy, TookNeed}
 use Rattle.run_output.specs.Answers.{printed}
@@ -46,13 +47,14 @@ fits-rows columns dicts rows h = λ k d below. fits-row columns dicts _ (h k d b
 
 pub is-worked : (i : Inputs) (w : Work) → CanRun i → IsStoryOver (setting_in i w.policy w.cursor) (is_some w.old.held) (counts w.old.gets w.old.faults) (counts w.new.gets w.new.faults) w.story
     → AllZip (IsTakenBy w.story) (scans_in i) w.taken → All (TookNeed (zones_in i) i.options.parts w.story) (scans_in i)
-    → ArePut (shape_in i) i.loaded.table.rows (pieces (shape_in i)) (pieces (shape_in i)) w.old.held w.new.held → IsWorked i w
-is-worked i w can story taken took stored = record {
+    → ((n : ℕ) → n < i.options.workers → RegistersInOrder w.story (scans_in i) n) → ArePut (shape_in i) i.loaded.table.rows (pieces (shape_in i)) (pieces (shape_in i)) w.old.held w.new.held → IsWorked i w
+is-worked i w can story taken took registers stored = record {
   room = can.room;
   story = story;
   taken = taken;
   took = took;
   once = each_once (zones_in i) i.options.workers i.options.parts w.story (let z = count_zones (shape_in i) i.loaded.table.rows in omega (arith, z, can.chunks)) (omega (arith, can.parts.0)) (queries_in i) story.whole.whole.finished took;
+  registers = registers;
   stored = stored;
 }
 

@@ -1,5 +1,5 @@
 -- How a batch runs over a table, by what a run is given.
-use Rattle.std.specs.Prelude.{◌≡◌, ◌≤◌, ◌+◌, ◌*◌, ◌++◌, ℕ, zero, suc, List, [], length, map, All, None, IsPermutation, is_some}
+use Rattle.std.specs.Prelude.{◌≡◌, ◌<◌, ◌≤◌, ◌+◌, ◌*◌, ◌++◌, ℕ, zero, suc, List, [], length, map, All, None, IsPermutation, is_some}
 use Rattle.std.specs.List.{AllZip}
 use Rattle.table_core.specs.Chunk.{chunk_count}
 use Rattle.table_core.specs.Value.{places_of, row_values}
@@ -23,6 +23,7 @@ use Rattle.batch_plan.specs.Scans.{Scan, scan_number, scans}
 use Rattle.batch_plan.specs.Setting.{batch_setting}
 use Rattle.batch_plan.specs.declared.task.Task.{Task}
 use Rattle.batch_run.specs.Lost.{Tells, cause_of_query}
+use Rattle.batch_run.specs.Registering.{RegistersInOrder}
 use Rattle.batch_run.specs.Story.{IsStoryOver, counts}
 use Rattle.batch_run.specs.Taken.{IsTakenBy, TookNeed}
 use Rattle.batch_run.specs.Tasks.{CanBeLoaded}
@@ -96,6 +97,8 @@ pub record IsWorked (i : Inputs) (w : Work) : Type 0 where
   pub took : All (TookNeed (zones_in i) i.options.parts w.story) (scans_in i)
   -- so the scans of a query that wasn't stopped took each chunk that it needs exactly once among them
   pub once : All (TookEachOnce (zones_in i) i.options.parts w.story) (queries_in i)
+  -- each worker registered its scans in the order of the batch
+  pub registers : (n : ℕ) → n < i.options.workers → RegistersInOrder w.story (scans_in i) n
   -- the table's pieces are put, and stay
   pub stored : ArePut (shape_in i) i.loaded.table.rows (pieces (shape_in i)) (pieces (shape_in i)) w.old.held w.new.held
 

@@ -48,7 +48,7 @@ returns-clause-answered g c =
       dicts_are = told.dicts;
       are = record {
         each = zip-length (CanBeWritten i.loaded.dicts.items) (plans_of os) end.answers.items written;
-        worked = is-worked i w c.requires.can (rw tasks at told.story) (rw tasks at told.taken) (rw tasks at told.took) told.stored;
+        worked = is-worked i w c.requires.can (rw tasks at told.story) (rw tasks at told.taken) (rw tasks at told.took) (rw tasks at told.registers) told.stored;
         lost = lost_by (past end.ran.story.items) (zones_in i) i.options.workers i.options.parts os
             (λ q none. only_asked (setting_in i (g.P.Policy.name c.args.policy) (g.P.Policy.cursor c.args.policy)) (past end.ran.story.items) q (rw tasks at told.story).whole.legal none)
             end.answers.items (rw tasks at told.lost);
