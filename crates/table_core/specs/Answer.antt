@@ -1,12 +1,12 @@
 -- The text of an answer: the line `query i`, then for each row a line with its values' texts, joined by a comma and a space.
-use Rattle.std.specs.Prelude.{◌≤◌, ◌<◌, ◌≡◌, ℕ, List, [], ◌∷◌, ◌++◌, length, map, Option, Some, None, codes, decimal, slice_index_or, All}
+use Rattle.std.specs.Prelude.{◌<◌, ◌≡◌, ℕ, List, [], ◌∷◌, ◌++◌, length, map, Option, Some, None, codes, decimal, slice_index_or}
 use Rattle.std.specs.List.{flat_map}
 use Rattle.table_core.specs.declared.cell.Cell.{Cell}
 use Rattle.table_core.specs.declared.cell.Cell.TheVariants.{Null}
 use Rattle.table_core.specs.declared.schema.Kind.{Kind}
 use Rattle.table_core.specs.declared.schema.Kind.TheVariants.{Int}
 use Rattle.table_core.specs.declared.schema.Column.{Column}
-use Rattle.table_core.specs.Value.{Value, value_text, row_values, zip_with, IsCellOf, places_of}
+use Rattle.table_core.specs.Value.{Value, value_text, row_values, zip_with, IsCellOf}
 
 -- texts joined by a comma and a space
 abbrev pub more_joined : List (List ℕ) → List ℕ

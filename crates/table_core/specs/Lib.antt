@@ -7,3 +7,4 @@ pub mod Texts
 pub mod Value
 pub mod Lists
 pub mod Answer
+pub mod Writing

@@ -51,7 +51,7 @@ impl Bytes {
         self.items.len()
     }
 
-    /// Puts more bytes at the end. For want of memory the bytes stay as they were.
+    /// Puts more bytes at the end. Out of memory leaves the bytes as they were.
     pub fn append(&mut self, more: &[u8]) -> Result<(), AllocError>
         ensures ok { OnOk result (self.new ≡ self.old ++ more.now) }
         ensures err { OnErr result (self.new ≡ self.old) }

@@ -1,6 +1,7 @@
 // The text of one value in an answer.
-ghost use Rattle.std.specs.Prelude.{◌≡◌, ◌≤◌, ◌<◌, ◌^◌, ◌++◌, ◌/◌, ◌∷◌, [], IfOk, OnOk, length};
+ghost use Rattle.std.specs.Prelude.{◌≡◌, ◌≤◌, ◌<◌, ◌^◌, ◌++◌, ◌/◌, ◌∷◌, [], IfOk, OnErr, OnOk, length};
 ghost use Rattle.table_core.specs.Value.{IsCellOf, last_digits, number_text, places_of, quoted, unsigned_text, value_in, value_text};
+ghost use Rattle.table_core.specs.Writing.{GrewByPrefix};
 
 use crate::bytes::Bytes;
 use crate::cell::Cell;
@@ -21,7 +22,8 @@ pub fn places_of_kind(kind: Kind) -> u32
 
 // Puts the last digits of a number at the end, exactly so many.
 fn write_last_digits(out: &mut Bytes, count: u32, number: u128) -> Result<(), Memory>
-    ensures { OnOk result (out.new ≡ out.old ++ last_digits count number) }
+    ensures text { OnOk result (out.new ≡ out.old ++ last_digits count number) }
+    ensures memory { OnErr result (GrewByPrefix out.old out.new (last_digits count number)) }
 {
     if count == 0 {
         return Ok(());
@@ -34,7 +36,8 @@ fn write_last_digits(out: &mut Bytes, count: u32, number: u128) -> Result<(), Me
 // Puts a number without its sign at the end.
 fn write_unsigned(out: &mut Bytes, number: u128, places: u32) -> Result<(), Memory>
     requires { places ≤ 9 }
-    ensures { OnOk result (out.new ≡ out.old ++ unsigned_text places number) }
+    ensures text { OnOk result (out.new ≡ out.old ++ unsigned_text places number) }
+    ensures memory { OnErr result (GrewByPrefix out.old out.new (unsigned_text places number)) }
 {
     let mut buffer = Buffer::new();
     if places == 0 {
@@ -49,10 +52,11 @@ fn write_unsigned(out: &mut Bytes, number: u128, places: u32) -> Result<(), Memo
 
 /// Puts the text of a number with places at the end: with places the whole part, a point and exactly so many digits.
 ///
-/// For want of memory the bytes may have got a part of it.
+/// Out of memory leaves what was there and a prefix of it.
 pub fn write_number(out: &mut Bytes, number: i128, places: u32) -> Result<(), Memory>
     requires { places ≤ 9 }
-    ensures { OnOk result (out.new ≡ out.old ++ number_text places number) }
+    ensures text { OnOk result (out.new ≡ out.old ++ number_text places number) }
+    ensures memory { OnErr result (GrewByPrefix out.old out.new (number_text places number)) }
 {
     if number < 0 {
         out.append(b"-")?;
@@ -62,9 +66,10 @@ pub fn write_number(out: &mut Bytes, number: i128, places: u32) -> Result<(), Me
 
 /// Puts a text in single quotes at the end, each single quote inside doubled.
 ///
-/// For want of memory the bytes may have got a part of it.
+/// Out of memory leaves what was there and a prefix of it.
 pub fn write_quoted(out: &mut Bytes, text: &[u8]) -> Result<(), Memory>
-    ensures { OnOk result (out.new ≡ out.old ++ quoted text.now) }
+    ensures text { OnOk result (out.new ≡ out.old ++ quoted text.now) }
+    ensures memory { OnErr result (GrewByPrefix out.old out.new (quoted text.now)) }
 {
     out.append(b"'")?;
     for byte in text {
@@ -80,11 +85,12 @@ pub fn write_quoted(out: &mut Bytes, text: &[u8]) -> Result<(), Memory>
 
 /// Puts the text of one value of a column at the end: `NULL`, a number with its places, or a quoted text.
 ///
-/// For want of memory the bytes may have got a part of it.
+/// Out of memory leaves what was there and a prefix of it.
 pub fn write_value(out: &mut Bytes, kind: Kind, dict: &Dict, cell: Cell) -> Result<(), Memory>
     requires places { places_of kind ≤ 9 }
     requires code { IsCellOf dict.now cell }
-    ensures { OnOk result (out.new ≡ out.old ++ value_text kind (value_in dict.now cell)) }
+    ensures text { OnOk result (out.new ≡ out.old ++ value_text kind (value_in dict.now cell)) }
+    ensures memory { OnErr result (GrewByPrefix out.old out.new (value_text kind (value_in dict.now cell))) }
 {
     match cell {
         Cell::Null => {
