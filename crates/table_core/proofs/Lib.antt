@@ -3,3 +3,4 @@ pub mod Members
 pub mod Rising
 pub mod Rows
 pub mod Lists
+pub mod Writing
