@@ -1,13 +1,16 @@
 // What no contract says: that calls succeed with ample memory, and that the definitions give the words and bytes that
 // people expect.
+ghost use Rattle.std.specs.Bool.{OnTrue};
+ghost use Rattle.std.specs.Prelude.{◌≡◌, ◌<◌, ◌*◌, length};
 ghost use Rattle.piece_format.specs.Cells.{IsTableOf};
-ghost use Rattle.piece_format.specs.Shape.{IsShape};
+ghost use Rattle.piece_format.specs.Reading.{HasColumn};
+ghost use Rattle.piece_format.specs.Shape.{IsPieceOf, IsShape, words_in};
 
 use crate::asked::is_shape;
 use crate::example::{CELLS, Example, KINDS, MINUS_5, cut, cut_of, seventy};
 use piece_format::{
     Damage, Layout, Piece, Shape, cell_of, check, encode, frame_words, groups, piece_of,
-    piece_words, read_row, word_at, words_to_bytes,
+    piece_words, word_at, words_to_bytes,
 };
 use std::alloc::Global;
 use std::process::Abort;
@@ -170,16 +173,44 @@ fn pieces_and_their_words_are_counted(rt: HostRuntime) -> Result<(), Fail> {
     Ok(())
 }
 
-// Whether these are the cells of a row; those of columns that the piece doesn't have stayed as they were.
-fn are_read(cells: &[Cell], wanted: &[Cell], piece: Piece) -> bool {
-    if cells.len() != wanted.len() {
-        return false;
+// The cell of a row and a column that the piece has, from the words at its places.
+fn cell_in(shape: &Shape, piece: Piece, bytes: &[u8], row: u32, column: u32) -> Cell
+    requires shape { IsShape shape.now }
+    requires piece { IsPieceOf shape.now piece }
+    requires bytes { length bytes.now ≡ 8 * words_in piece }
+    requires row { row < piece.rows }
+    requires column { HasColumn piece column }
+{
+    let nulls = word_at(bytes, piece.null_place(row));
+    let null = nulls >> piece.null_bit(row, column) & 1 == 1;
+    let word = word_at(bytes, piece.value_place(row, column));
+    let column = column as usize;
+    cell_of(shape.kinds[column], shape.dict_lens[column], null, word)
+}
+
+// Whether the piece has a column.
+fn has_column(piece: Piece, column: u32) -> bool
+    ensures { OnTrue result (HasColumn piece column) }
+{
+    match piece.layout {
+        Layout::Row => column < piece.columns,
+        Layout::Column => column == piece.group,
     }
-    for x in 0..cells.len() {
-        let stays = piece.layout == Layout::Column && x != piece.group as usize;
-        let cell = if stays { Cell::Code(9) } else { wanted[x] };
-        if cells[x] != cell {
-            return false;
+}
+
+// Whether each cell of a row that the piece has comes back from its bytes.
+fn come_back(shape: &Shape, piece: Piece, bytes: &[u8], row: u32, cells: &[Cell]) -> bool
+    requires shape { IsShape shape.now }
+    requires piece { IsPieceOf shape.now piece }
+    requires bytes { length bytes.now ≡ 8 * words_in piece }
+    requires row { row < piece.rows }
+{
+    for column in 0..piece.columns {
+        if has_column(piece, column) {
+            let cell = cell_in(shape, piece, bytes, row, column);
+            if cells.get(column as usize) != Some(&cell) {
+                return false;
+            }
         }
     }
     true
@@ -199,10 +230,9 @@ fn read_back(rt: &impl Abort, alloc: Global, cut: &Example, piece: u32) -> Resul
     let from = (piece / groups(shape) * shape.per) as usize;
     let part = Piece::of(shape, piece);
     for row in 0..part.rows {
-        let mut cells = vec![in alloc; Cell::Code(9); part.columns as usize]?;
-        read_row(shape, part, bytes.as_slice(), row, cells.as_mut_slice());
         assert!(rt; from + (row as usize) < cut.table.len());
-        assert!(rt; are_read(cells.as_slice(), cut.table.row(from + row as usize), part));
+        let cells = cut.table.row(from + row as usize);
+        assert!(rt; come_back(shape, part, bytes.as_slice(), row, cells));
     }
     Ok(())
 }
