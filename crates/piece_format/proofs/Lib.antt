@@ -6,4 +6,3 @@ pub mod Places
 pub mod Putting
 pub mod Sizes
 pub mod Back
-pub mod Rowwise

@@ -5,7 +5,9 @@
 //!     let words = encode(alloc, &shape, &table, piece)?;
 //!     let bytes = words_to_bytes(alloc, &words)?;       // what a depot holds
 //!     check(&shape, piece, bytes.as_slice())?;          // or the first word that is damaged
-//!     let cell = read_cell(&shape, Piece::of(&shape, piece), bytes.as_slice(), row, column);
+//!     let piece = Piece::of(&shape, piece);
+//!     let null = word_at(bytes.as_slice(), piece.null_place(row)) >> piece.null_bit(row, column) & 1 == 1;
+//!     let cell = cell_of(kind, dict_len, null, word_at(bytes.as_slice(), piece.value_place(row, column)));
 #![tactic(auto)]
 
 mod cells;
@@ -14,7 +16,6 @@ mod encoding;
 mod fours;
 mod layout;
 mod pieces;
-mod reading;
 mod shape;
 mod sound;
 mod word_bytes;
@@ -24,6 +25,5 @@ pub use checking::{Damage, check};
 pub use encoding::encode;
 pub use layout::Layout;
 pub use pieces::Piece;
-pub use reading::{read_cell, read_row};
 pub use shape::{Shape, frame_words, groups, piece_of, piece_words};
 pub use word_bytes::{bytes_give_words, word_at, words_to_bytes};
