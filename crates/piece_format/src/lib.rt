@@ -25,5 +25,5 @@ pub use checking::{Damage, check};
 pub use encoding::encode;
 pub use layout::Layout;
 pub use pieces::Piece;
-pub use shape::{Shape, frame_words, groups, piece_of, piece_words};
+pub use shape::{Shape, frame_words, groups, groups_in, piece_of, piece_words, word_count};
 pub use word_bytes::{bytes_give_words, word_at, words_to_bytes};

@@ -58,8 +58,8 @@ impl Shape {
     }
 }
 
-// How many pieces a chunk of so many columns has.
-fn groups_in(layout: Layout, columns: u32) -> u32
+/// How many pieces a chunk of so many columns has: 1 in the row layout, one for each column in the column layout.
+pub fn groups_in(layout: Layout, columns: u32) -> u32
     ensures { result ≡ spec.groups_in layout columns }
 {
     match layout {
@@ -68,8 +68,8 @@ fn groups_in(layout: Layout, columns: u32) -> u32
     }
 }
 
-// How many words a piece of so many columns and rows has.
-pub(crate) fn word_count(layout: Layout, columns: u32, rows: u32) -> u32
+/// How many words a piece has, in a table of so many columns and a chunk of so many rows.
+pub fn word_count(layout: Layout, columns: u32, rows: u32) -> u32
     requires columns { columns ≤ MOST_COLUMNS }
     requires rows { rows ≤ MOST_CHUNK_ROWS }
     ensures { result ≡ spec.word_count layout columns rows }

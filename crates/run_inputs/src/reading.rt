@@ -84,7 +84,7 @@ fn read_in_turn<F: Shelf>(
     ensures later { F.faults shelf.old ≤ F.faults shelf.new }
 {
     let (loaded, frames, text) = read_table(alloc, keys, request, shelf)?;
-    // It may have 256 MiB, and the batch doesn't ask for it.
+    // It may have `MOST_TEXT_BYTES`, and the batch doesn't ask for it.
     drop(text);
     let (outcomes, _) = read_batch(alloc, request, &loaded, shelf)?;
     Ok(inputs_with(request, loaded, frames, outcomes))
@@ -202,7 +202,7 @@ fn table_in(
     ensures of_table { IfErr result (λ s. IsOfTable s × (s ≢ stop.TableFault)) }
 {
     let loaded = load_table(alloc, keys, text)?;
-    let frames = frames_for(alloc, request, &loaded)?;
+    let frames = frames_for(request, &loaded.table)?;
     Ok((loaded, frames))
 }
 
