@@ -12,6 +12,7 @@ use Rattle.agg_groups.specs.Meaning.{or_else, first_some, answer, over, meaning,
 use Rattle.agg_groups.specs.Running.{runnings, over_shown}
 use Rattle.agg_groups.specs.Groups.{groups_of}
 use Rattle.table_core.specs.Lists.{lists}
+use Rattle.table_core.specs.declared.limits.TheConstants.{MOST_ROWS}
 use Rattle.agg_groups.specs.Table.{AreSound, AreBelow, AllFit, first_over, result_rows, values_at}
 use Rattle.agg_groups.proofs.Values.{answers-shown, over-shown, all_fit}
 
@@ -28,7 +29,7 @@ none_rest None b e = e
 none_rest (Some x) b e = cc
 
 -- where no sum is too great, all cells can be written
-pub all_shown_fit : (n m : ℕ) (vs : List (List Running)) (es : List (List Cell × ℕ)) → n ≤ 2097152 → AreSound n m vs → AreBelow (length vs) es
+pub all_shown_fit : (n m : ℕ) (vs : List (List Running)) (es : List (List Cell × ℕ)) → n ≤ MOST_ROWS → AreSound n m vs → AreBelow (length vs) es
     → first_over (map (λ (e : List Cell × ℕ). (e.0, values_at vs e.1)) es) ≡ None → AllFit (map (λ (e : List Cell × ℕ). (e.0, values_at vs e.1)) es)
 all_shown_fit n m vs [] l s b e = tt
 all_shown_fit n m vs (x ∷ es) l s b e =

@@ -11,6 +11,7 @@ use Rattle.std.proofs.lemmas.List.Elements.{All-from_recursion, recursion_from_A
 use Rattle.table_core.specs.declared.cell.Cell.{Cell}
 use Rattle.table_core.specs.declared.cell.Cell.TheVariants.{Null, Int, Code}
 use Rattle.table_core.specs.Cell.{cell_cmp}
+use Rattle.table_core.specs.declared.limits.TheConstants.{MOST_ROWS}
 use Rattle.agg_groups.specs.declared.running.Running.{Running}
 use Rattle.agg_groups.specs.declared.running.Running.TheVariants as running
 use Rattle.agg_groups.specs.declared.item.Item.{Item}
@@ -341,7 +342,7 @@ over-shown n (Min x ∷ items) rows = over-shown (n + 1) items rows
 over-shown n (Max x ∷ items) rows = over-shown (n + 1) items rows
 over-shown n (Key j ∷ items) rows = over-shown (n + 1) items rows
 
-over_rest : (n : ℕ) (m : ℕ) (rs : List Running) → over_shown n rs ≡ None → m ≤ 2097152 → AllByRecursion (HasRoom m) rs → AllByRecursion FitsCell rs
+over_rest : (n : ℕ) (m : ℕ) (rs : List Running) → over_shown n rs ≡ None → m ≤ MOST_ROWS → AllByRecursion (HasRoom m) rs → AllByRecursion FitsCell rs
 over_rest n m [] e l h = tt
 over_rest n m (running.Count x ∷ rs) e l h = (omega (arith, h.0), over_rest (n + 1) m rs e l h.1)
 over_rest n m (running.Sum x t ∷ rs) e l h = elim (cases_Bool (fits t)) [
@@ -351,7 +352,7 @@ over_rest n m (running.Sum x t ∷ rs) e l h = elim (cases_Bool (fits t)) [
 over_rest n m (running.Best c ∷ rs) e l h = (tt, over_rest (n + 1) m rs e l h.1)
 over_rest n m (running.Nothing ∷ rs) e l h = (tt, over_rest (n + 1) m rs e l h.1)
 
-pub all_fit : (m : ℕ) (rs : List Running) → over_shown 1 rs ≡ None → m ≤ 2097152 → All (HasRoom m) rs → All FitsCell rs
+pub all_fit : (m : ℕ) (rs : List Running) → over_shown 1 rs ≡ None → m ≤ MOST_ROWS → All (HasRoom m) rs → All FitsCell rs
 all_fit m rs e l h = All-from_recursion FitsCell rs (over_rest 1 m rs e l (recursion_from_All (HasRoom m) rs h))
 
 -- ---- two lists of rows in the other order

@@ -3,6 +3,7 @@ use Rattle.std.specs.Prelude.{◌≡◌, ◌<◌, ◌≤◌, ◌^◌, ℕ, if◌
 use Rattle.std.specs.Global.{Global}
 use Rattle.std.specs.declared.cmp.Ordering.TheVariants.{Less}
 use Rattle.table_core.specs.declared.cell.Cell.{Cell}
+use Rattle.table_core.specs.declared.limits.TheConstants.{MOST_ROWS}
 use Rattle.agg_groups.specs.declared.item.Item.{Item}
 use Rattle.agg_groups.specs.declared.running.Running.{Running}
 use Rattle.agg_groups.specs.Cells.{codes}
@@ -110,7 +111,7 @@ HasRoomAt n m (Some vs) = (length vs ≡ m) × All (HasRoom n) vs
 
 -- what the parts of kept groups are to one another: few rows, few items, values with room, and a group met last that is there
 pub record IsKept (items : List Item) (keys : List ℕ) (rows : ℕ) (key : List Cell) (place : Option ℕ) (t : Placed) : Type 0 where
-  pub few : rows ≤ 2097152
+  pub few : rows ≤ MOST_ROWS
   pub short : length items < 2 ^ 32
   pub long : length key ≡ length keys
   pub placed : IsPlaced t

@@ -1,5 +1,5 @@
 // The groups of a query's rows.
-ghost use Rattle.std.specs.Prelude.{◌≡◌, ◌≤◌, ◌+◌, ◌++◌, ℕ, List, [], ◌∷◌, length, None, OnOk, OnErr, IfOk, IfErr, IsOk};
+ghost use Rattle.std.specs.Prelude.{◌≡◌, ◌<◌, ◌≤◌, ◌+◌, ◌++◌, ℕ, List, [], ◌∷◌, length, None, OnOk, OnErr, IfOk, IfErr, IsOk};
 ghost use Rattle.table_core.specs.declared.cell.Cell.{Cell};
 ghost use Rattle.agg_groups.specs.Cells.{codes};
 ghost use Rattle.agg_groups.specs.Meaning.{key_of, meaning, overflow};
@@ -13,7 +13,7 @@ use crate::rows::{FinishFault, Rows};
 use crate::table::GroupTable;
 use std::alloc::Global;
 use std::marker::Model;
-use table_core::{Cell, Memory};
+use table_core::{Cell, MOST_ROWS, Memory};
 
 /// The groups of a query's rows, with the running values of its items: seen as its items, its key columns,
 /// the number of rows, and for each key that was met, in key order, the running values.
@@ -63,7 +63,7 @@ fn united(
     rows: u32,
     more: u32,
 ) -> Result<GroupTable, Memory>
-    requires few { rows + more ≤ 2097152 }
+    requires few { rows + more ≤ MOST_ROWS }
     requires sound { AreSound rows (length items.now) a.now.values }
     requires sound_more { AreSound more (length items.now) b.now.values }
     ensures joined { IfOk result (λ t. (q : List Cell) → at (seen t) q
@@ -112,7 +112,7 @@ impl Groups {
     ///
     /// Out of memory, the groups stay as they were.
     pub fn add_row(&mut self, row: &[Cell]) -> Result<(), Memory>
-        requires few { self.old.rows ≤ 2097151 }
+        requires few { self.old.rows < MOST_ROWS }
         requires places { NamesPlaces self.old.items self.old.keys (length row.now) }
         ensures ok { OnOk result ((rows : List (List Cell)) → Stands self.old rows
             → Stands self.new (rows ++ row.now ∷ [])) }
@@ -140,7 +140,7 @@ impl Groups {
     pub fn merge(&mut self, other: Groups) -> Result<(), (Groups, Memory)>
         requires items { other.items ≡ self.old.items }
         requires keys { other.keys ≡ self.old.keys }
-        requires few { self.old.rows + other.rows ≤ 2097152 }
+        requires few { self.old.rows + other.rows ≤ MOST_ROWS }
         ensures ok { OnOk result ((rows more : List (List Cell)) → Stands self.old rows → Stands other more
             → Stands self.new (rows ++ more)) }
         ensures count { OnOk result (self.new.rows ≡ self.old.rows + other.rows) }

@@ -9,7 +9,7 @@ ghost use Rattle.agg_groups.specs.Running as spec;
 
 use crate::item::Item;
 use std::alloc::{AllocError, Global};
-use table_core::Cell;
+use table_core::{Cell, MOST_ROWS};
 
 /// The value of an item over the rows so far.
 #[derive(Clone, Copy, Debug)]
@@ -75,7 +75,7 @@ fn greater(a: Cell, c: Cell) -> Cell
 
 // One number more in the sum of at most `rows` numbers.
 fn add(t: i128, n: i64, rows: u32) -> i128
-    requires few { rows ≤ 2097151 }
+    requires few { rows < MOST_ROWS }
     requires low { neg_ℤ (pos (rows * 2 ^ 63)) ≤ℤ t }
     requires high { t ≤ℤ pos (rows * 2 ^ 63) }
     ensures value { result ≡ t +ℤ n }
@@ -88,7 +88,7 @@ fn add(t: i128, n: i64, rows: u32) -> i128
 // The value of an item with one more row.
 fn next(item: Item, row: &[Cell], old: Running, rows: u32) -> Running
     requires in_row { spec.IsInRow item (length row.now) }
-    requires few { rows ≤ 2097151 }
+    requires few { rows < MOST_ROWS }
     requires room { spec.HasRoom rows old }
     ensures value { result ≡ spec.next item row.now old }
     ensures room { spec.HasRoom (rows + 1) result }
@@ -131,7 +131,7 @@ pub(crate) fn starts(alloc: Global, items: &[Item]) -> Result<Vec<Running>, Allo
 /// Adds a row to the value of each item, in place.
 pub(crate) fn step(items: &[Item], row: &[Cell], rows: u32, values: &mut [Running])
     requires in_row { All (λ i. spec.IsInRow i (length row.now)) items.now }
-    requires few { rows ≤ 2097151 }
+    requires few { rows < MOST_ROWS }
     requires same { length values.old ≡ length items.now }
     requires room { All (spec.HasRoom rows) values.old }
     ensures value { values.new ≡ spec.nexts items.now row.now values.old }
@@ -144,7 +144,7 @@ pub(crate) fn step(items: &[Item], row: &[Cell], rows: u32, values: &mut [Runnin
 }
 
 fn add_sums(s: i128, t: i128, rows: u32, more: u32) -> i128
-    requires few { rows + more ≤ 2097152 }
+    requires few { rows + more ≤ MOST_ROWS }
     requires low { neg_ℤ (pos (rows * 2 ^ 63)) ≤ℤ s }
     requires high { s ≤ℤ pos (rows * 2 ^ 63) }
     requires low_more { neg_ℤ (pos (more * 2 ^ 63)) ≤ℤ t }
@@ -165,7 +165,7 @@ fn best(item: Item, a: Cell, b: Cell) -> Running
 
 // The value of an item over two lists of rows.
 fn join(item: Item, a: Running, b: Running, rows: u32, more: u32) -> Running
-    requires few { rows + more ≤ 2097152 }
+    requires few { rows + more ≤ MOST_ROWS }
     requires room { spec.HasRoom rows a }
     requires room_more { spec.HasRoom more b }
     ensures { result ≡ spec.join a b item }
@@ -186,7 +186,7 @@ pub(crate) fn join_all(
     rows: u32,
     more: u32,
 )
-    requires few { rows + more ≤ 2097152 }
+    requires few { rows + more ≤ MOST_ROWS }
     requires same { length values.old ≡ length items.now }
     requires same_more { length others.now ≡ length items.now }
     requires room { All (spec.HasRoom rows) values.old }

@@ -11,7 +11,7 @@ use crate::running::{Running, join_all, over, row_of, starts, step};
 use std::alloc::Global;
 use std::collections::BTreeMap;
 use std::marker::Model;
-use table_core::{Cell, Memory, cell_order};
+use table_core::{Cell, MOST_ROWS, Memory, cell_order};
 
 type Places = BTreeMap<Vec<Cell>, usize>;
 
@@ -81,7 +81,7 @@ fn values_of(values: &[Vec<Running>], place: usize) -> &[Running]
 // Adds a row to the values at a place.
 fn step_at(values: &mut [Vec<Running>], place: usize, items: &[Item], row: &[Cell], rows: u32)
     requires in_row { All (λ i. IsInRow i (length row.now)) items.now }
-    requires few { rows ≤ 2097151 }
+    requires few { rows < MOST_ROWS }
     requires there { place < length values.old }
     requires same { length (values_at (lists values.old) place) ≡ length items.now }
     requires room { All (HasRoom rows) (values_at (lists values.old) place) }
@@ -102,7 +102,7 @@ fn join_at(
     rows: u32,
     more: u32,
 )
-    requires few { rows + more ≤ 2097152 }
+    requires few { rows + more ≤ MOST_ROWS }
     requires there { place < length values.old }
     requires same { length (values_at (lists values.old) place) ≡ length items.now }
     requires same_more { length others.now ≡ length items.now }
@@ -124,7 +124,7 @@ fn absorb_all(
     rows: u32,
     more: u32,
 ) -> Result<(), Memory>
-    requires few { rows + more ≤ 2097152 }
+    requires few { rows + more ≤ MOST_ROWS }
     requires sound { AreSound rows (length items.now) table.old.values }
     requires placed_table { IsPlaced table.old }
     requires placed { IsPlaced (record { places = plain_places places.now.entries; values = lists values.now }) }
@@ -215,7 +215,7 @@ impl GroupTable {
     /// Adds a row to the values at a place.
     pub(crate) fn step(&mut self, place: usize, items: &[Item], row: &[Cell], rows: u32)
         requires in_row { All (λ i. IsInRow i (length row.now)) items.now }
-        requires few { rows ≤ 2097151 }
+        requires few { rows < MOST_ROWS }
         requires there { place < length self.old.values }
         requires same { length (values_at self.old.values place) ≡ length items.now }
         requires room { All (HasRoom rows) (values_at self.old.values place) }
@@ -230,7 +230,7 @@ impl GroupTable {
 
     // Adds the values over other rows to those at a place.
     fn join(&mut self, place: usize, items: &[Item], others: &[Running], rows: u32, more: u32)
-        requires few { rows + more ≤ 2097152 }
+        requires few { rows + more ≤ MOST_ROWS }
         requires there { place < length self.old.values }
         requires same { length (values_at self.old.values place) ≡ length items.now }
         requires same_more { length others.now ≡ length items.now }
@@ -253,7 +253,7 @@ impl GroupTable {
         rows: u32,
         more: u32,
     ) -> Result<(), Memory>
-        requires few { rows + more ≤ 2097152 }
+        requires few { rows + more ≤ MOST_ROWS }
         requires same { length others.now ≡ length items.now }
         requires room_more { All (HasRoom more) others.now }
         requires room { HasRoomAt rows (length items.now) (at (seen self.old) key.now) }
@@ -280,7 +280,7 @@ impl GroupTable {
         more: u32,
     ) -> Result<(), Memory>
         requires placed { IsPlaced self.old }
-        requires few { rows + more ≤ 2097152 }
+        requires few { rows + more ≤ MOST_ROWS }
         requires sound { AreSound rows (length items.now) self.old.values }
         requires sound_other { AreSound more (length items.now) other.now.values }
         ensures joined { OnOk result ((q : List Cell) → at (seen self.new) q
@@ -303,7 +303,7 @@ impl GroupTable {
 
     /// The result rows, in key order.
     pub(crate) fn result_rows(&self, items: &[Item]) -> Result<Vec<Vec<Cell>>, Memory>
-        requires sound { AreSound 2097152 (length items.now) self.now.values }
+        requires sound { AreSound MOST_ROWS (length items.now) self.now.values }
         requires fit { first_over (seen self.now) ≡ None }
         ensures { IfOk result (λ rows. lists rows.items ≡ result_rows items.now (seen self.now)) }
     {

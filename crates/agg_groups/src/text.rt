@@ -8,7 +8,7 @@ ghost use Rattle.agg_groups.specs.Text as spec;
 use crate::item::Item;
 use crate::rows::Rows;
 use std::alloc::{AllocError, Global};
-use table_core::{Bytes, Dict, Memory, Schema, text_of_answer};
+use table_core::{Bytes, Dict, MOST_PLACES, Memory, Schema, text_of_answer};
 
 // The column in which the cell of an item is read; a count has none.
 fn column_of(keys: &[u32], item: Item) -> Option<u32>
@@ -41,7 +41,7 @@ pub fn rows_text(
 ) -> Result<Bytes, Memory>
     requires columns { All (IsColumn (length schema.now)) (spec.columns_of keys.now items.now) }
     requires dicts { length dicts.now ≡ length schema.now }
-    requires places { All (λ c. places_of c.kind ≤ 9) schema.now }
+    requires places { All (λ c. places_of c.kind ≤ MOST_PLACES) schema.now }
     requires cells { All (AreCellsOf (spec.columns_of keys.now items.now) dicts.now) rows.now }
     ensures { IfOk result (λ text. text ≡ answer query (kinds_of schema.now (spec.columns_of keys.now items.now))
         (map (values_of dicts.now (spec.columns_of keys.now items.now)) rows.now)) }

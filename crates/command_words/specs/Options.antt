@@ -7,7 +7,7 @@ use Rattle.command_words.specs.Knows.{known_to}
 use Rattle.command_words.specs.Matched.{is_true}
 use Rattle.command_words.specs.declared.call.Call.{Call}
 use Rattle.command_words.specs.declared.call.Call.TheVariants.{RunBoxed}
-use Rattle.command_words.specs.declared.limits.TheConstants.{MOST_FRAMES, MOST_GENERATED_ROWS, MOST_PARTS, MOST_WORKERS}
+use Rattle.command_words.specs.declared.limits.TheConstants.{MOST_FRAMES, MOST_GENERATED_ROWS, MOST_PARTS, MOST_WORKERS, USUAL_CHUNK_ROWS, USUAL_WORKERS}
 use Rattle.piece_format.specs.declared.layout.Layout.{Layout}
 use Rattle.piece_format.specs.declared.layout.Layout.TheVariants.{Row, Column}
 use Rattle.scan_story.specs.declared.setting.PolicyName.{PolicyName}
@@ -138,7 +138,7 @@ is_mixed v = v.compare && (is_some v.policy || (v.summary || v.trace))
 
 -- one worker runs where policies are compared
 abbrev pub workers_of : Values → Option ℕ
-workers_of v = if v.compare then number_or 1 1 1 v.threads else number_or 1 MOST_WORKERS 4 v.threads
+workers_of v = if v.compare then number_or 1 1 1 v.threads else number_or 1 MOST_WORKERS USUAL_WORKERS v.threads
 
 -- a TABLE that may be named
 abbrev pub table_word : Option Text → Option Text
@@ -160,7 +160,7 @@ request_of v = if is_mixed v then None else
       compare = v.compare;
       table = table;
       batch = batch;
-    }) v.batch) (table_word v.table)) (policy_or v.policy)) (scratch_or v.scratch)) (number_or 1 MOST_PARTS 1 v.parts)) (layout_or v.layout)) (number_or 1 MOST_CHUNK_ROWS 1024 v.rows)) (optional_number 1 MOST_FRAMES v.frames))
+    }) v.batch) (table_word v.table)) (policy_or v.policy)) (scratch_or v.scratch)) (number_or 1 MOST_PARTS 1 v.parts)) (layout_or v.layout)) (number_or 1 MOST_CHUNK_ROWS USUAL_CHUNK_ROWS v.rows)) (optional_number 1 MOST_FRAMES v.frames))
     (workers_of v)
 
 -- what the words of a call ask for, or none

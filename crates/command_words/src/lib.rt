@@ -18,7 +18,9 @@ mod request;
 mod values;
 
 pub use call::{Call, Refused};
-pub use limits::{MOST_FRAMES, MOST_GENERATED_ROWS, MOST_PARTS, MOST_WORKERS};
+pub use limits::{
+    MOST_FRAMES, MOST_GENERATED_ROWS, MOST_PARTS, MOST_WORKERS, USUAL_CHUNK_ROWS, USUAL_WORKERS,
+};
 pub use names::{Batch, Table};
 pub use options::{options_of, scratch_of};
 pub use piece_format::Layout;

@@ -3,7 +3,7 @@ ghost use Rattle.command_words.specs.Options.{request_of, workers_of};
 ghost use Rattle.command_words.specs.Limits.{IsWithinLimits};
 ghost use Rattle.command_words.specs.Views.{request_view, values_view};
 
-use crate::limits::{MOST_FRAMES, MOST_PARTS, MOST_WORKERS};
+use crate::limits::{MOST_FRAMES, MOST_PARTS, MOST_WORKERS, USUAL_CHUNK_ROWS, USUAL_WORKERS};
 use crate::names::{Table, layout_or, policy_or, scratch_or};
 use crate::numbers::{number_or, optional_number};
 use crate::values::Values;
@@ -57,7 +57,7 @@ impl<'a> Request<'a> {
         }
         let workers = workers_of(&values)?;
         let frames = optional_number(values.frames, 1, MOST_FRAMES)?;
-        let per = number_or(values.rows, 1, MOST_CHUNK_ROWS, 1024)?;
+        let per = number_or(values.rows, 1, MOST_CHUNK_ROWS, USUAL_CHUNK_ROWS)?;
         let layout = layout_or(values.layout)?;
         let parts = number_or(values.parts, 1, MOST_PARTS, 1)?;
         let scratch = scratch_or(values.scratch)?;
@@ -91,5 +91,5 @@ fn workers_of(values: &Values<'_>) -> Option<u32>
         let one = number_or(values.threads, 1, 1, 1)?;
         return Some(one);
     }
-    number_or(values.threads, 1, MOST_WORKERS, 4)
+    number_or(values.threads, 1, MOST_WORKERS, USUAL_WORKERS)
 }

@@ -7,12 +7,13 @@ use Rattle.csv_load.specs.Judged.{Fields}
 use Rattle.table_core.specs.Value.{places_of}
 use Rattle.table_core.specs.declared.cell.Cell.{Cell}
 use Rattle.table_core.specs.declared.schema.Kind.TheVariants.{Text}
+use Rattle.table_core.specs.declared.limits.TheConstants.{MOST_PLACES}
 use Rattle.csv_load.specs.Ranks.{IsRanked}
 
 -- the column of these texts
 pub record IsTyped (texts : Fields) (column : Typed) : Type 0 where
   pub kind_is : column.kind ≡ kind_of texts
-  pub few : places_of column.kind ≤ 9
+  pub few : places_of column.kind ≤ MOST_PLACES
   pub ranked : column.kind ≡ Text → IsRanked texts column.dict column.codes.items
   pub numbers : column.kind ≢ Text → (column.texts ≡ texts) × (column.dict ≡ [])
 

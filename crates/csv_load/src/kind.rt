@@ -7,7 +7,7 @@ ghost use Rattle.table_core.specs.Value.{FitsColumn, places_of, value_in};
 ghost use Rattle.table_core.specs.declared.schema.Kind.TheVariants.{Text};
 
 use crate::number::{Number, number_of};
-use table_core::{Cell, Kind, Texts, places_of_kind};
+use table_core::{Cell, Kind, MOST_PLACES, Texts, places_of_kind};
 
 // Whether a field is empty, or spells a whole number.
 fn is_whole(field: &[u8]) -> bool
@@ -37,7 +37,7 @@ fn all_whole(texts: &Texts) -> bool
 // The digits after the point of a field that spells a number, or none.
 fn places_after_point(field: &[u8]) -> u32
     ensures places { result ≡ places_in (number_read field.now) }
-    ensures few { result ≤ 9 }
+    ensures few { result ≤ MOST_PLACES }
 {
     match number_of(field) {
         None => return 0,
@@ -47,7 +47,7 @@ fn places_after_point(field: &[u8]) -> u32
 
 fn most_places(texts: &Texts) -> u32
     ensures most { result ≡ most_places texts.now }
-    ensures few { result ≤ 9 }
+    ensures few { result ≤ MOST_PLACES }
 {
     let mut most = 0;
     for place in 0..texts.len() {
@@ -60,7 +60,7 @@ fn most_places(texts: &Texts) -> u32
 }
 
 fn power_of_ten(places: u32) -> i64
-    requires { places ≤ 9 }
+    requires { places ≤ MOST_PLACES }
     ensures { result ≡ pos (10 ^ places) }
 {
     match places {
@@ -79,7 +79,7 @@ fn power_of_ten(places: u32) -> i64
 
 // A number as a whole number with so many places, if it has 64 bits.
 fn scale(number: Number, places: u32) -> Option<i64>
-    requires { places ≤ 9 }
+    requires { places ≤ MOST_PLACES }
     ensures { MatchOption result (fits_i64 (scaled places number) ≡ false)
         (λ z. (z ≡ scaled places number) × (fits_i64 (scaled places number) ≡ true)) }
 {
@@ -90,7 +90,7 @@ fn scale(number: Number, places: u32) -> Option<i64>
 
 // Whether a field is empty, or spells a number that has 64 bits with so many places.
 fn is_decimal(field: &[u8], places: u32) -> bool
-    requires { places ≤ 9 }
+    requires { places ≤ MOST_PLACES }
     ensures { result ≡ is_decimal places field.now }
 {
     match field {
@@ -104,7 +104,7 @@ fn is_decimal(field: &[u8], places: u32) -> bool
 }
 
 fn all_decimal(texts: &Texts, places: u32) -> bool
-    requires { places ≤ 9 }
+    requires { places ≤ MOST_PLACES }
     ensures { result ≡ list_all (is_decimal places) texts.now }
 {
     for place in 0..texts.len() {
@@ -120,7 +120,7 @@ fn all_decimal(texts: &Texts, places: u32) -> bool
 /// It takes no memory and reads each text at most three times.
 pub fn kind_of_texts(texts: &Texts) -> Kind
     ensures kind { result ≡ kind_of texts.now }
-    ensures few { places_of result ≤ 9 }
+    ensures few { places_of result ≤ MOST_PLACES }
 {
     if all_whole(texts) {
         return Kind::Int;
@@ -137,7 +137,7 @@ pub fn kind_of_texts(texts: &Texts) -> Kind
 
 /// The cell of a field in a column of numbers. It takes no memory.
 pub fn number_cell(kind: Kind, field: &[u8]) -> Cell
-    requires few { places_of kind ≤ 9 }
+    requires few { places_of kind ≤ MOST_PLACES }
     requires numbers { kind ≢ Text }
     ensures value { is_of kind field.now ≡ true → (dict : List (List ℕ)) → value_in dict result
         ≡ value_as kind field.now }

@@ -15,7 +15,7 @@ use crate::seeded::Seeded;
 use crate::typed::{Typed, finish_cells, type_columns};
 use std::alloc::{AllocError, Global};
 use std::hash::RandomState;
-use table_core::{Bytes, Column, Dict, Schema, Table};
+use table_core::{Bytes, Column, Dict, MOST_PLACES, Schema, Table};
 
 /// A table with the dictionaries of its columns.
 #[derive(Drop)]
@@ -66,7 +66,7 @@ fn dicts_of(alloc: Global, typed: Vec<Typed>) -> Result<Vec<Dict>, AllocError>
 pub fn load(alloc: Global, keys: RandomState, bytes: &[u8]) -> Result<Loaded, LoadRefusal>
     requires small { length bytes.now ≤ MOST_TEXT_BYTES }
     ensures loaded { IfOk result (λ t. IsLoaded (table_records bytes.now) t.table t.dicts.items) }
-    ensures places { IfOk result (λ t. All (λ c. places_of c.kind ≤ 9) t.table.columns) }
+    ensures places { IfOk result (λ t. All (λ c. places_of c.kind ≤ MOST_PLACES) t.table.columns) }
     ensures refused { IfErr result (λ e. e ≢ refusal.Memory → refusal_of (table_records bytes.now) ≡ Some e) }
 {
     let read = read_rows(alloc, Seeded::with_keys(keys), bytes)?;

@@ -2,6 +2,8 @@
 ghost use Rattle.std.specs.Prelude.{◌≡◌, ◌≤◌, ◌<◌, ◌^◌, length, IfSome, MatchOption};
 ghost use Rattle.csv_load.specs.Number.{digits_from, is_whole_part, made, number_read, rest_read, unsigned_read};
 
+use table_core::MOST_PLACES;
+
 /// A number as a field spells it: `value` times 10 to the power of minus `places`.
 #[derive(Clone, Copy, Debug, PartialEq, Eq)]
 pub struct Number {
@@ -117,7 +119,7 @@ fn unsigned(minus: bool, text: &[u8]) -> Option<Number>
 /// The number that a field spells, where it spells one of 64 bits. It takes no memory.
 pub fn number_of(field: &[u8]) -> Option<Number>
     ensures number { result ≡ number_read field.now }
-    ensures few { IfSome result (λ n. n.places ≤ 9) }
+    ensures few { IfSome result (λ n. n.places ≤ MOST_PLACES) }
 {
     spelled(field)
 }

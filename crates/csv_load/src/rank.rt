@@ -25,7 +25,7 @@ fn keyed<'a>(alloc: Global, names: &'a Texts) -> Result<Vec<(&'a [u8], u32)>, Al
         if text.len() == 0 {
             continue;
         }
-        if place > 4294967295 {
+        if place > u32::MAX as usize {
             return Err(AllocError);
         }
         order.push((text, place as u32))?;

@@ -14,7 +14,7 @@ use crate::gathered::Gathered;
 use crate::kind::{kind_of_texts, number_cell};
 use crate::rank::rank_texts;
 use std::alloc::{AllocError, Global};
-use table_core::{Cell, Dict, Kind, Texts};
+use table_core::{Cell, Dict, Kind, MOST_PLACES, Texts};
 
 // A column of texts has its dictionary and the code of each of its texts; any other has its texts.
 #[derive(Drop)]
@@ -73,7 +73,7 @@ fn code_cell(codes: &[Option<u32>], place: usize) -> Cell
 
 // The cell of a number, where a column of numbers has its text at this place.
 fn numeral(column: &Typed, place: usize) -> Cell
-    requires few { places_of column.now.kind ≤ 9 }
+    requires few { places_of column.now.kind ≤ MOST_PLACES }
     requires numbers { column.now.kind ≢ Text }
     ensures { (texts : Fields) (field : List ℕ) → IsTyped texts column.now → place < length texts
         → slice_index_or texts place [] ≡ field
@@ -87,7 +87,7 @@ fn numeral(column: &Typed, place: usize) -> Cell
 
 // The cell of a field that has this one over the column's texts.
 fn finished(column: &Typed, cell: Cell) -> Cell
-    requires { places_of column.now.kind ≤ 9 }
+    requires { places_of column.now.kind ≤ MOST_PLACES }
     ensures { IsFinished column.now cell result }
 {
     let place = match cell {
@@ -102,7 +102,7 @@ fn finished(column: &Typed, cell: Cell) -> Cell
 
 // Makes each cell that of its field, row by row.
 pub(crate) fn finish_cells(cells: &mut [Cell], columns: &[Typed])
-    requires few { All (λ column. places_of column.kind ≤ 9) columns.now }
+    requires few { All (λ column. places_of column.kind ≤ MOST_PLACES) columns.now }
     requires some { 0 < length columns.now }
     ensures size { length cells.new ≡ length cells.old }
     ensures finished { (i : ℕ) (d : Typed) → i < length cells.old

@@ -1,5 +1,5 @@
 // What a query's scan gathers.
-ghost use Rattle.std.specs.Prelude.{◌≡◌, ◌≤◌, ◌+◌, ◌++◌, ℕ, List, [], ◌∷◌, length, false, All, OnOk, OnErr, IfOk, IsOk};
+ghost use Rattle.std.specs.Prelude.{◌≡◌, ◌<◌, ◌≤◌, ◌+◌, ◌++◌, ℕ, List, [], ◌∷◌, length, false, All, OnOk, OnErr, IfOk, IsOk};
 ghost use Rattle.table_core.specs.declared.cell.Cell.{Cell};
 ghost use Rattle.agg_groups.specs.Groups as grouped;
 ghost use Rattle.top_rows.specs.Rows.{Numbered, AreApart};
@@ -16,7 +16,7 @@ use filter_zones::{Cond, Truth, truth_of};
 use scan_story::Cause;
 use sql_bind::Plan;
 use std::alloc::Global;
-use table_core::{Cell, Memory};
+use table_core::{Cell, MOST_ROWS, Memory};
 use top_rows::TopRows;
 
 /// What a query's scan gathers of the rows that match: their groups, or the first of them.
@@ -46,7 +46,7 @@ fn matches(cond: &Option<Cond>, row: &[Cell]) -> bool
 fn join_groups(groups: &mut Groups, other: Groups) -> Result<(), Memory>
     requires items { other.items ≡ groups.old.items }
     requires keys { other.keys ≡ groups.old.keys }
-    requires few { groups.old.rows + other.rows ≤ 2097152 }
+    requires few { groups.old.rows + other.rows ≤ MOST_ROWS }
     ensures ok { OnOk result ((rows more : List (List Cell)) → grouped.Stands groups.old rows
         → grouped.Stands other more → grouped.Stands groups.new (rows ++ more)) }
     ensures count { OnOk result (groups.new.rows ≡ groups.old.rows + other.rows) }
@@ -92,7 +92,7 @@ impl Partial {
     // Adds a row that matches.
     fn add_matching(&mut self, number: u32, row: &[Cell]) -> Result<(), Memory>
         requires width { spec.HasPlaces self.old (length row.now) }
-        requires few { spec.row_count self.old ≤ 2097151 }
+        requires few { spec.row_count self.old < MOST_ROWS }
         ensures ok { OnOk result ((rows : List (Numbered Cell)) → spec.Stands self.old rows
             → spec.IsNew self.old rows number → spec.Stands self.new (rows ++ (number, row.now) ∷ [])) }
         ensures alike { spec.IsAlike self.old self.new }
@@ -112,7 +112,7 @@ impl Partial {
         requires cond { spec.FitsCond plan.now.cond row.now }
         requires width { spec.FitsWidth plan.now (length row.now) }
         requires plan { spec.FitsPlan plan.now self.old }
-        requires few { spec.row_count self.old ≤ 2097151 }
+        requires few { spec.row_count self.old < MOST_ROWS }
         ensures ok { OnOk result ((rows : List (Numbered Cell)) → spec.Stands self.old rows
             → spec.IsNew self.old rows number
             → spec.Stands self.new (rows ++ spec.matching plan.now ((number, row.now) ∷ []))) }
@@ -153,7 +153,7 @@ impl Partial {
     // Adds what another one gathered, behind its own. After want of memory the other is gone.
     fn merge(&mut self, other: Partial) -> Result<(), Memory>
         requires alike { spec.IsAlike self.old other }
-        requires few { spec.row_count self.old + spec.row_count other ≤ 2097152 }
+        requires few { spec.row_count self.old + spec.row_count other ≤ MOST_ROWS }
         ensures ok { OnOk result ((rows more : List (Numbered Cell)) → spec.Stands self.old rows
             → spec.Stands other more → spec.MayJoin self.old rows more → spec.Stands self.new (rows ++ more)) }
         ensures alike { spec.IsAlike self.old self.new }
@@ -172,7 +172,7 @@ impl Partial {
 /// After want of memory all of them are gone.
 pub fn join_parts(first: Partial, rest: Vec<Partial>) -> Result<Partial, Memory>
     requires alike { All (spec.IsAlike first) rest.items }
-    requires few { spec.row_count first + spec.rows_of_all rest.items ≤ 2097152 }
+    requires few { spec.row_count first + spec.rows_of_all rest.items ≤ MOST_ROWS }
     ensures stands { IfOk result (λ whole. (rows : List (Numbered Cell)) (lists : List (List (Numbered Cell)))
         → spec.Stands first rows → spec.StandForEach rest.items lists
         → spec.MayJoinAll first rows lists → spec.Stands whole (rows ++ spec.joined lists)) }

@@ -9,6 +9,7 @@ use Rattle.csv_load.specs.Rows.{table_records}
 use Rattle.run_output.specs.declared.stop.Stop.{Stop}
 use Rattle.run_output.specs.declared.stop.Stop.TheVariants as stop
 use Rattle.table_core.specs.Value.{places_of}
+use Rattle.table_core.specs.declared.limits.TheConstants.{MOST_PLACES}
 use Rattle.run_inputs.specs.Order.{first_stop, frames_given, stop_in, table_stop}
 use Rattle.run_inputs.specs.Sources.{Source, made, stored, batch_source, table_source, text_in}
 use Rattle.run_inputs.specs.Statements.{statements_in}
@@ -75,7 +76,7 @@ pub record IsTable (r : Request) (text : Option (List ℕ)) (table : Loaded) (fr
   pub bytes : List ℕ
   pub text_is : text ≡ Some bytes
   pub loaded : IsLoaded (table_records bytes) table.table table.dicts.items
-  pub places : All (λ c. places_of c.kind ≤ 9) table.table.columns
+  pub places : All (λ c. places_of c.kind ≤ MOST_PLACES) table.table.columns
   pub frames_are : frames ≡ frames_given r.workers r.frames r.layout (length table.table.columns)
 
 -- what the statements of a text come to over a table

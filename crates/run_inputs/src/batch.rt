@@ -19,7 +19,7 @@ use run_output::{Outcome, Stop};
 use sql_bind::{BindRefusal, StatementRefusal, plan_of};
 use sql_tokens::{Span, TextRefusal, split};
 use std::alloc::Global;
-use table_core::{Dict, MOST_COLUMNS, Schema};
+use table_core::{Dict, MOST_COLUMNS, MOST_PLACES, Schema};
 
 /// The text of a batch: it is generated, or read from the shelf.
 pub(crate) fn batch_bytes<F: Shelf>(
@@ -92,7 +92,7 @@ fn is_memory(refusal: &StatementRefusal) -> bool
 fn outcome_of(alloc: Global, text: &[u8], schema: &Schema, dicts: &[Dict]) -> Result<Outcome, Stop>
     requires short { length text.now < 2 ^ 32 }
     requires few { length schema.now ≤ MOST_COLUMNS }
-    requires places { All (λ c. places_of c.kind ≤ 9) schema.now }
+    requires places { All (λ c. places_of c.kind ≤ MOST_PLACES) schema.now }
     requires dicts { length dicts.now ≡ length schema.now }
     ensures ok { IfOk result (λ o. ComesTo schema.now dicts.now text.now o) }
     ensures err { IfErr result (λ s. s ≡ stop.Memory) }
@@ -119,7 +119,7 @@ pub(crate) fn outcomes_of(
     requires there { All (IsSpanIn (length text.now)) spans.now }
     requires short { length text.now < 2 ^ 32 }
     requires few { length schema.now ≤ MOST_COLUMNS }
-    requires places { All (λ c. places_of c.kind ≤ 9) schema.now }
+    requires places { All (λ c. places_of c.kind ≤ MOST_PLACES) schema.now }
     requires dicts { length dicts.now ≡ length schema.now }
     ensures ok { IfOk result (λ v. ComeTo schema.now dicts.now (map (part text.now) spans.now) v.items) }
     ensures err { IfErr result (λ s. s ≡ stop.Memory) }

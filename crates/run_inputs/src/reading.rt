@@ -23,7 +23,7 @@ use csv_load::{Loaded, MOST_TEXT_BYTES};
 use run_output::{Outcome, Stop};
 use std::alloc::Global;
 use std::hash::RandomState;
-use table_core::MOST_COLUMNS;
+use table_core::{MOST_COLUMNS, MOST_PLACES};
 
 /// What a request and the shelf give a run, or why the run stops: the first refusal in the order table, chunks, frames,
 /// batch, statements. The numbers of the request lie within their limits.
@@ -215,7 +215,7 @@ fn read_batch<F: Shelf>(
 ) -> Result<(Vec<Outcome>, Bytes), Stop>
     requires limits { IsWithinLimits (request_view request.now) }
     requires few { length loaded.now.table.columns ≤ MOST_COLUMNS }
-    requires places { All (λ c. places_of c.kind ≤ 9) loaded.now.table.columns }
+    requires places { All (λ c. places_of c.kind ≤ MOST_PLACES) loaded.now.table.columns }
     requires dicts { length loaded.now.dicts.items ≡ length loaded.now.table.columns }
     ensures read { (text : Option (List ℕ)) × IsTextOf (F.held shelf.old) (batch_source request.now.batch.now) text
         × Ends (stop_in stop.BatchFault (batch_stop (request_view request.now)) text) (λ p. IsBatch text loaded.now p.0.items × (text ≡ Some p.1)) (λ s. s ≡ stop.BatchFault) (F.faults shelf.old) (F.faults shelf.new) result }
@@ -242,7 +242,7 @@ fn batch_in(
     requires limits { IsWithinLimits (request_view request.now) }
     requires long { length text.now ≤ MOST_BATCH_BYTES }
     requires few { length loaded.now.table.columns ≤ MOST_COLUMNS }
-    requires places { All (λ c. places_of c.kind ≤ 9) loaded.now.table.columns }
+    requires places { All (λ c. places_of c.kind ≤ MOST_PLACES) loaded.now.table.columns }
     requires dicts { length loaded.now.dicts.items ≡ length loaded.now.table.columns }
     ensures ok { IfOk result (λ v. (short_batch_stop (request_view request.now) text.now ≡ None)
         × IsBatch (Some text.now) loaded.now v.items) }

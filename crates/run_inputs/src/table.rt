@@ -17,6 +17,7 @@ use generated_texts::table_text;
 use run_output::Stop;
 use std::alloc::Global;
 use std::hash::RandomState;
+use table_core::MOST_PLACES;
 
 /// What a word names as a table.
 pub(crate) fn table_named<'a>(word: &'a str) -> Table<'a>
@@ -79,7 +80,7 @@ fn stop_of(refusal: LoadRefusal) -> Stop
 pub(crate) fn load_table(alloc: Global, keys: RandomState, text: &[u8]) -> Result<Loaded, Stop>
     requires small { length text.now ≤ MOST_TEXT_BYTES }
     ensures loaded { IfOk result (λ l. IsLoaded (table_records text.now) l.table l.dicts.items) }
-    ensures places { IfOk result (λ l. All (λ c. places_of c.kind ≤ 9) l.table.columns) }
+    ensures places { IfOk result (λ l. All (λ c. places_of c.kind ≤ MOST_PLACES) l.table.columns) }
     ensures refused { IfErr result (λ s. (load_stop (refusal_of (table_records text.now)) ≡ Some s)
         ⊎ (s ≡ stop.Memory)) }
     ensures of_table { IfErr result (λ s. IsOfTable s × (s ≢ stop.TableFault)) }

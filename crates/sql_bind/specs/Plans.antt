@@ -2,6 +2,7 @@
 use Rattle.std.specs.Prelude.{◌≡◌, ℕ, suc, Bool, if◌then◌else◌, ◌==◌, List, [], ◌∷◌, map, Option, Some, None, option_map}
 use Rattle.std.specs.List.{flat_map, list_any}
 use Rattle.table_core.specs.Sets.{numbers_below}
+use Rattle.table_core.specs.declared.limits.TheConstants.{MOST_COLUMNS}
 use Rattle.table_core.specs.declared.schema.Column.{Column}
 use Rattle.agg_groups.specs.declared.item.Item.{Item}
 use Rattle.agg_groups.specs.declared.item.Item.TheVariants.{CountAll, Count, Sum, Min, Max, Key}
@@ -56,7 +57,7 @@ is_named columns ps x = list_any (λ p. x == column_of columns p.0) ps
 -- the columns that the places name; column 0 alone where there is no place
 abbrev pub named_columns : List Column → List Place → List ℕ
 named_columns columns [] = 0 ∷ []
-named_columns columns (p ∷ ps) = numbers_below (is_named columns (p ∷ ps)) 16
+named_columns columns (p ∷ ps) = numbers_below (is_named columns (p ∷ ps)) MOST_COLUMNS
 
 -- a query with a limit has no items and no key columns
 abbrev pub without_limit : {A : Type 0} → Option ℕ → List A → List A

@@ -21,7 +21,7 @@ use crate::plan::Plan;
 use crate::refusal::BindRefusal;
 use sql_text::Query;
 use std::alloc::{AllocError, Global};
-use table_core::{Column, Dict, Schema};
+use table_core::{Column, Dict, MOST_COLUMNS, MOST_PLACES, Schema};
 use top_rows::RowPlan;
 
 // The key columns of a query that isn't refused.
@@ -31,7 +31,7 @@ fn judge(
     query: &Query,
     places: &[Place<'_>],
 ) -> Result<Vec<u32>, BindRefusal>
-    requires few { length columns.now ≤ 16 }
+    requires few { length columns.now ≤ MOST_COLUMNS }
     requires all { map places_in.place_seen places.now ≡ places_in.places (query_of query.now) }
     ensures judged { Judges result (refusal_of columns.now (query_of query.now)) }
     ensures keys { IfOk result (λ keys. keys.items ≡ spec.columns_of columns.now (query_of query.now).keys) }
@@ -51,7 +51,7 @@ fn row_plan(
     query: &Query,
     limit: u32,
 ) -> Result<RowPlan, AllocError>
-    requires { length columns.now ≤ 16 }
+    requires { length columns.now ≤ MOST_COLUMNS }
     ensures { IfOk result (λ rows. rows ≡ spec.row_query columns.now (query_of query.now) limit) }
 {
     Ok(RowPlan {
@@ -76,8 +76,8 @@ fn bind_columns(
     columns: &[Column],
     dicts: &[Dict],
 ) -> Result<Plan, BindRefusal>
-    requires few { length columns.now ≤ 16 }
-    requires places { All (λ c. places_of c.kind ≤ 9) columns.now }
+    requires few { length columns.now ≤ MOST_COLUMNS }
+    requires places { All (λ c. places_of c.kind ≤ MOST_PLACES) columns.now }
     requires dicts { length dicts.now ≡ length columns.now }
     ensures judged { Judges result (refusal_of columns.now (query_of query.now)) }
     ensures plan { IfOk result (λ plan. IsPlanOf columns.now (query_of query.now) plan) }
@@ -113,8 +113,8 @@ fn bind_columns(
 
 /// The plan of a query over the columns of a table.
 ///
-/// There is one dictionary for each column, and at most 16 columns, whose numbers have at most 9 places. Over rows of
-/// cells the plan means what the query means over the values that they stand for.
+/// There is one dictionary for each column, and at most `MOST_COLUMNS` columns, whose numbers have at most
+/// `MOST_PLACES` places. Over rows of cells the plan means what the query means over the values that they stand for.
 ///
 /// # Errors
 ///
@@ -127,8 +127,8 @@ pub fn bind(
     schema: &Schema,
     dicts: &[Dict],
 ) -> Result<Plan, BindRefusal>
-    requires few { length schema.now ≤ 16 }
-    requires places { All (λ c. places_of c.kind ≤ 9) schema.now }
+    requires few { length schema.now ≤ MOST_COLUMNS }
+    requires places { All (λ c. places_of c.kind ≤ MOST_PLACES) schema.now }
     requires dicts { length dicts.now ≡ length schema.now }
     // What is refused has its first cause, unless memory ran out.
     ensures judged { Judges result (refusal_of schema.now (query_of query.now)) }

@@ -6,7 +6,7 @@ ghost use Rattle.sql_bind.specs.Bounds.{IsHalfSteps};
 
 use filter_zones::Bound;
 use sql_text::Literal;
-use table_core::{Dict, Kind, places_of_kind};
+use table_core::{Dict, Kind, MOST_PLACES, places_of_kind};
 
 // A power of ten.
 fn power(places: u32) -> i128
@@ -19,7 +19,7 @@ fn power(places: u32) -> i128
 
 // A number times a power of ten.
 fn scaled(number: i64, places: u32) -> i128
-    requires { places ≤ 9 }
+    requires { places ≤ MOST_PLACES }
     ensures value { result ≡ number *ℤ pos (10 ^ places) }
     ensures low { neg_ℤ (pos (2 ^ 93)) ≤ℤ result }
     ensures high { result ≤ℤ pos (2 ^ 93) }
@@ -53,7 +53,7 @@ fn doubled(whole: i128, rest: i128) -> i128
 
 // Twice the number `number * 10^up / 10^down` where it is whole, and else the odd number between its neighbours' doubles.
 fn half_steps(number: i64, up: u32, down: u32) -> i128
-    requires { up ≤ 9 }
+    requires { up ≤ MOST_PLACES }
     ensures { IsHalfSteps (number *ℤ pos (10 ^ up)) (10 ^ down) result }
 {
     let over = scaled(number, up);
@@ -66,7 +66,7 @@ fn half_steps(number: i64, up: u32, down: u32) -> i128
 
 // What stands for a number with places in a column of this kind.
 fn number_bound(kind: Kind, number: i64, places: u32) -> Bound
-    requires { places_of kind ≤ 9 }
+    requires { places_of kind ≤ MOST_PLACES }
     ensures { spec.IsNumberBound (places_of kind) number places result }
 {
     Bound::Number(half_steps(number, places_of_kind(kind), places))
@@ -84,7 +84,7 @@ fn text_bound(dict: &Dict, text: &[u8]) -> Bound
 
 /// What stands for a literal over the cells of a column of this kind, with this dictionary.
 pub fn bound_of(kind: Kind, dict: &Dict, literal: &Literal) -> Bound
-    requires { places_of kind ≤ 9 }
+    requires { places_of kind ≤ MOST_PLACES }
     ensures { spec.IsBoundOf kind dict.now literal.now result }
 {
     match literal {

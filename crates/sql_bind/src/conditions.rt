@@ -11,7 +11,7 @@ use crate::names::column_of;
 use filter_zones::Cond;
 use sql_text::{Literal, QCond};
 use std::alloc::{AllocError, AllocFailed, Global};
-use table_core::{Bytes, Column, Dict, Memory, Op};
+use table_core::{Bytes, Column, Dict, MOST_COLUMNS, MOST_PLACES, Memory, Op};
 
 fn both(alloc: Global, a: Cond, b: Cond) -> Result<Cond, Memory>
     ensures { IfOk result (λ c. (columns : List Column) (dicts : List (List (List ℕ))) (t u : Tree) →
@@ -35,8 +35,8 @@ fn opposite(alloc: Global, a: Cond) -> Result<Cond, Memory>
 }
 
 fn compare(columns: &[Column], dicts: &[Dict], name: &Bytes, op: Op, literal: &Literal) -> Cond
-    requires few { length columns.now ≤ 16 }
-    requires places { All (λ c. places_of c.kind ≤ 9) columns.now }
+    requires few { length columns.now ≤ MOST_COLUMNS }
+    requires places { All (λ c. places_of c.kind ≤ MOST_PLACES) columns.now }
     requires dicts { length dicts.now ≡ length columns.now }
     requires sound { IsSound columns.now (Compare name.now op literal.now) }
     ensures { IsCondOf columns.now dicts.now (Compare name.now op literal.now) result }
@@ -54,8 +54,8 @@ pub fn bind_cond(
     dicts: &[Dict],
     cond: &QCond,
 ) -> Result<Cond, Memory>
-    requires few { length columns.now ≤ 16 }
-    requires places { All (λ c. places_of c.kind ≤ 9) columns.now }
+    requires few { length columns.now ≤ MOST_COLUMNS }
+    requires places { All (λ c. places_of c.kind ≤ MOST_PLACES) columns.now }
     requires dicts { length dicts.now ≡ length columns.now }
     requires sound { IsSound columns.now (tree_of cond.now) }
     ensures { IfOk result (λ c. IsCondOf columns.now dicts.now (tree_of cond.now) c) }
@@ -90,8 +90,8 @@ pub fn bind_where(
     dicts: &[Dict],
     cond: &Option<QCond>,
 ) -> Result<Option<Cond>, Memory>
-    requires few { length columns.now ≤ 16 }
-    requires places { All (λ c. places_of c.kind ≤ 9) columns.now }
+    requires few { length columns.now ≤ MOST_COLUMNS }
+    requires places { All (λ c. places_of c.kind ≤ MOST_PLACES) columns.now }
     requires dicts { length dicts.now ≡ length columns.now }
     requires sound { IsSoundWhere columns.now (cond_seen cond.now) }
     ensures { IfOk result (λ bound. IsBound columns.now dicts.now (cond_seen cond.now) bound) }

@@ -7,7 +7,7 @@ use crate::names::column_of;
 use agg_groups::Item;
 use sql_text::{QItem, QOrder};
 use std::alloc::{AllocError, Global};
-use table_core::{Bytes, Column};
+use table_core::{Bytes, Column, MOST_COLUMNS};
 use top_rows::Order;
 
 // The place of a column among key columns; where it is none, how many they are.
@@ -29,7 +29,7 @@ fn place_of(keys: &[u32], column: u32) -> u32
 
 // An item over these key columns; a plain one is the value of its key column.
 fn item_of(columns: &[Column], keys: &[u32], item: &QItem) -> Item
-    requires few { length columns.now ≤ 16 }
+    requires few { length columns.now ≤ MOST_COLUMNS }
     requires short { length keys.now < 2 ^ 32 }
     ensures { result ≡ spec.item_of columns.now keys.now item.now }
 {
@@ -50,7 +50,7 @@ pub fn items_of(
     keys: &[u32],
     items: &[QItem],
 ) -> Result<Vec<Item>, AllocError>
-    requires few { length columns.now ≤ 16 }
+    requires few { length columns.now ≤ MOST_COLUMNS }
     ensures { IfOk result (λ bound. bound.items ≡ map (spec.item_of columns.now keys.now) items.now) }
 {
     if keys.len() > u32::MAX as usize {
@@ -68,7 +68,7 @@ pub fn columns_of(
     columns: &[Column],
     names: &[Bytes],
 ) -> Result<Vec<u32>, AllocError>
-    requires { length columns.now ≤ 16 }
+    requires { length columns.now ≤ MOST_COLUMNS }
     ensures { IfOk result (λ found. found.items ≡ spec.columns_of columns.now names.now) }
 {
     names
@@ -79,7 +79,7 @@ pub fn columns_of(
 
 // Puts the column of a plain item at the end.
 fn add_plain(found: &mut Vec<u32>, columns: &[Column], item: &QItem) -> Result<(), AllocError>
-    requires { length columns.now ≤ 16 }
+    requires { length columns.now ≤ MOST_COLUMNS }
     ensures { OnOk result (found.new.items ≡ found.old.items ++ spec.plain_column columns.now item.now) }
 {
     if let QItem::Plain(name) = item {
@@ -94,7 +94,7 @@ pub fn plain_columns(
     columns: &[Column],
     items: &[QItem],
 ) -> Result<Vec<u32>, AllocError>
-    requires { length columns.now ≤ 16 }
+    requires { length columns.now ≤ MOST_COLUMNS }
     ensures { IfOk result (λ found. found.items ≡ flat_map (spec.plain_column columns.now) items.entry.now) }
 {
     let mut found = Vec::new(alloc);
@@ -107,7 +107,7 @@ pub fn plain_columns(
 }
 
 fn order_of(columns: &[Column], order: &QOrder) -> Order
-    requires { length columns.now ≤ 16 }
+    requires { length columns.now ≤ MOST_COLUMNS }
     ensures { result ≡ spec.order_of columns.now order.now }
 {
     Order {
@@ -122,7 +122,7 @@ pub fn orders_of(
     columns: &[Column],
     orders: &[QOrder],
 ) -> Result<Vec<Order>, AllocError>
-    requires { length columns.now ≤ 16 }
+    requires { length columns.now ≤ MOST_COLUMNS }
     ensures { IfOk result (λ bound. bound.items ≡ map (spec.order_of columns.now) orders.now) }
 {
     orders

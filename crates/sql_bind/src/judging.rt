@@ -13,7 +13,7 @@ use crate::places::{Place, Use};
 use crate::refusal::BindRefusal;
 use sql_text::QItem;
 use std::alloc::Global;
-use table_core::{Bytes, Column, Kind};
+use table_core::{Bytes, Column, Kind, MOST_COLUMNS};
 
 fn is_unknown(columns: &[Column], place: &Place<'_>) -> bool
     ensures { result ≡ spec.is_unknown columns.now (place_seen place.now) }
@@ -120,7 +120,7 @@ fn is_key(keys: &[u32], column: u32) -> bool
 
 // The name of a plain item whose column is none of these key columns.
 fn plain_outside<'q>(columns: &[Column], keys: &[u32], item: &'q QItem) -> Option<&'q [u8]>
-    requires { length columns.now ≤ 16 }
+    requires { length columns.now ≤ MOST_COLUMNS }
     ensures { option_copied result ≡ spec.plain_outside columns.now keys.now item.entry.now }
 {
     match item {
@@ -138,7 +138,7 @@ fn plain_outside<'q>(columns: &[Column], keys: &[u32], item: &'q QItem) -> Optio
 
 // The name of the first plain item whose column is none of these key columns.
 fn first_outside<'q>(columns: &[Column], keys: &[u32], items: &'q [QItem]) -> Option<&'q [u8]>
-    requires { length columns.now ≤ 16 }
+    requires { length columns.now ≤ MOST_COLUMNS }
     ensures { option_copied result ≡ first_some (spec.plain_outside columns.now keys.now) items.entry.now }
 {
     let mut left = items;
@@ -159,7 +159,7 @@ pub fn refuse_plain(
     items: &[QItem],
     limit: Option<u32>,
 ) -> Result<(), BindRefusal>
-    requires { length columns.now ≤ 16 }
+    requires { length columns.now ≤ MOST_COLUMNS }
     ensures { Judges result (option_map BindRefusal.NotGrouped
         (spec.not_grouped columns.now keys.now items.now limit)) }
 {

@@ -2,7 +2,7 @@
 ghost use Rattle.std.specs.Prelude.{◌≡◌, ◌≤◌, length};
 ghost use Rattle.sql_bind.specs.Names as spec;
 
-use table_core::{Column, Kind};
+use table_core::{Column, Kind, MOST_COLUMNS};
 
 // Whether the column has this name.
 fn is_called(name: &[u8], column: &Column) -> bool
@@ -13,7 +13,7 @@ fn is_called(name: &[u8], column: &Column) -> bool
 
 /// The number of the first column of this name; where none has it, the number of columns.
 pub fn column_of(columns: &[Column], name: &[u8]) -> u32
-    requires { length columns.now ≤ 16 }
+    requires { length columns.now ≤ MOST_COLUMNS }
     ensures { result ≡ spec.column_of columns.now name.now }
 {
     let mut left = columns;

@@ -6,21 +6,21 @@ ghost use Rattle.sql_bind.specs.Plans as spec;
 
 use crate::names::column_of;
 use crate::places::Place;
-use table_core::{Column, ColumnSet};
+use table_core::{Column, ColumnSet, MOST_COLUMNS};
 
-// Makes a column a member; a number from 16 on is none.
+// Makes a column a member; a number from `MOST_COLUMNS` on is none.
 fn add(set: &mut ColumnSet, column: u32)
-    ensures { (x : ℕ) → x < 16 → has set.new x ≡ (has set.old x || x == column) }
+    ensures { (x : ℕ) → x < MOST_COLUMNS → has set.new x ≡ (has set.old x || x == column) }
 {
-    if column < 16 {
+    if column < MOST_COLUMNS {
         set.insert(column);
     }
 }
 
 fn all_named(columns: &[Column], places: &[Place<'_>]) -> ColumnSet
-    requires { length columns.now ≤ 16 }
-    ensures named { (x : ℕ) → x < 16 → has result x ≡ spec.is_named columns.now (map place_seen places.entry.now) x }
-    ensures members { AreMembers 16 result }
+    requires { length columns.now ≤ MOST_COLUMNS }
+    ensures named { (x : ℕ) → x < MOST_COLUMNS → has result x ≡ spec.is_named columns.now (map place_seen places.entry.now) x }
+    ensures members { AreMembers MOST_COLUMNS result }
 {
     let mut set = ColumnSet::empty();
     let mut left = places;
@@ -35,7 +35,7 @@ fn all_named(columns: &[Column], places: &[Place<'_>]) -> ColumnSet
 
 /// The columns that the places name; column 0 alone where there is no place.
 pub fn named_columns(columns: &[Column], places: &[Place<'_>]) -> ColumnSet
-    requires { length columns.now ≤ 16 }
+    requires { length columns.now ≤ MOST_COLUMNS }
     ensures { result ≡ spec.named_columns columns.now (map place_seen places.now) }
 {
     if places.is_empty() {

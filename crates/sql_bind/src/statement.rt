@@ -10,7 +10,7 @@ use crate::plan::Plan;
 use crate::refusal::BindRefusal;
 use sql_text::{TextRefusal, read_query};
 use std::alloc::Global;
-use table_core::{Dict, Schema};
+use table_core::{Dict, MOST_COLUMNS, MOST_PLACES, Schema};
 
 /// Why a statement has no plan.
 #[derive(Debug, Drop)]
@@ -35,8 +35,8 @@ pub fn plan_of(
     dicts: &[Dict],
 ) -> Result<Plan, StatementRefusal>
     requires short { length text.now < 2 ^ 32 }
-    requires few { length schema.now ≤ 16 }
-    requires places { All (λ c. places_of c.kind ≤ 9) schema.now }
+    requires few { length schema.now ≤ MOST_COLUMNS }
+    requires places { All (λ c. places_of c.kind ≤ MOST_PLACES) schema.now }
     requires dicts { length dicts.now ≡ length schema.now }
     ensures plan { IfOk result (λ plan. IsPlanFor text.now schema.now dicts.now plan) }
     ensures passes { OnOk result (TextCause text.now schema.now None) }

@@ -35,7 +35,7 @@ pub use chunk::{chunk_count, chunk_span};
 pub use chunk_set::ChunkSet;
 pub use column_set::ColumnSet;
 pub use dict::Dict;
-pub use limits::{MOST_CHUNK_ROWS, MOST_CHUNKS, MOST_COLUMNS, MOST_ROWS};
+pub use limits::{MOST_CHUNK_ROWS, MOST_CHUNKS, MOST_COLUMNS, MOST_PLACES, MOST_ROWS};
 pub use memory::Memory;
 pub use op::Op;
 pub use schema::{Column, Kind, Schema};

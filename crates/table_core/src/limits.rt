@@ -11,3 +11,6 @@ pub const MOST_CHUNK_ROWS: u32 = 16384;
 
 /// The most chunks into which a table is cut.
 pub const MOST_CHUNKS: u32 = 1024;
+
+/// The most digits that a column's numbers have after the point.
+pub const MOST_PLACES: u32 = 9;

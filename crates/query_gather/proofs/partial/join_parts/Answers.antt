@@ -6,6 +6,7 @@ use Rattle.query_gather.specs.Partial.{IsAlike, joined, row_count, rows_of_all}
 use Rattle.query_gather.proofs.Alike.{alike_on}
 use Rattle.query_gather.proofs.Joining.{IsPartly, front, partly_more}
 use Rattle.query_gather.proofs.partial.join_parts.Goals as goal
+use Rattle.table_core.specs.declared.limits.TheConstants.{MOST_ROWS}
 
 pub loop-rest-preserved : goal.loop-rest-preserved
 loop-rest-preserved c =
@@ -17,7 +18,7 @@ loop-rest-preserved c =
     let merged = c.in_ok-merge.ensures in
     let e = front c.loop-rest.rest.items left part (subst (λ (n : ℕ). false ≡ (n == 0)) c.loop-rest.rest.ok.0 c.loop-rest-test.ensures) c.remove-part.ensures.value c.remove-part.ensures.items in
     let Alike : List Partial → Type 0 = λ ps. All (IsAlike first) ps in
-    let Few : List Partial → Type 0 = λ ps. row_count whole + rows_of_all ps ≤ 2097152 in
+    let Few : List Partial → Type 0 = λ ps. row_count whole + rows_of_all ps ≤ MOST_ROWS in
     let few = subst Few e now.few in
     record {
       whole = alike_on first whole c.merge.new.self now.whole merged.alike;
