@@ -6,6 +6,7 @@ use Rattle.std.proofs.lemmas.List.{length-map}
 use Rattle.std.proofs.lemmas.List.Elements.{recursion_from_All}
 use Rattle.std.proofs.lemmas.List.FromFn.{length-range_with_len}
 use Rattle.coop_outside.specs.Pieces.{Stored}
+use Rattle.table_core.specs.Fitting.{FitsRow}
 use Rattle.table_core.specs.Sets.{Rising}
 use Rattle.table_core.specs.Table.{TableRows}
 use Rattle.table_core.specs.declared.cell.Cell.{Cell}
@@ -29,7 +30,6 @@ use Rattle.abm_policy.specs.Depots.{Agrees, DepotView}
 use Rattle.abm_policy.specs.Sound.{setting_of, start_of}
 use Rattle.piece_format.specs.Cells.{IsTableOf}
 use Rattle.piece_format.specs.Shape.{IsShape, TableShape, chunks, groups, pieces}
-use Rattle.sql_bind.specs.Bounds.{FitsRow}
 use Rattle.sql_bind.specs.Reads.{ReadsItsColumns}
 use Rattle.query_gather.specs.declared.answer.Answer.{Answer}
 use Rattle.query_gather.specs.Answer.{CanBeWritten, IsAnswer, IsAnswerOver}

@@ -4,6 +4,7 @@ use Rattle.std.specs.Prelude.{Option, Some, None, IfSome, All}
 use Rattle.std.proofs.Math.ListN.{get_or-map}
 use Rattle.std.proofs.lemmas.List.{length-map}
 use Rattle.std.proofs.lemmas.List.Elements.{All-from_get_or, All-get_or}
+use Rattle.table_core.specs.Fitting.{FitsRow}
 use Rattle.table_core.specs.Chunk.{chunk_count}
 use Rattle.table_core.specs.Dict.{Rises}
 use Rattle.table_core.specs.Sets.{Rising}
@@ -15,7 +16,6 @@ use Rattle.table_core.specs.declared.schema.Column.{Column}
 use Rattle.table_core.specs.declared.schema.Kind.{Kind}
 use Rattle.table_core.specs.declared.schema.Kind.TheVariants as kinds
 use Rattle.csv_load.specs.Judged.{Fields}
-use Rattle.csv_load.specs.Loaded as loads
 use Rattle.csv_load.specs.Loaded.{IsLoaded}
 use Rattle.csv_load.specs.Meaning.{IsColumnDict}
 use Rattle.filter_zones.specs.Truth as codes
@@ -23,7 +23,6 @@ use Rattle.filter_zones.specs.declared.cond.Cond.{Cond}
 use Rattle.piece_format.specs.Cells.{FitsKind, dict_len_at}
 use Rattle.piece_format.specs.Shape.{IsShape}
 use Rattle.piece_format.specs.declared.layout.Layout.{Layout}
-use Rattle.sql_bind.specs.Bounds.{FitsRow}
 use Rattle.sql_bind.specs.Reads.{ReadsItsColumns}
 use Rattle.sql_bind.specs.declared.plan.Plan.{Plan}
 use Rattle.query_gather.specs.Partial.{FitsCond}
@@ -66,17 +65,14 @@ module _ (records : List Fields) (table : TableRows) (dicts : List Fields) (layo
   dicts_rise = All-from_get_or Rises dicts [] (λ k low. column_rises _ _ (get_or dicts k []) (loaded.dictionaries k (omega (arith, low, loaded.dict_count))))
 
   -- the rows of the table
-  row_at : (row : ℕ) → row < length table.rows → loads.FitsRow table.columns dicts (get_or table.rows row [])
-  row_at row low = All-get_or (loads.FitsRow table.columns dicts) table.rows row [] low loaded.fits
+  row_at : (row : ℕ) → row < length table.rows → FitsRow table.columns dicts (get_or table.rows row [])
+  row_at row low = All-get_or (FitsRow table.columns dicts) table.rows row [] low loaded.fits
 
   pub fits_dicts : FitsDicts table dicts
   fits_dicts row x low column = (row_at row low).cells x column
 
-  pub rows_fit : (row : List Cell) → loads.FitsRow table.columns dicts row → FitsRow table.columns dicts row
-  rows_fit row fits = record { width = fits.width; cells = fits.cells }
-
   pub all_fit : (c : Cond) → FitsWhere table.columns dicts (Some c) → All (codes.FitsRow c) table.rows
-  all_fit c fits k d low = fits (get_or table.rows k d) (rows_fit (get_or table.rows k d) (All-get_or (loads.FitsRow table.columns dicts) table.rows k d low loaded.fits))
+  all_fit c fits k d low = fits (get_or table.rows k d) (All-get_or (FitsRow table.columns dicts) table.rows k d low loaded.fits)
 
   -- what holds of each condition that fits the rows holds of the condition of a plan, where it has one
   pub where_fits : (P : Cond → Type 0) (o : Option Cond) → FitsWhere table.columns dicts o → ((c : Cond) → All (codes.FitsRow c) table.rows → P c) → IfSome o P
@@ -84,7 +80,7 @@ module _ (records : List Fields) (table : TableRows) (dicts : List Fields) (layo
   where_fits P (Some c) fits each = each c (all_fit c fits)
 
   pub rows_wide : (kinds : List Kind) → map (λ (c : Column). c.kind) table.columns ≡ kinds → All (λ row. length row ≡ length kinds) table.rows
-  rows_wide kinds is k d low = (All-get_or (loads.FitsRow table.columns dicts) table.rows k d low loaded.fits).width ∙ sym wide ∙ ap length is
+  rows_wide kinds is k d low = (All-get_or (FitsRow table.columns dicts) table.rows k d low loaded.fits).width ∙ sym wide ∙ ap length is
 
   -- a row that fits the shape fits the columns
   pub fits_columns : (row : List Cell) → FitsShape (shape_of table dicts layout per) row → FitsRow table.columns dicts row

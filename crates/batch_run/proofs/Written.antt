@@ -4,12 +4,12 @@ use Rattle.std.specs.Prelude.{All}
 use Rattle.std.specs.List.{AllByRecursion}
 use Rattle.std.proofs.lemmas.Bool.{cases_Bool}
 use Rattle.std.proofs.lemmas.List.Elements.{All-from_recursion}
+use Rattle.table_core.specs.Fitting.{FitsRow}
 use Rattle.table_core.specs.Dict.{Rises}
 use Rattle.table_core.specs.declared.cell.Cell.{Cell}
 use Rattle.table_core.specs.declared.schema.Column.{Column}
 use Rattle.piece_format.specs.Shape.{TableShape}
 use Rattle.top_rows.specs.Rows.{Numbered}
-use Rattle.sql_bind.specs.Bounds.{FitsRow}
 use Rattle.sql_bind.specs.Meaning.{matches}
 use Rattle.sql_bind.specs.declared.plan.Plan.{Plan}
 use Rattle.query_gather.specs.declared.answer.Answer.{Answer}

@@ -11,11 +11,12 @@ use Rattle.std.proofs.lemmas.List.Elements.{All-nil, All-cons, All-head, All-tai
 use Rattle.csv_load.specs.Kinds.{is_of, kind_of, value_as}
 use Rattle.csv_load.proofs.Holding.{same-kind, holds}
 use Rattle.csv_load.specs.Judged.{Fields, refusal_of}
+use Rattle.table_core.specs.Fitting.{FitsRow, kind_at}
 use Rattle.table_core.specs.declared.limits.TheConstants.{MOST_COLUMNS, MOST_ROWS}
 use Rattle.csv_load.proofs.Finishing.{column-dict, column-same, get_or-column_at, get_or-columns_from, get_or-zip_with, length-column_at, length-columns_from, length-zip_with, zip-get, zip-length}
 use Rattle.csv_load.specs.Finished.{column_with, columns_with}
 use Rattle.csv_load.specs.Gathered.{AreRead, IsCell}
-use Rattle.csv_load.specs.Loaded.{FitsRow, IsLoaded, kind_at}
+use Rattle.csv_load.specs.Loaded.{IsLoaded}
 use Rattle.csv_load.specs.Meaning.{IsColumnDict, column_at, columns_from, row_of}
 use Rattle.csv_load.specs.Reading.{IsRead}
 use Rattle.csv_load.specs.Typed.{IsFinished, IsTyped}

@@ -3,6 +3,7 @@ use Rattle.std.proofs.Common.{◌≡◌, ℕ, List, [], ◌∷◌, length, sym, 
 use Rattle.std.specs.Prelude.{All, Option, Some, None, MatchOption}
 use Rattle.std.specs.List.{AllByRecursion}
 use Rattle.std.proofs.lemmas.List.Elements.{recursion_from_All}
+use Rattle.table_core.specs.Fitting.{FitsRow}
 use Rattle.table_core.specs.Dict.{Rises}
 use Rattle.table_core.specs.declared.cell.Cell.{Cell}
 use Rattle.table_core.specs.declared.schema.Column.{Column}
@@ -15,7 +16,6 @@ use Rattle.sql_bind.specs.Texts.{AreCellsOf}
 use Rattle.sql_bind.proofs.Groups.{readable_results}
 use Rattle.sql_bind.proofs.Firsts.{readable_rows}
 use Rattle.sql_bind.specs.declared.plan.Plan.{Plan}
-use Rattle.sql_bind.specs.Bounds.{FitsRow}
 use Rattle.sql_bind.proofs.Matching.{cells_fit}
 use Rattle.query_gather.specs.declared.answer.Answer.{Answer}
 use Rattle.query_gather.specs.declared.answer.Answer.TheVariants.{Rows, Picked, Overflow, Stopped}

@@ -1,11 +1,11 @@
 // What holds of every answer.
 ghost use Rattle.std.specs.Prelude.{◌≡◌, ℕ, List, All, length, IsPermutation};
+ghost use Rattle.table_core.specs.Fitting.{FitsRow};
 ghost use Rattle.table_core.specs.Dict.{Rises};
 ghost use Rattle.table_core.specs.declared.cell.Cell.{Cell};
 ghost use Rattle.table_core.specs.declared.schema.Column.{Column};
 ghost use Rattle.top_rows.specs.Rows.{Numbered};
 ghost use Rattle.sql_bind.specs.declared.plan.Plan.{Plan};
-ghost use Rattle.sql_bind.specs.Bounds.{FitsRow};
 ghost use Rattle.sql_bind.specs.Reads.{ReadsItsColumns};
 ghost use Rattle.query_gather.specs.declared.answer.Answer.{Answer};
 ghost use Rattle.query_gather.specs.declared.partial.Partial.{Partial};

@@ -2,14 +2,13 @@
 use Rattle.std.proofs.Common.{◌≡◌, ◌<◌, ℕ, List, length, map, All, Option, Result, Ok, Err, refl, arith, inl, inr}
 use Rattle.std.specs.Prelude.{IfErr, IfOk, is_some}
 use Rattle.std.specs.List.{AllZip}
-use Rattle.csv_load.specs.Loaded as loaded
 use Rattle.csv_load.specs.Judged.{Fields}
 use Rattle.query_gather.specs.Answer.{IsAnswer}
 use Rattle.query_gather.specs.declared.answer.Answer.{Answer}
 use Rattle.run_output.specs.declared.stop.Stop.{Stop}
 use Rattle.run_output.specs.declared.stop.Stop.TheVariants as stop
 use Rattle.scan_story.specs.declared.entry.Entry.{Entry}
-use Rattle.sql_bind.specs.Bounds.{FitsRow}
+use Rattle.table_core.specs.Fitting.{FitsRow}
 use Rattle.table_core.specs.Value.{row_values}
 use Rattle.table_core.specs.declared.cell.Cell.{Cell}
 use Rattle.table_core.specs.declared.schema.Column.{Column}
@@ -34,14 +33,6 @@ use Rattle.run_decision.specs.Tasks.{totals_of, trace_of}
 use Rattle.run_decision.specs.Running.{AreAnswers, CanRun, IsWorked, queries_in, scans_in, setting_in, shape_in, zones_in}
 use Rattle.run_decision.specs.Work.{Work}
 use Rattle.run_decision.proofs.Dealt.{each_once}
-
--- ---- what holds of each row of a loaded table
-
-fits-row : (columns : List Column) (dicts : List Fields) (row : List Cell) → loaded.FitsRow columns dicts row → FitsRow columns dicts row
-fits-row columns dicts row h = record { width = h.width; cells = h.cells }
-
-pub fits-rows : (columns : List Column) (dicts : List Fields) (rows : List (List Cell)) → All (loaded.FitsRow columns dicts) rows → All (FitsRow columns dicts) rows
-fits-rows columns dicts rows h = λ k d below. fits-row columns dicts _ (h k d below)
 
 -- ---- what the workers did
 

@@ -9,7 +9,7 @@ ghost use Rattle.command_words.specs.Limits.{IsWithinLimits};
 ghost use Rattle.command_words.specs.Views.{request_view};
 ghost use Rattle.query_gather.specs.Answer.{CanBeWritten, IsAnswer};
 ghost use Rattle.run_output.specs.declared.stop.Stop.TheVariants as stop;
-ghost use Rattle.sql_bind.specs.Bounds.{FitsRow};
+ghost use Rattle.table_core.specs.Fitting.{FitsRow};
 ghost use Rattle.table_core.specs.Value.{places_of, row_values};
 ghost use Rattle.table_core.specs.declared.cell.Cell.{Cell};
 ghost use Rattle.run_decision.specs.Answering.{story_in, taken_in};

@@ -4,6 +4,7 @@ use Rattle.std.specs.Prelude.{Option, Some, None, slice_get, ◌==◌}
 use Rattle.std.specs.List.{AllByRecursion, flat_map}
 use Rattle.std.proofs.lemmas.Bool.{cases_Bool, false≢true, eqb-true}
 use Rattle.std.proofs.lemmas.List.{get_or_default}
+use Rattle.table_core.specs.Fitting.{kind_at}
 use Rattle.table_core.specs.Sets.{has}
 use Rattle.table_core.specs.declared.schema.Column.{Column}
 use Rattle.table_core.specs.declared.schema.Kind.TheVariants.{Int}
@@ -14,7 +15,7 @@ use Rattle.agg_groups.specs.Text as groups_text
 use Rattle.top_rows.specs.Text as rows_text
 use Rattle.sql_text.specs.declared.query.QItem.{QItem}
 use Rattle.sql_text.specs.declared.query.QItem.TheVariants as item
-use Rattle.sql_bind.specs.Names.{column_of, kind_at}
+use Rattle.sql_bind.specs.Names.{column_of}
 use Rattle.sql_bind.specs.Plans.{item_of, place_of, plain_column}
 use Rattle.sql_bind.specs.Refusals.{plain_outside}
 use Rattle.run_output.specs.Output.{item_kind}

@@ -3,6 +3,7 @@ use Rattle.std.proofs.Common.{◌≡◌, ◌∙◌, ◌+◌, ◌<◌, ℕ, ℤ, 
 use Rattle.std.specs.Prelude.{All, Option, Some, None, option_map, MatchOption}
 use Rattle.std.specs.List.{AllZip, flat_map}
 use Rattle.std.proofs.lemmas.List.Elements.{recursion_from_All}
+use Rattle.table_core.specs.Fitting.{FitsRow}
 use Rattle.table_core.specs.Value.{Value, row_values}
 use Rattle.table_core.specs.declared.cell.Cell.{Cell}
 use Rattle.table_core.specs.declared.schema.Column.{Column}
@@ -18,7 +19,6 @@ use Rattle.sql_text.specs.Grammar.{QueryText, QueryTree, groups, rows, query_tre
 use Rattle.sql_bind.specs.declared.plan.Plan.{Plan}
 use Rattle.sql_bind.specs.declared.judging.Wrong.TheVariants as wrong
 use Rattle.sql_bind.specs.declared.refusal.BindRefusal.TheVariants as refusal
-use Rattle.sql_bind.specs.Bounds.{FitsRow}
 use Rattle.sql_bind.specs.Meaning.{plan_rows, query_meaning, query_overflow, query_rows}
 use Rattle.sql_bind.specs.Places.{places}
 use Rattle.sql_bind.specs.Plans.{columns_of, items_of, plain_column, row_query, without_limit}

@@ -1,5 +1,6 @@
 -- THE OUTPUT of statements over a table of values: what the texts of the statements mean, and nothing of plans or cells.
 use Rattle.std.specs.Prelude.{◌≡◌, ◌+◌, ◌⊎◌, ℕ, ℤ, List, [], ◌∷◌, map, Option, Some, None}
+use Rattle.table_core.specs.Fitting.{kind_at}
 use Rattle.table_core.specs.Value.{Value}
 use Rattle.table_core.specs.declared.schema.Column.{Column}
 use Rattle.table_core.specs.declared.schema.Kind.{Kind}
@@ -9,7 +10,7 @@ use Rattle.sql_text.specs.declared.query.QItem.{QItem}
 use Rattle.sql_text.specs.declared.query.QItem.TheVariants as item
 use Rattle.sql_text.specs.Grammar.{QueryTree}
 use Rattle.sql_text.specs.Queries.{HasQuery}
-use Rattle.sql_bind.specs.Names.{column_of, kind_at}
+use Rattle.sql_bind.specs.Names.{column_of}
 use Rattle.sql_bind.specs.Refusals.{refusal_of}
 use Rattle.sql_bind.specs.Meaning.{query_meaning, query_overflow, query_rows}
 use Rattle.sql_bind.specs.Statements.{TextCause}

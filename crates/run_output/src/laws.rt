@@ -1,6 +1,7 @@
 // What holds of every output.
 ghost use Rattle.std.specs.Prelude.{◌≡◌, ℕ, List, Option, All, length, map};
 ghost use Rattle.std.specs.List.{AllByRecursion, AllZip};
+ghost use Rattle.table_core.specs.Fitting.{FitsRow};
 ghost use Rattle.table_core.specs.Value.{Value, row_values};
 ghost use Rattle.table_core.specs.declared.cell.Cell.{Cell};
 ghost use Rattle.table_core.specs.declared.schema.Column.{Column};
@@ -8,7 +9,6 @@ ghost use Rattle.scan_story.specs.declared.entry.Entry.{Entry};
 ghost use Rattle.query_gather.specs.Answer.{IsAnswer};
 ghost use Rattle.query_gather.specs.declared.answer.Answer.{Answer};
 ghost use Rattle.scan_story.specs.declared.cause.Cause.{Cause};
-ghost use Rattle.sql_bind.specs.Bounds.{FitsRow};
 ghost use Rattle.run_output.specs.Answers.{NamesColumns, printed};
 ghost use Rattle.run_output.specs.Outcomes.{ComeTo, losses, plans_of};
 ghost use Rattle.run_output.specs.Output.{IsOutput, PrintEach};

@@ -1,11 +1,11 @@
 // The output of a run, and its status.
 ghost use Rattle.std.specs.Prelude.{◌≡◌, ◌≤◌, ◌<◌, ◌^◌, ◌++◌, ℕ, List, All, IfOk, OnOk, length, map, option_map};
 ghost use Rattle.std.specs.List.{AllByRecursion, AllZip, count_by, flat_map};
+ghost use Rattle.table_core.specs.Fitting.{FitsRow};
 ghost use Rattle.table_core.specs.Value.{places_of, row_values};
 ghost use Rattle.table_core.specs.declared.cell.Cell.{Cell};
 ghost use Rattle.table_core.specs.declared.schema.Column.{Column};
 ghost use Rattle.query_gather.specs.Answer.{CanBeWritten, IsAnswer};
-ghost use Rattle.sql_bind.specs.Bounds.{FitsRow};
 ghost use Rattle.run_output.specs.Answers.{NamesColumns, printed};
 ghost use Rattle.run_output.specs.Outcomes.{ComeTo, has_rows, losses, plans_of};
 ghost use Rattle.run_output.specs.Output.{IsOutput};

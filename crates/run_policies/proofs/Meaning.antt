@@ -12,7 +12,6 @@ use Rattle.run_decision.specs.Answering.{IsAnswered}
 use Rattle.run_decision.specs.Devices.{DepotAt}
 use Rattle.run_decision.specs.Running.{CanRun, IsRunOf, text_of}
 use Rattle.run_decision.specs.Work.{Work, work}
-use Rattle.run_decision.proofs.Coming.{fits-rows}
 use Rattle.batch_run.specs.declared.taken.Taken.{Taken}
 use Rattle.scan_story.specs.declared.entry.Entry.{Entry}
 use Rattle.run_policies.specs.Policies.{PolicyAt}
@@ -27,7 +26,7 @@ is_run i w os answers columns dicts can is = record {
   prints = refl;
   means = λ tells texts come. record {
     printed = printed i.loaded.table.columns i.loaded.dicts.items 1 i.outcomes.items answers;
-    each = print_each i.loaded.table.columns i.loaded.dicts.items i.loaded.table.rows (fits-rows i.loaded.table.columns i.loaded.dicts.items i.loaded.table.rows can.loaded.1.fits) 1 texts i.outcomes.items answers come (is.right tells);
+    each = print_each i.loaded.table.columns i.loaded.dicts.items i.loaded.table.rows can.loaded.1.fits 1 texts i.outcomes.items answers come (is.right tells);
     bytes = refl;
     status = refl;
   };

@@ -3,6 +3,7 @@ use Rattle.std.proofs.Common.{◌≡◌, ◌∙◌, ◌+◌, ℕ, zero, suc, Lis
 use Rattle.std.specs.Prelude.{Bool, true, false, Some, None, slice_get, slice_index_or, ◌==◌, if◌then◌else◌, pos, ℤ}
 use Rattle.std.specs.List.{AllByRecursion}
 use Rattle.std.proofs.lemmas.List.{length-map}
+use Rattle.table_core.specs.Fitting.{dict_at}
 use Rattle.table_core.specs.Dict.{Rises}
 use Rattle.table_core.specs.Value.{none, number, value_in, row_values, IsCellOf}
 use Rattle.table_core.specs.declared.cell.Cell.{Cell}
@@ -13,7 +14,7 @@ use Rattle.agg_groups.specs.declared.item.Item.TheVariants.{CountAll, Count, Sum
 use Rattle.agg_groups.specs.Cells.{codes}
 use Rattle.agg_groups.specs.Meaning.{cell, values, total, least, greatest, answer, over, fits}
 use Rattle.agg_groups.specs.Text.{column_of, columns_of}
-use Rattle.sql_bind.specs.Texts.{texts, AreCellsOf, dict_at}
+use Rattle.sql_bind.specs.Texts.{texts, AreCellsOf}
 use Rattle.sql_bind.proofs.Stand.{cells_stand, value_at, cell_of}
 use Rattle.sql_bind.proofs.Maps.{filter-map, filter_valid, total-map, least-map, greatest-map, least_valid, greatest_valid}
 use Rattle.sql_bind.proofs.Keys.{dicts_at, key_values, IsKey, rises_at}

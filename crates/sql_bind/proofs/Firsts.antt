@@ -4,6 +4,7 @@ use Rattle.std.specs.Prelude.{Some, Option, None, slice_index_or}
 use Rattle.std.specs.List.{AllByRecursion}
 use Rattle.std.specs.Ordering.{is_lt, ordering_then, nat_cmp}
 use Rattle.std.proofs.lemmas.Bool.{cases_Bool}
+use Rattle.table_core.specs.Fitting.{dict_at}
 use Rattle.table_core.specs.Dict.{Rises}
 use Rattle.table_core.specs.Value.{Value, value_in, row_values, IsCellOf}
 use Rattle.table_core.specs.declared.cell.Cell.{Cell}
@@ -16,7 +17,7 @@ use Rattle.agg_groups.specs.Cells.{codes}
 use Rattle.agg_groups.specs.Meaning.{cell}
 use Rattle.top_rows.specs.declared.order.Order.{Order}
 use Rattle.top_rows.specs.Rows.{RowQuery, Numbered, order_cmp, orders_cmp, row_cmp, insert_row, in_order, rows_meaning}
-use Rattle.sql_bind.specs.Texts.{texts, AreCellsOf, dict_at}
+use Rattle.sql_bind.specs.Texts.{texts, AreCellsOf}
 use Rattle.sql_bind.specs.Laws.{numbered_values, SameFirstRows, AreReadableRows}
 use Rattle.sql_bind.proofs.Stand.{cells_stand, value_at, cell_of}
 use Rattle.sql_bind.proofs.Keys.{rises_at}

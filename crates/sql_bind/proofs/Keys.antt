@@ -4,6 +4,7 @@ use Rattle.std.specs.Ordering.{is_eq, ordering_then}
 use Rattle.std.specs.Cmp.Lexicographic.{slice_cmp}
 use Rattle.std.specs.List.{AllByRecursion}
 use Rattle.std.proofs.lemmas.Bool.{cases_Bool}
+use Rattle.table_core.specs.Fitting.{dict_at}
 use Rattle.table_core.specs.Cell.{cell_cmp}
 use Rattle.table_core.specs.Dict.{Rises}
 use Rattle.table_core.specs.Value.{Value, value_cmp, value_in, row_values}
@@ -11,7 +12,7 @@ use Rattle.table_core.proofs.Rising.{rises-none}
 use Rattle.table_core.specs.declared.cell.Cell.{Cell}
 use Rattle.agg_groups.specs.Cells.{codes}
 use Rattle.agg_groups.specs.Meaning.{cell, key_of, key_cmp, same_key, group}
-use Rattle.sql_bind.specs.Texts.{texts, AreCellsOf, dict_at}
+use Rattle.sql_bind.specs.Texts.{texts, AreCellsOf}
 use Rattle.sql_bind.proofs.Stand.{cells_stand, value_at, cell_of}
 
 -- keys stand as their values do

@@ -3,26 +3,21 @@ use Rattle.std.proofs.Common.{◌≡◌, ◌∙◌, ◌+◌, ◌<◌, ℕ, suc, 
 use Rattle.std.specs.Prelude.{Option, Some, None, slice_index_or}
 use Rattle.std.specs.List.{AllByRecursion}
 use Rattle.std.proofs.lemmas.Bool.{cases_Bool}
-use Rattle.table_core.specs.Value.{Value, FitsColumn, IsCellOf, row_values}
+use Rattle.table_core.specs.Fitting.{FitsRow, dict_at, kind_at}
+use Rattle.table_core.proofs.Fitting.{cell_fits}
+use Rattle.table_core.specs.Value.{Value, IsCellOf, row_values}
 use Rattle.table_core.specs.declared.cell.Cell.{Cell}
-use Rattle.table_core.specs.declared.cell.Cell.TheVariants.{Null, Int, Code}
+use Rattle.table_core.specs.declared.cell.Cell.TheVariants.{Null}
 use Rattle.table_core.specs.declared.schema.Column.{Column}
-use Rattle.table_core.specs.declared.schema.Kind.{Kind}
 use Rattle.filter_zones.specs.declared.cond.Cond.{Cond}
 use Rattle.top_rows.specs.Rows.{Numbered}
-use Rattle.sql_bind.specs.Texts.{AreCellsOf, dict_at}
+use Rattle.sql_bind.specs.Texts.{AreCellsOf}
 use Rattle.sql_bind.specs.Laws.{numbered_values}
 use Rattle.sql_text.specs.Grammar.{Tree}
-use Rattle.sql_bind.specs.Names.{kind_at}
-use Rattle.sql_bind.specs.Bounds.{FitsRow, HasTruth}
+use Rattle.sql_bind.specs.Bounds.{HasTruth}
 use Rattle.sql_bind.specs.Meaning.{is_true, numbered, matches_query, matches}
 
 -- ---- rows that fit
-
-cell_fits : (k : Kind) (dict : List (List ℕ)) (c : Cell) → FitsColumn k dict c → IsCellOf dict c
-cell_fits k dict Null f = tt
-cell_fits k dict (Int n) f = tt
-cell_fits k dict (Code c) f = f.1
 
 cells_are : (dicts : List (List (List ℕ))) (row : List Cell) → length row ≡ length dicts → ((x : ℕ) → x < length dicts → IsCellOf (dict_at dicts x) (slice_index_or row x Null)) → AreCellsOf dicts row
 cells_are [] [] same each = tt

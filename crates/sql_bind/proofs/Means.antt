@@ -3,6 +3,7 @@ use Rattle.std.proofs.Common.{◌≡◌, ◌∙◌, ℕ, List, [], map, filter, 
 use Rattle.std.specs.Prelude.{Some, None, option_map, IfOk, Result, Ok, Err}
 use Rattle.std.specs.List.{AllByRecursion}
 use Rattle.std.proofs.lemmas.List.Elements.{recursion_from_All}
+use Rattle.table_core.specs.Fitting.{FitsRow}
 use Rattle.table_core.specs.Dict.{Rises}
 use Rattle.table_core.specs.Value.{Value, row_values}
 use Rattle.table_core.specs.declared.cell.Cell.{Cell}
@@ -16,7 +17,7 @@ use Rattle.sql_text.specs.Grammar.{QueryTree}
 use Rattle.sql_bind.specs.declared.plan.Plan.{Plan}
 use Rattle.sql_bind.specs.declared.refusal.BindRefusal.{BindRefusal}
 use Rattle.sql_bind.specs.Plans.{IsPlanOf, columns_of, items_of, row_query, without_limit}
-use Rattle.sql_bind.specs.Bounds.{FitsRow, HasTruth, IsBound}
+use Rattle.sql_bind.specs.Bounds.{HasTruth, IsBound}
 use Rattle.sql_bind.specs.Meaning.{MeansQuery, numbered, matches, matches_query}
 use Rattle.sql_bind.specs.Causes.{Judges}
 use Rattle.sql_bind.specs.Refusals.{refusal_of}

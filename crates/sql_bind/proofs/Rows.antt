@@ -1,6 +1,7 @@
 -- The values of a row of cells, place by place, and the truth of a condition over them.
 use Rattle.std.proofs.Common.{◌≡◌, ◌∙◌, ◌<◌, ℕ, List, length, refl, sym, ap, arith}
 use Rattle.std.specs.Prelude.{Bool, false, if◌then◌else◌, not, Option, Some, None}
+use Rattle.table_core.specs.Fitting.{FitsRow, dict_at, kind_at}
 use Rattle.table_core.specs.Dict.{Rises}
 use Rattle.table_core.specs.Value.{FitsColumn, value_in, row_values}
 use Rattle.table_core.specs.declared.cell.Cell.{Cell}
@@ -12,15 +13,13 @@ use Rattle.filter_zones.specs.declared.cond.Bound.{Bound}
 use Rattle.filter_zones.specs.declared.cond.Cond.{Cond}
 use Rattle.filter_zones.specs.declared.cond.Cond.TheVariants as cond
 use Rattle.filter_zones.specs.Truth.{is_null, cell_at, comparison, null_test, two_valued, is_met, truth_of, least, greatest, opposite}
-use Rattle.sql_bind.specs.Texts.{dict_at}
 use Rattle.sql_bind.proofs.Stand as values
 use Rattle.sql_text.specs.declared.condition.Literal.{Literal}
 use Rattle.sql_text.specs.Grammar.{Tree, Compare, NullTest, Both, Either, Negated}
-use Rattle.sql_bind.specs.Names.{kind_at}
 use Rattle.sql_bind.specs.Places.{literal_use}
 use Rattle.sql_bind.specs.Refusals.{misuses}
 use Rattle.sql_bind.specs.Truth.{value_at, is_none, compared, tested, truth_over}
-use Rattle.sql_bind.specs.Bounds.{FitsRow, StandsFor, IsSound, IsSoundWhere, IsCondOf, IsBound, HasTruthOf, FitsRows, HasTruth}
+use Rattle.sql_bind.specs.Bounds.{StandsFor, IsSound, IsSoundWhere, IsCondOf, IsBound, HasTruthOf, FitsRows, HasTruth}
 use Rattle.sql_bind.proofs.Matching.{cells_fit}
 use Rattle.sql_bind.proofs.Stands.{stands, of_kind}
 

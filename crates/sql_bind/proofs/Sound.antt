@@ -3,6 +3,7 @@ use Rattle.std.proofs.Common.{◌≡◌, ◌∙◌, ◌<◌, ℕ, Bool, false, L
 use Rattle.std.specs.Prelude.{Option, Some, None, is_none, option_map}
 use Rattle.std.specs.List.{find, flat_map}
 use Rattle.std.proofs.lemmas.Bool.{cases_Bool, false≢true}
+use Rattle.table_core.specs.Fitting.{kind_at}
 use Rattle.table_core.specs.declared.schema.Column.{Column}
 use Rattle.agg_groups.specs.Meaning.{or_else}
 use Rattle.sql_text.specs.Grammar.{Tree, Compare, NullTest, Both, Either, Negated, QueryTree}
@@ -11,7 +12,7 @@ use Rattle.sql_bind.specs.declared.judging.Wrong.TheVariants as wrong
 use Rattle.sql_bind.specs.declared.places.Use.TheVariants as use_
 use Rattle.sql_bind.specs.declared.refusal.BindRefusal.{BindRefusal}
 use Rattle.sql_bind.specs.declared.refusal.BindRefusal.TheVariants as refusal
-use Rattle.sql_bind.specs.Names.{is_called, column_of, kind_of, kind_at}
+use Rattle.sql_bind.specs.Names.{is_called, column_of, kind_of}
 use Rattle.sql_bind.specs.Places.{Place, literal_use, cond_places, where_places, item_places, key_place, order_place, places}
 use Rattle.sql_bind.specs.Refusals.{is_unknown, is_misused, is_wrong, misuses_some, first_wrong, not_grouped, unknown_table, refusal_of}
 use Rattle.sql_bind.specs.Bounds.{IsSound, IsSoundWhere}

@@ -5,6 +5,7 @@ use Rattle.std.specs.Ordering.{nat_cmp}
 use Rattle.std.specs.declared.cmp.Ordering.{Ordering}
 use Rattle.std.specs.declared.cmp.Ordering.TheVariants.{Less, Equal, Greater}
 use Rattle.std.proofs.lemmas.Cmp.{ranked, nat_list_cmp_total, tied_itself}
+use Rattle.table_core.specs.Fitting.{dict_at}
 use Rattle.table_core.specs.Cell.{cell_cmp}
 use Rattle.table_core.specs.Dict.{text_cmp, Rises}
 use Rattle.table_core.specs.Value.{value_cmp, value_in, row_values, IsCellOf}
@@ -13,7 +14,7 @@ use Rattle.table_core.specs.declared.cell.Cell.TheVariants.{Null, Int, Code}
 use Rattle.table_core.proofs.Rising.{less_greater}
 use Rattle.agg_groups.specs.Cells.{codes}
 use Rattle.agg_groups.specs.Meaning.{cell}
-use Rattle.sql_bind.specs.Texts.{texts, AreCellsOf, dict_at}
+use Rattle.sql_bind.specs.Texts.{texts, AreCellsOf}
 
 -- the codes of a rising dictionary stand as their texts do
 pub codes_stand : (dict : List (List ℕ)) → Rises dict → (j k : ℕ) → j < length dict → k < length dict → nat_cmp j k ≡ text_cmp (slice_index_or dict j []) (slice_index_or dict k [])

@@ -1,8 +1,8 @@
 -- What stands for a query's literals and conditions over cells.
-use Rattle.std.specs.Prelude.{◌≡◌, ◌<◌, ℕ, zero, suc, ◌^◌, false, Option, Some, None, List, length, ℤ, pos, ◌+ℤ◌, ◌*ℤ◌, slice_index_or}
+use Rattle.std.specs.Prelude.{◌≡◌, ◌<◌, ℕ, zero, suc, ◌^◌, false, Option, Some, None, List, length, ℤ, pos, ◌+ℤ◌, ◌*ℤ◌}
+use Rattle.table_core.specs.Fitting.{FitsRow, dict_at, kind_at}
 use Rattle.table_core.specs.Value.{FitsColumn, places_of, value_in, row_values}
 use Rattle.table_core.specs.declared.cell.Cell.{Cell}
-use Rattle.table_core.specs.declared.cell.Cell.TheVariants.{Null}
 use Rattle.table_core.specs.declared.schema.Column.{Column}
 use Rattle.table_core.specs.declared.schema.Kind.{Kind}
 use Rattle.filter_zones.specs.Truth as codes
@@ -15,16 +15,10 @@ use Rattle.filter_zones.specs.Truth.{order_of, truth_of, Fits, is_null}
 use Rattle.sql_text.specs.declared.condition.Literal.{Literal}
 use Rattle.sql_text.specs.declared.condition.Literal.TheVariants as literal
 use Rattle.sql_text.specs.Grammar.{Tree, Compare, NullTest, Both, Either, Negated}
-use Rattle.sql_bind.specs.Texts.{dict_at}
-use Rattle.sql_bind.specs.Names.{column_of, kind_at}
+use Rattle.sql_bind.specs.Names.{column_of}
 use Rattle.sql_bind.specs.Places.{literal_use}
 use Rattle.sql_bind.specs.Refusals.{misuses}
 use Rattle.sql_bind.specs.Truth.{value_order, truth_over}
-
--- a row has a cell for each column, and each is one that its column may have
-pub record FitsRow (columns : List Column) (dicts : List (List (List ℕ))) (row : List Cell) : Type 0 where
-  pub width : length row ≡ length columns
-  pub cells : (x : ℕ) → x < length columns → FitsColumn (kind_at columns x) (dict_at dicts x) (slice_index_or row x Null)
 
 -- one where something is left over
 abbrev pub half_of : ℕ → ℤ

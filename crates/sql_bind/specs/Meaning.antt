@@ -1,5 +1,6 @@
 -- WHAT A QUERY MEANS over rows of values, and what a plan means over rows of cells.
 use Rattle.std.specs.Prelude.{◌≡◌, ◌+◌, ℕ, Bool, true, false, List, [], ◌∷◌, map, filter, All, Option, Some, None, ℤ}
+use Rattle.table_core.specs.Fitting.{FitsRow}
 use Rattle.table_core.specs.Value.{Value, row_values}
 use Rattle.table_core.specs.declared.cell.Cell.{Cell}
 use Rattle.table_core.specs.declared.schema.Column.{Column}
@@ -18,7 +19,6 @@ use Rattle.sql_text.specs.Grammar.{Tree, QueryTree}
 use Rattle.sql_bind.specs.declared.plan.Plan.{Plan}
 use Rattle.sql_bind.specs.Truth.{truth_over}
 use Rattle.sql_bind.specs.Plans.{columns_of, items_of, row_query}
-use Rattle.sql_bind.specs.Bounds.{FitsRow}
 
 abbrev pub is_true : Truth → Bool
 is_true True = true

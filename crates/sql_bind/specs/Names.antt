@@ -1,10 +1,9 @@
 -- The names of a query as columns of a schema.
-use Rattle.std.specs.Prelude.{ℕ, suc, Bool, List, [], ◌∷◌, Option, option_map, slice_index_or, if◌then◌else◌}
+use Rattle.std.specs.Prelude.{ℕ, suc, Bool, List, [], ◌∷◌, Option, option_map, if◌then◌else◌}
 use Rattle.std.specs.List.{find}
 use Rattle.std.specs.Str.{bytes_eq}
 use Rattle.table_core.specs.declared.schema.Column.{Column}
 use Rattle.table_core.specs.declared.schema.Kind.{Kind}
-use Rattle.table_core.specs.declared.schema.Kind.TheVariants.{Int}
 
 abbrev pub is_called : List ℕ → Column → Bool
 is_called name column = bytes_eq column.name name
@@ -17,7 +16,3 @@ column_of (column ∷ columns) name = if is_called name column then 0 else suc (
 -- the kind of the first column of this name, if there is one
 abbrev pub kind_of : List Column → List ℕ → Option Kind
 kind_of columns name = option_map (λ column. column.kind) (find (is_called name) columns)
-
--- the kind of the column of this number
-abbrev pub kind_at : List Column → ℕ → Kind
-kind_at columns x = (slice_index_or columns x (record { name = []; kind = Int })).kind

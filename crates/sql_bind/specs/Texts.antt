@@ -1,5 +1,5 @@
 -- The values of a table as a kind of cell, and what cells stand for.
-use Rattle.std.specs.Prelude.{ℕ, Bool, true, false, ℤ, pos, List, [], ◌∷◌, slice_index_or}
+use Rattle.std.specs.Prelude.{ℕ, Bool, true, false, ℤ, pos, List, [], ◌∷◌}
 use Rattle.table_core.specs.Value.{Value, none, number, value_cmp, IsCellOf}
 use Rattle.table_core.specs.declared.cell.Cell.{Cell}
 use Rattle.agg_groups.specs.Cells.{Cells}
@@ -23,7 +23,3 @@ AreCellsOf [] [] = Unit {0}
 AreCellsOf [] (c ∷ cells) = ⊥
 AreCellsOf (d ∷ dicts) [] = ⊥
 AreCellsOf (d ∷ dicts) (c ∷ cells) = IsCellOf d c × AreCellsOf dicts cells
-
--- the dictionary of the column of this number
-abbrev pub dict_at : List (List (List ℕ)) → ℕ → List (List ℕ)
-dict_at dicts x = slice_index_or dicts x []

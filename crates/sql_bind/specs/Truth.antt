@@ -3,6 +3,7 @@ use Rattle.std.specs.Prelude.{ℕ, ◌^◌, Bool, true, false, not, if◌then◌
 use Rattle.std.specs.Ordering.{int_cmp}
 use Rattle.std.specs.declared.cmp.Ordering.{Ordering}
 use Rattle.std.specs.declared.cmp.Ordering.TheVariants.{Equal}
+use Rattle.table_core.specs.Fitting.{kind_at}
 use Rattle.table_core.specs.Dict.{text_cmp}
 use Rattle.table_core.specs.Value.{Value, none, number, text, places_of}
 use Rattle.table_core.specs.declared.op.Op.{Op}
@@ -14,7 +15,7 @@ use Rattle.filter_zones.specs.declared.truth.Truth.TheVariants as truth
 use Rattle.sql_text.specs.declared.condition.Literal.{Literal}
 use Rattle.sql_text.specs.declared.condition.Literal.TheVariants as literal
 use Rattle.sql_text.specs.Grammar.{Tree, Compare, NullTest, Both, Either, Negated}
-use Rattle.sql_bind.specs.Names.{column_of, kind_at}
+use Rattle.sql_bind.specs.Names.{column_of}
 
 -- how n with s places stands to m with p places: n * 10^p to m * 10^s
 abbrev pub number_order : ℤ → ℕ → ℤ → ℕ → Ordering

@@ -4,3 +4,4 @@ pub mod Rising
 pub mod Rows
 pub mod Lists
 pub mod Writing
+pub mod Fitting

@@ -5,6 +5,7 @@ pub mod Sets
 pub mod Table
 pub mod Texts
 pub mod Value
+pub mod Fitting
 pub mod Lists
 pub mod Answer
 pub mod Writing

@@ -3,11 +3,12 @@ ghost use Rattle.std.specs.Prelude.{◌≡◌, ◌<◌, ◌-◌, ℕ, [], length
 ghost use Rattle.std.specs.Bool.{OnTrue};
 ghost use Rattle.std.specs.Ordering.{is_gt};
 ghost use Rattle.piece_format.specs.Shape.{IsShape};
+ghost use Rattle.table_core.specs.Fitting.{kind_at};
 ghost use Rattle.table_core.specs.Dict.{text_cmp};
 ghost use Rattle.table_core.specs.Table.{AreWholeRows};
 ghost use Rattle.table_core.specs.Value.{FitsColumn};
 ghost use Rattle.table_core.specs.declared.cell.Cell.TheVariants.{Null};
-ghost use Rattle.table_pieces.specs.Shaping.{FitsDicts, kind_of, shape_of};
+ghost use Rattle.table_pieces.specs.Shaping.{FitsDicts, shape_of};
 
 use piece_format::{Layout, Shape};
 use table_core::{
@@ -57,7 +58,7 @@ fn fits_column(kind: Kind, dict: &Dict, cell: Cell) -> bool
 
 fn fits_row(columns: &[Column], dicts: &[Dict], row: &[Cell]) -> bool
     ensures { OnTrue result ((x : ℕ) → x < length columns.now
-        → FitsColumn (kind_of columns.now x) (slice_index_or dicts.now x []) (slice_index_or row.now x Null)) }
+        → FitsColumn (kind_at columns.now x) (slice_index_or dicts.now x []) (slice_index_or row.now x Null)) }
 {
     if row.len() != columns.len() || dicts.len() != columns.len() {
         return false;

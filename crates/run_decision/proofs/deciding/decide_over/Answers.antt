@@ -2,7 +2,7 @@ use Rattle.std.proofs.Common.{◌∙◌}
 use Rattle.run_output.proofs.Columns.{names_columns}
 use Rattle.run_decision.specs.Devices.{depot_at}
 use Rattle.run_decision.specs.Work.{work}
-use Rattle.run_decision.proofs.Coming.{comes-of, fits-rows, unanswered-comes}
+use Rattle.run_decision.proofs.Coming.{comes-of, unanswered-comes}
 use Rattle.run_decision.proofs.deciding.decide_over.Goals as goal
 
 pub output_of-ending-requires-clause-columns : goal.output_of-ending-requires-clause-columns
@@ -22,7 +22,7 @@ returns-clause-comes g c =
     comes-of i w a.answers.items c.output_of-ending.result a.schema c.deref-5.result.now c.deref-3.result.now c.deref-4.result.now c.totals_of-totals.result _
     is.columns_are (c.deref-5.ensures.value ∙ is.dicts_are) (c.deref-3.ensures.value ∙ is.outcomes_are) c.deref-4.ensures.value
     (rw (c.deref.ensures.value, c.len-rows.ensures) at c.totals_of-totals.ensures.totals) (rw c.deref-2.ensures.value at c.trace_of-story.ensures.trace) is.are is.right
-    (fits-rows i.loaded.table.columns i.loaded.dicts.items i.loaded.table.rows c.requires.can.loaded.1.fits)
+    c.requires.can.loaded.1.fits
     c.output_of-ending.ensures.status c.output_of-ending.ensures.text c.output_of-ending.ensures.means c.output_of-ending.ensures.err
 
 pub returns-in-Err-clause-comes : goal.returns-in-Err-clause-comes

@@ -1,10 +1,10 @@
 use Rattle.std.proofs.Common.{◌≡◌, ◌∙◌, ◌<◌, List, ℕ, [], ap, subst, arith, length, refl}
 use Rattle.std.proofs.lemmas.List.{get_or_default}
+use Rattle.table_core.specs.Fitting.{dict_at, kind_at}
 use Rattle.table_core.specs.declared.schema.Column.{Column}
 use Rattle.table_core.specs.declared.schema.Kind.{Kind}
 use Rattle.table_core.specs.declared.schema.Kind.TheVariants as kind
-use Rattle.sql_bind.specs.Texts.{dict_at}
-use Rattle.sql_bind.specs.Names.{column_of, kind_at}
+use Rattle.sql_bind.specs.Names.{column_of}
 use Rattle.sql_bind.specs.Bounds.{IsBoundOf}
 use Rattle.sql_bind.proofs.conditions.compare.Goals as goal
 
