@@ -1,5 +1,5 @@
 // A frame filled with a piece of the depot.
-ghost use Rattle.std.specs.Prelude.{◌≡◌, ◌≤◌, ◌<◌, ◌+◌, ◌-◌, ◌*◌, ◌^◌, [], length, IfErr, OnOk, Some};
+ghost use Rattle.std.specs.Prelude.{◌≡◌, ◌≤◌, ◌<◌, ◌+◌, ◌-◌, ◌*◌, ◌^◌, [], false, length, IfErr, OnOk, Some};
 ghost use Rattle.frame_pool.specs.Views.{filling};
 ghost use Rattle.frame_pool.specs.Berths.{IsOf, IsAt, IsBlank};
 ghost use Rattle.piece_format.specs.Broken.{NoneBroken};
@@ -9,11 +9,13 @@ ghost use Rattle.cscan.specs.Tables.{TellAlike, first_words};
 ghost use Rattle.cscan.specs.Reads.{AreThere, MayReport, with_words};
 ghost use Rattle.cscan.specs.Stations.{PinsJust};
 
-use abm_policy::Slots;
+use abm_policy::{Desk, Slots};
+use baton::Pass;
 use coop_outside::Depot;
 use frame_pool::{Berth, Content, Pool};
 use piece_format::{Shape, check, piece_words, word_at};
-use scan_story::Why;
+use relevance::Policy;
+use scan_story::{Origin, Why};
 use std::sync::Wait;
 
 /// The first read of a load that failed: how many slots were read before it, and why it failed.
@@ -38,9 +40,11 @@ fn put_all<C: Content>(pool: &Pool<C>, berth: &mut Berth<C>, frame: u32, bytes: 
 
 // Reads a piece into a frame: marks and claims the frame, gets the piece, checks it, puts its words and publishes it.
 //
-// Where the get fails or a word of the piece is broken, the frame is given up, and is free again.
-fn read_in<C: Content, D: Depot, R: Wait>(
+// Where the get fails or a word of the piece is broken, the frame is given up, and is free again. The pass isn't holding,
+// so others have their turns meanwhile.
+fn read_in<S: Origin, C: Content, P: Policy, D: Depot, R: Wait>(
     rt: &R,
+    pass: &Pass<Desk<S, P, D>>,
     pool: &Pool<C>,
     shape: &Shape,
     berth: &mut Berth<C>,
@@ -48,6 +52,7 @@ fn read_in<C: Content, D: Depot, R: Wait>(
     depot: &mut D,
     slot: (u32, u32),
 ) -> Result<(), Why>
+    requires free { pass.now.holding ≡ false }
     requires shape { IsShape shape.now }
     requires at { IsAt pool.now berth.old slot.0 }
     requires blank { IsBlank berth.old }
@@ -64,6 +69,7 @@ fn read_in<C: Content, D: Depot, R: Wait>(
     ensures sound { let q = piece_at shape.now slot.1 in OnOk result
         (NoneBroken shape.now q (word_of bytes.new) (words_in q)) }
 {
+    let _pass = pass;
     let (frame, piece) = slot;
     pool.mark(rt, berth, frame);
     pool.claim(rt, berth, frame);
@@ -84,9 +90,11 @@ fn read_in<C: Content, D: Depot, R: Wait>(
     Ok(())
 }
 
-/// Reads the piece of each slot into its frame, one after another, until one fails. `buf` has room for any piece.
-pub(crate) fn read_all<C: Content, D: Depot, R: Wait>(
+/// Reads the piece of each slot into its frame, one after another, until one fails, while the baton lies free. `buf` has
+/// room for any piece.
+pub(crate) fn read_all<S: Origin, C: Content, P: Policy, D: Depot, R: Wait>(
     rt: &R,
+    pass: &Pass<Desk<S, P, D>>,
     pool: &Pool<C>,
     shape: &Shape,
     berth: &mut Berth<C>,
@@ -94,6 +102,7 @@ pub(crate) fn read_all<C: Content, D: Depot, R: Wait>(
     depot: &mut D,
     slots: &Slots,
 ) -> Result<(), Failure>
+    requires free { pass.now.holding ≡ false }
     requires shape { IsShape shape.now }
     requires berth { PinsJust pool.now [] berth.old }
     requires frames { AreThere pool.now.shape.frames (pieces shape.now) slots.now }
@@ -112,7 +121,7 @@ pub(crate) fn read_all<C: Content, D: Depot, R: Wait>(
     for i in 0..slots.len() {
         let slot = slots.at(i);
         let len = 8 * piece_words(shape, slot.1) as usize;
-        if let Err(why) = read_in(rt, pool, shape, berth, &mut buf[..len], depot, slot) {
+        if let Err(why) = read_in(rt, pass, pool, shape, berth, &mut buf[..len], depot, slot) {
             return Err(Failure { done: i, why });
         }
     }

@@ -71,6 +71,7 @@ pub(crate) fn load<S: Origin, C: Content, P: Policy, D: Depot, R: Wait>(
     let (ticket, mut depot) = loading;
     let read = read_all(
         rt,
+        &station.pass,
         pool,
         shape,
         &mut station.berth,

@@ -41,11 +41,11 @@ back g c n e =
     }
 
 pub read_all-read-requires-clause-frames : goal.read_all-read-requires-clause-frames
-read_all-read-requires-clause-frames g c =
+read_all-read-requires-clause-frames g c κs within =
     ticket_there g.S.Origin.origin g.C.Content.pieces c.args.shape.now c.args.pool.now (past c.args.station.now.pass.seen) c.args.loading.0 c.requires.start c.requires.fits c.requires.legal c.requires.load
 
 pub read_all-read-requires-clause-alike : goal.read_all-read-requires-clause-alike
-read_all-read-requires-clause-alike g c = subst (λ (h : Stored). TellAlike h g.C.Content.pieces c.args.shape.now) (sym c.requires.depot.agrees.held) c.requires.fits.alike
+read_all-read-requires-clause-alike g c κs within = subst (λ (h : Stored). TellAlike h g.C.Content.pieces c.args.shape.now) (sym c.requires.depot.agrees.held) c.requires.fits.alike
 
 pub settle-requires-clause-load : goal.settle-requires-clause-load
 settle-requires-clause-load g c κs within = (still g (goal.at.settle-requires-clause-load g c).After-take_desk-desk).underway
