@@ -193,6 +193,8 @@ impl<S: Origin, P: Policy, D: Depot> Desk<S, P, D> {
     }
 
     /// Why the query was stopped, as the first entry that stops it says; `None` exactly where it isn't stopped.
+    ///
+    /// `q` may be any number, also one that is no query's. The story is read from its beginning.
     pub fn cause(&self, q: u32) -> Option<Cause>
         ensures cause { result ≡ cause_of (past self.now) q }
         ensures exactly { is_some result ≡ is_stopped (past self.now) q }

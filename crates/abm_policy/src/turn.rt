@@ -10,7 +10,8 @@ pub enum Turn<D> {
     Take { chunk: u32, slots: Slots },
     /// The worker now loads, and has the depot to read from.
     Load(Ticket, D),
-    /// Another worker's load is underway, and nothing is available to the query.
+    /// Another worker's load is underway, and nothing is available to the query. It is another's, since a worker that
+    /// loads asks for no turn.
     NotYet,
     /// The query needs nothing more, and has ended.
     Finished,

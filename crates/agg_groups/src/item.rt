@@ -7,7 +7,7 @@ pub enum Item {
     CountAll,
     /// How many cells of the column aren't NULL.
     Count(u32),
-    /// The sum of the column's numbers, NULL where there is none.
+    /// The sum of the column's numbers, where a code counts as 0; NULL where there is no cell but NULL.
     Sum(u32),
     /// The least cell of the column that isn't NULL, NULL where there is none.
     Min(u32),

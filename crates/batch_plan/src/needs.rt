@@ -60,8 +60,8 @@ fn push_parts(
 /// What the scans of a batch need, in their order: of each task, in task order, each part, in part order. A scan needs its
 /// part of the chunks that its query needs, and the columns of the query's plan; the workers take turns.
 ///
-/// `IsBatch` has the conditions. With these needs the setting of the batch is one that a desk may be made for, whatever
-/// the policy.
+/// `IsBatch` has the conditions. With these needs the setting of the batch is one that a desk may be made for,
+/// whatever the policy and its cursor, of which the limits don't speak.
 pub fn needs_of(
     alloc: Global,
     shape: &Shape,

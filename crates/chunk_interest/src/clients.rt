@@ -21,6 +21,9 @@ use std::marker::Model;
 use table_core::Memory;
 
 /// The clients of the queries 0 to 256, of which 0 is none, with the marks that their numbers are counted by.
+///
+/// Each stands at the place of its query's number, so a look-up is one step, and no clause here asks that the needs
+/// have distinct queries.
 #[derive(Drop)]
 pub struct Clients {
     list: Vec<Client>,

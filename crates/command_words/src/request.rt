@@ -32,7 +32,8 @@ pub struct Request<'a> {
     pub trace: bool,
     /// Asks for a line for each policy, in place of answers.
     pub compare: bool,
-    /// The word TABLE, which `Table::named` takes.
+    /// The word TABLE. `Table::named` takes it where the command line gave it. A word that other settings gave is
+    /// named by the same rule, and where that names nothing it is a file's name.
     pub table: &'a str,
     /// The word BATCH.
     pub batch: &'a str,

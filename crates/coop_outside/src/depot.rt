@@ -16,7 +16,7 @@ pub enum DepotFault {
 
 /// A store of pieces, each a run of bytes under a number.
 pub trait Depot: Drop {
-    /// The pieces with their bytes, by rising piece, if the depot tells them.
+    /// The pieces with their bytes, as a list of pairs by rising piece, if the depot tells them.
     ghost held: { Self → Stored };
 
     /// How many gets there were.

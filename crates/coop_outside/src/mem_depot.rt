@@ -20,9 +20,9 @@ pub struct MemDepot {
     pub fail_puts: Vec<u64>,
     /// The numbers of the gets, counted from 1, that fail.
     pub fail_gets: Vec<u64>,
-    /// How many puts there were; it stands still at 2^64 - 1.
+    /// How many puts there were, also those that failed; it stands still at 2^64 - 1.
     pub puts: u64,
-    /// How many gets there were; it stands still at 2^64 - 1.
+    /// How many gets there were, also those that failed; it stands still at 2^64 - 1.
     pub gets: u64,
     /// How many calls failed; it stands still at 2^64 - 1.
     pub faults: u64,

@@ -94,8 +94,9 @@ fn row_at(cells: &[Cell], width: usize, row: usize) -> &[Cell]
 
 /// The zone of each column of a chunk, from the chunk's cells row by row.
 ///
-/// There are 1 to `MOST_COLUMNS` columns, and the cells are whole rows; without rows nothing stands in any column. The zones
-/// have room for each row, and a condition that fits each of the rows fits the zones.
+/// There are 1 to `MOST_COLUMNS` columns, and the cells are whole rows; without rows nothing stands in any column. The
+/// zones have room for each row. Where there is a row, a condition that fits each of the rows fits the zones; without
+/// rows no clause says which conditions fit.
 pub fn zones_of(columns: u32, cells: &[Cell]) -> ChunkZones
     requires some { 1 ≤ columns }
     requires few { columns ≤ MOST_COLUMNS }

@@ -33,7 +33,8 @@ impl<C: Content> Pool<C> {
 
     /// The word i of a frame that the berth pins, counted from 0: one load.
     ///
-    /// Where the content is told it is the word i of the pinned piece, if the piece has so many.
+    /// `i` is below the words of a frame; the piece may have fewer. Where the content is told it is the word i of the
+    /// pinned piece, if the piece has so many.
     pub fn word(&self, berth: &mut Berth<C>, frame: u32, i: u32) -> u64
         requires at { IsAt self.now berth.old frame }
         requires pinned { IsSome (pinned frame berth.old.pins) }

@@ -10,6 +10,7 @@ pub(crate) struct Draws {
 
 impl Draws {
     /// The next draw.
+    // The step of the state is opaque to the prover but here, so that it never computes with the generator's numbers.
     #[tactic(auto, unfolding(crate::specs::Draws::draw))]
     pub(crate) fn next(&mut self) -> u32
         ensures state { self.new.state ≡ draw self.old.state }

@@ -9,6 +9,9 @@ use std::alloc::{AllocError, Global};
 use table_core::Memory;
 
 /// Stands for needs and the entries that it has noted.
+///
+/// A call that takes a query asks no more than that its number is at most 256. It need not be one of the needs: of
+/// other numbers a call answers what the definitions say of them.
 #[derive(Drop)]
 pub struct Book {
     pub(crate) needs: Vec<Need>,
@@ -58,6 +61,7 @@ impl Book {
     {
         let clients = Clients::new(alloc, &needs, groups)?;
         let buffer = Buffer::new(alloc, frames, groups)?;
+        // Which queries read a group of which others depends on the needs alone, so it is found once.
         let sharers = sharers_each(alloc, &clients, groups)?;
         let holds = no_holds(alloc, 32)?;
         Ok(Book {

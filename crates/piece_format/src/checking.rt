@@ -192,10 +192,11 @@ fn check_piece(shape: &Shape, piece: Piece, bytes: &[u8]) -> Result<(), Damage>
 
 /// Whether no word of a piece breaks the rules; else the first one that does.
 ///
-/// There are 8 bytes for each of the piece's words. A word breaks the rules where it is a mask or null word with a bit set
-/// that names no column or row, a value word other than 0 under a set bit, or in a column of texts a value word under a
-/// clear bit that is at least the length of the dictionary. After Ok each cell that is read is NULL exactly where its bit is
-/// set. The words that `encode` gives are Ok. It takes no memory.
+/// There are 8 bytes for each of the piece's words. A word breaks the rules where it is a mask or null word with a bit
+/// set that names no column or row, a value word other than 0 under a set bit, or in a column of texts a value word
+/// under a clear bit that is at least the length of the dictionary. After Ok each cell that is read is NULL exactly
+/// where its bit is set. The words that `encode` gives are Ok, whatever the numbers in the cells are, so a reader
+/// needs no bound on them. It takes no memory.
 pub fn check(shape: &Shape, piece: u32, bytes: &[u8]) -> Result<(), Damage>
     requires shape { IsShape shape.now }
     requires there { piece < pieces shape.now }

@@ -46,7 +46,8 @@ fn is_named(policy: &Box<dyn Policy + Send>, wanted: PolicyName) -> bool
     policy.named() == wanted
 }
 
-/// The first policy of that name, where one has it. The others are dropped.
+/// The first policy of that name, where one has it: the list is some policies of other names, this one, and the rest.
+/// The others are dropped.
 pub fn choose(policies: Vec<Box<dyn Policy + Send>>, wanted: PolicyName) -> Option<Boxed>
     ensures first { IfSome result (λ b. IsFirstOf (λ p. name p ≡ wanted) policies.items b.policy) }
     ensures none { IfNone result (AllByRecursion (λ p. name p ≢ wanted) policies.items) }

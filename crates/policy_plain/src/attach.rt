@@ -14,7 +14,8 @@ use scan_story::PolicyName;
 pub struct Attach {
     // the chunk that was last picked to be delivered; 0 before
     last: u32,
-    // the start of each query, from number 1 on, that was served
+    // the start of each query, from number 1 on, that was served; an `Option`, where the cursor has one more than the
+    // start, so that no start can pass the end of its type
     starts: [Option<u32>; 256],
 }
 

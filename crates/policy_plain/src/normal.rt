@@ -18,7 +18,7 @@ use scan_story::PolicyName;
 /// least number.
 #[derive(Drop)]
 pub struct Normal {
-    // the chunks that were picked to be loaded or delivered, least recently used first
+    // the chunks that were picked to be loaded or delivered, least recently used first; the list takes no memory
     used: ArrayVec<u32, 1024>,
     ghost uses: { are_uses used.items ≡ true },
 }

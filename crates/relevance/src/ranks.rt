@@ -37,7 +37,8 @@ pub fn load_gain(book: &Book, sharing: &Sharing, c: u32) -> u32
     1024 * overlaps.starved + overlaps.active
 }
 
-/// How much is gained by loading the chunk for the query.
+/// How much is gained by loading the chunk for the query. `den` is 0 where no piece that the query reads is missing;
+/// no pick compares such a chunk.
 pub fn load_ratio(book: &Book, q: u32, c: u32) -> Ratio
     requires query { q ≤ 256 }
     requires chunk { c < 1024 }
@@ -49,7 +50,8 @@ pub fn load_ratio(book: &Book, q: u32, c: u32) -> Ratio
     }
 }
 
-/// How much room is won by delivering the chunk to the query.
+/// How much room is won by delivering the chunk to the query. `den` is 0 where no active query that needs the chunk
+/// reads a group that this one reads; no pick compares such a chunk.
 pub fn use_ratio(book: &Book, q: u32, c: u32) -> Ratio
     requires query { q ≤ 256 }
     requires chunk { c < 1024 }
@@ -61,7 +63,8 @@ pub fn use_ratio(book: &Book, q: u32, c: u32) -> Ratio
     }
 }
 
-/// How much is lost by evicting the chunk.
+/// How much is lost by evicting the chunk. `den` is 0 where no piece of it is in a frame; no pick compares such a
+/// chunk.
 pub fn keep_ratio(book: &Book, c: u32) -> Ratio
     requires { c < 1024 }
     ensures { (s : Setting) (h : History) → Stands book.now s h → result ≡ keep_ratio s h c }

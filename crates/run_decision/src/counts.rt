@@ -7,7 +7,7 @@ ghost use Rattle.run_decision.specs.Counts.{AreCounts, AreFew};
 use scan_story::Entry;
 use table_core::ChunkSet;
 
-/// What a story spent.
+/// What a story spent, by its entries alone: no setting is asked for.
 #[derive(Drop)]
 pub struct Counts {
     /// How many pieces were read, or failed to be: the Filled and Failed entries.
@@ -16,7 +16,7 @@ pub struct Counts {
     pub evictions: u64,
     /// How many chunks were delivered.
     pub deliveries: u64,
-    /// The scans that were stopped, by their numbers, which are below 1024.
+    /// The scans that were stopped, by their numbers, which are below 1024. Each counts once.
     pub stopped: ChunkSet,
 }
 

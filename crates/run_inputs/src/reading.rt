@@ -33,9 +33,10 @@ use table_core::{MOST_COLUMNS, MOST_PLACES};
 ///
 /// # Errors
 ///
-/// `TableFault` and `BatchFault` only where the shelf failed, `BatchFault` only behind a table that is accepted and whose
-/// frames are enough. `Memory` may come in place of any other answer. Each other
-/// stop comes exactly where it is the first that holds. `Usage` and `NotStored` never come.
+/// `TableFault` and `BatchFault` only where the shelf failed, `BatchFault` only behind a table that is accepted and
+/// whose frames are enough. `Memory` may come in place of any other answer. Running out of memory for one statement
+/// stops the run, so no refusal in the outcomes is `Memory`. Each other stop comes exactly where it is the first that
+/// holds. `Usage` and `NotStored` never come.
 pub fn inputs_of<F: Shelf>(
     alloc: Global,
     keys: RandomState,

@@ -48,6 +48,7 @@ pub(crate) fn table_bytes<F: Shelf>(
     ensures later { F.faults shelf.old ≤ F.faults shelf.new }
 {
     match table {
+        // It is short enough by a lemma, so nothing tests it here.
         Table::Generated { seed, rows } => match table_text(alloc, seed, rows) {
             Ok(text) => Ok(Bytes::new(text)),
             Err(_) => Err(Stop::Memory),

@@ -24,7 +24,7 @@ impl Model for Story {
 }
 
 impl Story {
-    /// An empty story with room for `n` entries.
+    /// An empty story with room for `n` entries and no more.
     pub fn with_room(alloc: Global, n: u64) -> Result<Story, Memory>
         ensures empty { IfOk result (λ s. s.entries ≡ []) }
         ensures room { IfOk result (λ s. s.spare ≡ n) }

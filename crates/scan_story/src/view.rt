@@ -29,7 +29,8 @@ pub struct Load {
     pub query: u32,
     /// The chunk that is loaded.
     pub chunk: u32,
-    /// The pieces that the query reads and that were in no frame as the load was planned.
+    /// The pieces that the query reads and that were in no frame as the load was planned. They have 64 bits, since in
+    /// a list of entries that isn't legal the chunk may be any number.
     pub missing: LinkedList<u64>,
     /// The frames and pieces that were begun since, the newest first.
     pub begun: LinkedList<(u32, u32)>,

@@ -120,7 +120,8 @@ fn bind_columns(
 ///
 /// In this order: `UnknownTable` exactly where the table isn't `t`, `UnknownColumn` with the first place whose name no
 /// column has, `WrongKind` with the first place whose column's kind doesn't allow its use, `NotGrouped` with the first
-/// plain item whose column is no key column, unless the query has a limit, and `Memory`.
+/// plain item whose column is no key column, unless the query has a limit. `Memory` may come in place of each of them,
+/// since the places of the query are a list that takes memory.
 pub fn bind(
     alloc: Global,
     query: &Query,

@@ -13,7 +13,7 @@ use table_core::{Bytes, Memory};
 /// columns, then its orders.
 #[derive(Debug, Drop)]
 pub enum BindRefusal {
-    /// The table isn't `t`.
+    /// The table isn't `t`. It has the name, since what is printed names it and `plan_of` doesn't hand the query on.
     UnknownTable { name: Bytes },
     /// The first place whose name no column has.
     UnknownColumn { name: Bytes },

@@ -244,7 +244,7 @@ fn query_text(alloc: Global, query: &Query) -> Result<Bytes, Memory>
 }
 
 /// The text of a query: keywords in capital letters, one space between tokens, each name in double quotes, and
-/// parentheses only where the grammar needs them.
+/// parentheses only where the grammar needs them. What was read as a negative zero is written as zero.
 ///
 /// # Errors
 ///

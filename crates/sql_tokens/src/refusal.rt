@@ -22,6 +22,7 @@ pub enum TextRefusal {
     Memory,
 }
 
+// Both `From` are written by hand, since clauses name the error that they give.
 impl From<AllocError> for TextRefusal {
     ghost use Rattle.sql_tokens.specs.declared.refusal.TextRefusal.TheVariants.{Memory};
 

@@ -43,7 +43,8 @@ fn followed(
     Ok(follows(s, entries, &load, cursor.as_slice(), entry))
 }
 
-/// Whether the entry may follow the entries, whichever policy would choose what it takes. The error is want of memory.
+/// Whether the entry may follow the entries, whichever policy would choose what it takes. The setting has at most 256
+/// needs, and 1 to 16 groups. The error is out of memory.
 pub fn may_follow(
     alloc: Global,
     s: &Setting,
@@ -58,8 +59,8 @@ pub fn may_follow(
     Ok(may)
 }
 
-/// Whether the entry may come after the entries: it may follow them, and takes a choice of the policy. The error is
-/// want of memory.
+/// Whether the entry may come after the entries: it may follow them, and takes a choice of the policy. The setting has
+/// at most 256 needs, and 1 to 16 groups. The error is out of memory.
 pub fn may_come(
     alloc: Global,
     s: &Setting,
@@ -88,7 +89,8 @@ fn judged(alloc: Global, s: &Setting, entries: &[Entry]) -> Result<bool, AllocEr
     }
 }
 
-/// Whether the entries are a legal story of the setting. The error is want of memory.
+/// Whether the entries are a legal story of the setting, which has at most 256 needs, and 1 to 16 groups. The error is
+/// out of memory.
 pub fn is_legal(alloc: Global, s: &Setting, entries: &[Entry]) -> Result<bool, AllocError>
     requires { IsSmall s.now }
     ensures { IfOk result (λ b. IsTrue b ↔ Legal s.now (past entries.now)) }
@@ -98,7 +100,7 @@ pub fn is_legal(alloc: Global, s: &Setting, entries: &[Entry]) -> Result<bool, A
 }
 
 /// The place, from 0, of the first entry that may not come where it stands; `None` where the story is legal. The
-/// error is want of memory.
+/// setting has at most 256 needs, and 1 to 16 groups. The error is out of memory.
 pub fn first_illegal(
     alloc: Global,
     s: &Setting,

@@ -5,7 +5,7 @@ ghost use Rattle.table_core.specs.Texts.{CutsAll, cut};
 use std::alloc::{AllocError, Global};
 use std::marker::Model;
 
-/// A list of texts.
+/// A list of texts. No text has an allocation of its own.
 #[derive(Drop)]
 pub struct Texts {
     bytes: Vec<u8>,
@@ -60,7 +60,8 @@ impl Texts {
         self.ends.len()
     }
 
-    /// Puts a text at the end. After an `Err` the texts are as before.
+    /// Puts a text at the end. The error means out of memory, or more than 4294967295 bytes of all texts together.
+    /// After an `Err` the texts are as before.
     pub fn push(&mut self, text: &[u8]) -> Result<(), AllocError>
         ensures ok { OnOk result (self.new ≡ self.old ++ text.now ∷ []) }
         ensures err { OnErr result (self.new ≡ self.old) }

@@ -46,6 +46,7 @@ pub fn put_pieces<D: Depot>(
 ) -> Result<(), BatchRefusal>
     requires shape { IsShape shape.now }
     requires table { IsTableOf shape.now table.now }
+    // piece by piece, since a reader of a piece wants to know its bytes
     ensures stored { OnOk result (ArePut shape.now table.now.rows (pieces shape.now) (pieces shape.now)
         (D.held depot.old) (D.held depot.new)) }
     ensures len { OnOk result (AreLong shape.now table.now.rows (pieces shape.now)) }

@@ -10,7 +10,8 @@ pub enum BatchRefusal {
     /// The depot didn't take this piece, counted from 0. Its count of faults rose, or stands at its last value 2^64 - 1.
     /// The pieces below this one are in the depot, this one may be anything, and those above it are as they were.
     Put { piece: u32 },
-    /// Want of memory. The pieces below some number are in the depot, and all others are as they were.
+    /// Out of memory. The pieces below some number, which may be none or all, are in the depot, and all others are as
+    /// they were.
     Memory,
 }
 

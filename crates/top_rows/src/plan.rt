@@ -25,7 +25,7 @@ impl Model for RowPlan {
 }
 
 impl RowPlan {
-    /// The same plan again.
+    /// The same plan again, since each part of a query has first rows of its own.
     pub fn copy(&self, alloc: Global) -> Result<Self, Memory>
         ensures { IfOk result (λ plan. plan ≡ self.now) }
     {

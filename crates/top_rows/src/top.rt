@@ -149,7 +149,7 @@ fn answer(alloc: Global, columns: &[u32], rows: &Ranked) -> Result<Vec<Vec<Cell>
 }
 
 impl TopRows {
-    /// The first rows of no rows.
+    /// The first rows of no rows. It takes no memory.
     pub fn new(alloc: Global, plan: RowPlan) -> Result<Self, Memory>
         ensures stands { IfOk result (λ t. Stands t []) }
         ensures plan { IfOk result (λ t. t.plan ≡ plan) }
@@ -167,7 +167,7 @@ impl TopRows {
         })
     }
 
-    /// Adds a row by its number.
+    /// Adds a row by its number. A column behind the row's end counts as NULL, so a row may have any length.
     ///
     /// A row that can't be among the first ones costs one comparison and takes no memory, so it is never refused.
     /// For want of memory the first rows stay as they were.
