@@ -22,8 +22,8 @@ use top_rows::TopRows;
 /// What a query's scan gathers of the rows that match: their groups, or the first of them.
 ///
 /// It stands for a list of numbered rows where its groups or first rows do. A row's number is its place in the table,
-/// counted from 0. Groups count the rows that were added, at most 2097152; first rows count none, so that bound is of
-/// groups alone.
+/// counted from 0. Groups count the rows that were added, at most `MOST_ROWS`; first rows count none, so that bound is
+/// of groups alone.
 #[derive(Drop)]
 pub enum Partial {
     /// The groups of a query without a limit.
