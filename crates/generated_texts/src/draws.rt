@@ -10,12 +10,12 @@ pub(crate) struct Draws {
 
 impl Draws {
     /// The next draw.
-    // The step of the state is opaque to the prover but here, so that it never computes with the generator's numbers.
     #[tactic(auto, unfolding(crate::specs::Draws::draw))]
     pub(crate) fn next(&mut self) -> u32
         ensures state { self.new.state ≡ draw self.old.state }
         ensures number { result ≡ drawn (draw self.old.state) }
     {
+        // Only here does the prover see the step, so that it never computes with the generator's numbers.
         self.state = self
             .state
             .wrapping_mul(6364136223846793005)
