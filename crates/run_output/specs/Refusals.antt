@@ -9,6 +9,7 @@ use Rattle.sql_bind.specs.declared.refusal.BindRefusal.{BindRefusal}
 use Rattle.sql_bind.specs.declared.refusal.BindRefusal.TheVariants as bind
 use Rattle.sql_bind.specs.declared.statement.StatementRefusal.{StatementRefusal}
 use Rattle.sql_bind.specs.declared.statement.StatementRefusal.TheVariants as statement
+use Rattle.run_output.specs.Counts.{number_and}
 
 -- a text that is no query
 abbrev pub text_words : TextRefusal → List ℕ
@@ -38,8 +39,12 @@ stop_words cause.Memory = codes "memory"
 
 -- the sum of this item is no number of 64 bits: its total, with these places
 abbrev pub overflow_words : ℕ → ℤ → ℕ → List ℕ
-overflow_words item total places = codes "sum overflow item " ++ decimal item ++ codes " total " ++ number_text places total
+overflow_words item total places = codes "sum overflow item " ++ (number_and item (codes " total ") ++ number_text places total)
+
+-- what stands before the words of a refusal
+abbrev pub refusal_head : ℕ → List ℕ
+refusal_head query = codes "refused " ++ number_and query (codes ": ")
 
 -- THE LINE OF A REFUSAL of the query of this number, with the words that say why
 abbrev pub refusal_line : ℕ → List ℕ → List ℕ
-refusal_line query words = codes "refused " ++ decimal query ++ codes ": " ++ words ++ codes "\n"
+refusal_line query words = refusal_head query ++ (words ++ codes "\n")

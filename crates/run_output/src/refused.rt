@@ -1,6 +1,7 @@
 // The line of a query that has no answer.
-ghost use Rattle.std.specs.Prelude.{◌≡◌, ◌≤◌, ◌++◌, OnOk, codes, decimal};
+ghost use Rattle.std.specs.Prelude.{◌≡◌, ◌≤◌, ◌++◌, OnErr, OnOk, codes, decimal};
 ghost use Rattle.table_core.specs.Value.{quoted};
+ghost use Rattle.table_core.specs.Writing.{GrewByPrefix};
 ghost use Rattle.run_output.specs.Refusals as spec;
 ghost use Rattle.run_output.specs.Refusals.{refusal_line};
 
@@ -12,7 +13,8 @@ use table_core::{Bytes, Memory, write_number, write_quoted};
 
 // Puts words that name nothing at the end.
 fn write_words(out: &mut Bytes, words: &[u8]) -> Result<(), Memory>
-    ensures { OnOk result (out.new ≡ out.old ++ words.now) }
+    ensures text { OnOk result (out.new ≡ out.old ++ words.now) }
+    ensures memory { OnErr result (GrewByPrefix out.old out.new words.now) }
 {
     out.append(words)?;
     Ok(())
@@ -20,7 +22,8 @@ fn write_words(out: &mut Bytes, words: &[u8]) -> Result<(), Memory>
 
 // Puts a text at the end, and a quoted name behind it.
 fn write_named(out: &mut Bytes, before: &[u8], name: &Bytes) -> Result<(), Memory>
-    ensures { OnOk result (out.new ≡ out.old ++ (before.now ++ quoted name.now)) }
+    ensures text { OnOk result (out.new ≡ out.old ++ (before.now ++ quoted name.now)) }
+    ensures memory { OnErr result (GrewByPrefix out.old out.new (before.now ++ quoted name.now)) }
 {
     out.append(before)?;
     write_quoted(out, name.as_slice())
@@ -28,7 +31,8 @@ fn write_named(out: &mut Bytes, before: &[u8], name: &Bytes) -> Result<(), Memor
 
 // Puts the words of a text that is no query at the end.
 fn write_text_words(out: &mut Bytes, why: TextRefusal) -> Result<(), Memory>
-    ensures { OnOk result (out.new ≡ out.old ++ spec.text_words why) }
+    ensures text { OnOk result (out.new ≡ out.old ++ spec.text_words why) }
+    ensures memory { OnErr result (GrewByPrefix out.old out.new (spec.text_words why)) }
 {
     match why {
         TextRefusal::Syntax => write_words(out, b"syntax"),
@@ -40,7 +44,8 @@ fn write_text_words(out: &mut Bytes, why: TextRefusal) -> Result<(), Memory>
 
 // Puts the words of a query that isn't bound at the end.
 fn write_query_words(out: &mut Bytes, why: &BindRefusal) -> Result<(), Memory>
-    ensures { OnOk result (out.new ≡ out.old ++ spec.query_words why.now) }
+    ensures text { OnOk result (out.new ≡ out.old ++ spec.query_words why.now) }
+    ensures memory { OnErr result (GrewByPrefix out.old out.new (spec.query_words why.now)) }
 {
     match why {
         BindRefusal::UnknownTable { name } => write_named(out, b"unknown table ", name),
@@ -53,7 +58,8 @@ fn write_query_words(out: &mut Bytes, why: &BindRefusal) -> Result<(), Memory>
 
 // Puts the words of a statement that is refused for its text or the names in it at the end.
 fn write_statement_words(out: &mut Bytes, why: &StatementRefusal) -> Result<(), Memory>
-    ensures { OnOk result (out.new ≡ out.old ++ spec.statement_words why.now) }
+    ensures text { OnOk result (out.new ≡ out.old ++ spec.statement_words why.now) }
+    ensures memory { OnErr result (GrewByPrefix out.old out.new (spec.statement_words why.now)) }
 {
     match why {
         StatementRefusal::Text(why) => write_text_words(out, *why),
@@ -63,7 +69,8 @@ fn write_statement_words(out: &mut Bytes, why: &StatementRefusal) -> Result<(), 
 
 // Puts the words that name a damaged piece at the end.
 fn write_damage(out: &mut Bytes, piece: u32) -> Result<(), Memory>
-    ensures { OnOk result (out.new ≡ out.old ++ (codes "damaged piece " ++ decimal piece)) }
+    ensures text { OnOk result (out.new ≡ out.old ++ (codes "damaged piece " ++ decimal piece)) }
+    ensures memory { OnErr result (GrewByPrefix out.old out.new (codes "damaged piece " ++ decimal piece)) }
 {
     out.append(b"damaged piece ")?;
     write_decimal(out, piece as u64)
@@ -71,7 +78,8 @@ fn write_damage(out: &mut Bytes, piece: u32) -> Result<(), Memory>
 
 // Puts the words of a query that was stopped at the end.
 fn write_stop_words(out: &mut Bytes, why: Cause) -> Result<(), Memory>
-    ensures { OnOk result (out.new ≡ out.old ++ spec.stop_words why) }
+    ensures text { OnOk result (out.new ≡ out.old ++ spec.stop_words why) }
+    ensures memory { OnErr result (GrewByPrefix out.old out.new (spec.stop_words why)) }
 {
     match why {
         Cause::Read { .. } => write_words(out, b"read fault"),
@@ -80,9 +88,21 @@ fn write_stop_words(out: &mut Bytes, why: Cause) -> Result<(), Memory>
     }
 }
 
+// Puts the words of a sum that is no number of 64 bits at the end.
+fn write_overflow_words(out: &mut Bytes, item: u32, total: i128, places: u32) -> Result<(), Memory>
+    requires { places ≤ 9 }
+    ensures text { OnOk result (out.new ≡ out.old ++ spec.overflow_words item total places) }
+    ensures memory { OnErr result (GrewByPrefix out.old out.new (spec.overflow_words item total places)) }
+{
+    out.append(b"sum overflow item ")?;
+    write_counted(out, item as u64, b" total ")?;
+    write_number(out, total, places)
+}
+
 // Puts what stands before the words of a refusal at the end.
 fn write_before(out: &mut Bytes, query: u32) -> Result<(), Memory>
-    ensures { OnOk result (out.new ≡ out.old ++ (codes "refused " ++ (decimal query ++ codes ": "))) }
+    ensures text { OnOk result (out.new ≡ out.old ++ spec.refusal_head query) }
+    ensures memory { OnErr result (GrewByPrefix out.old out.new (spec.refusal_head query)) }
 {
     out.append(b"refused ")?;
     write_counted(out, query as u64, b": ")
@@ -90,7 +110,8 @@ fn write_before(out: &mut Bytes, query: u32) -> Result<(), Memory>
 
 // Puts a line end at the end.
 fn end_line(out: &mut Bytes) -> Result<(), Memory>
-    ensures { OnOk result (out.new ≡ out.old ++ codes "\n") }
+    ensures text { OnOk result (out.new ≡ out.old ++ codes "\n") }
+    ensures memory { OnErr result (GrewByPrefix out.old out.new (codes "\n")) }
 {
     out.append(b"\n")?;
     Ok(())
@@ -98,10 +119,11 @@ fn end_line(out: &mut Bytes) -> Result<(), Memory>
 
 /// Puts the line of a statement at the end that is refused for its text or the names in it.
 ///
-/// Names stand in single quotes, each single quote inside doubled. For want of memory the bytes may have got a part of
+/// Names stand in single quotes, each single quote inside doubled. Out of memory leaves what was there and a prefix of
 /// the line.
 pub fn write_refusal(out: &mut Bytes, query: u32, why: &StatementRefusal) -> Result<(), Memory>
     ensures line { OnOk result (out.new ≡ out.old ++ refusal_line query (spec.statement_words why.now)) }
+    ensures memory { OnErr result (GrewByPrefix out.old out.new (refusal_line query (spec.statement_words why.now))) }
 {
     write_before(out, query)?;
     write_statement_words(out, why)?;
@@ -110,9 +132,10 @@ pub fn write_refusal(out: &mut Bytes, query: u32, why: &StatementRefusal) -> Res
 
 /// Puts the line of a query at the end that was stopped.
 ///
-/// For want of memory the bytes may have got a part of the line.
+/// Out of memory leaves what was there and a prefix of the line.
 pub fn write_stopped(out: &mut Bytes, query: u32, why: Cause) -> Result<(), Memory>
     ensures line { OnOk result (out.new ≡ out.old ++ refusal_line query (spec.stop_words why)) }
+    ensures memory { OnErr result (GrewByPrefix out.old out.new (refusal_line query (spec.stop_words why))) }
 {
     write_before(out, query)?;
     write_stop_words(out, why)?;
@@ -121,8 +144,8 @@ pub fn write_stopped(out: &mut Bytes, query: u32, why: Cause) -> Result<(), Memo
 
 /// Puts the line of a query at the end, the sum of whose item, counted from 1, is no number of 64 bits.
 ///
-/// The total counts units of the last of its places, which are at most 9. For want of memory the bytes may have got a
-/// part of the line.
+/// The total counts units of the last of its places, which are at most 9. Out of memory leaves what was there and a
+/// prefix of the line.
 pub fn write_overflow(
     out: &mut Bytes,
     query: u32,
@@ -132,10 +155,10 @@ pub fn write_overflow(
 ) -> Result<(), Memory>
     requires places { places ≤ 9 }
     ensures line { OnOk result (out.new ≡ out.old ++ refusal_line query (spec.overflow_words item total places)) }
+    ensures memory { OnErr result (GrewByPrefix out.old out.new
+        (refusal_line query (spec.overflow_words item total places))) }
 {
     write_before(out, query)?;
-    out.append(b"sum overflow item ")?;
-    write_counted(out, item as u64, b" total ")?;
-    write_number(out, total, places)?;
+    write_overflow_words(out, item, total, places)?;
     end_line(out)
 }

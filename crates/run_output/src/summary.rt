@@ -1,13 +1,15 @@
 // The lines that count what a run did.
-ghost use Rattle.std.specs.Prelude.{◌≡◌, ◌++◌, OnOk, decimal};
-ghost use Rattle.run_output.specs.Counts.{policy_line, run_counts, summary_line};
+ghost use Rattle.std.specs.Prelude.{◌≡◌, ◌++◌, OnErr, OnOk, decimal};
+ghost use Rattle.table_core.specs.Writing.{GrewByPrefix};
+ghost use Rattle.run_output.specs.Counts.{number_and, policy_line, run_counts, summary_line};
 
 use itoa::Buffer;
 use table_core::{Bytes, Memory};
 
 // Puts a number at the end.
 pub(crate) fn write_decimal(out: &mut Bytes, number: u64) -> Result<(), Memory>
-    ensures { OnOk result (out.new ≡ out.old ++ decimal number) }
+    ensures text { OnOk result (out.new ≡ out.old ++ decimal number) }
+    ensures memory { OnErr result (GrewByPrefix out.old out.new (decimal number)) }
 {
     let mut buffer = Buffer::new();
     out.append(buffer.format(number).as_bytes())?;
@@ -16,7 +18,8 @@ pub(crate) fn write_decimal(out: &mut Bytes, number: u64) -> Result<(), Memory>
 
 // Puts a number at the end, and a text behind it.
 pub(crate) fn write_counted(out: &mut Bytes, number: u64, after: &[u8]) -> Result<(), Memory>
-    ensures { OnOk result (out.new ≡ out.old ++ (decimal number ++ after.now)) }
+    ensures text { OnOk result (out.new ≡ out.old ++ number_and number after.now) }
+    ensures memory { OnErr result (GrewByPrefix out.old out.new (number_and number after.now)) }
 {
     write_decimal(out, number)?;
     out.append(after)?;
@@ -25,7 +28,7 @@ pub(crate) fn write_counted(out: &mut Bytes, number: u64, after: &[u8]) -> Resul
 
 /// Puts the summary of a run at the end: its statements, answers and deliveries, and the rows of the table.
 ///
-/// For want of memory the bytes may have got a part of it.
+/// Out of memory leaves what was there and a prefix of it.
 pub fn write_summary(
     out: &mut Bytes,
     queries: u32,
@@ -34,6 +37,7 @@ pub fn write_summary(
     rows: u32,
 ) -> Result<(), Memory>
     ensures line { OnOk result (out.new ≡ out.old ++ summary_line queries answered deliveries rows) }
+    ensures memory { OnErr result (GrewByPrefix out.old out.new (summary_line queries answered deliveries rows)) }
 {
     out.append(b"summary: ")?;
     write_counted(out, queries as u64, b" queries, ")?;
@@ -50,7 +54,8 @@ fn write_run_counts(
     deliveries: u64,
     stops: u64,
 ) -> Result<(), Memory>
-    ensures { OnOk result (out.new ≡ out.old ++ run_counts reads evictions deliveries stops) }
+    ensures text { OnOk result (out.new ≡ out.old ++ run_counts reads evictions deliveries stops) }
+    ensures memory { OnErr result (GrewByPrefix out.old out.new (run_counts reads evictions deliveries stops)) }
 {
     write_counted(out, reads, b" reads, ")?;
     write_counted(out, evictions, b" evictions, ")?;
@@ -60,7 +65,7 @@ fn write_run_counts(
 
 /// Puts the line of a policy at the end, where policies are compared: its name as it is given, and the counts of its run.
 ///
-/// For want of memory the bytes may have got a part of it.
+/// Out of memory leaves what was there and a prefix of it.
 pub fn write_policy_line(
     out: &mut Bytes,
     name: &str,
@@ -70,6 +75,8 @@ pub fn write_policy_line(
     stops: u64,
 ) -> Result<(), Memory>
     ensures line { OnOk result (out.new ≡ out.old ++ policy_line name.now reads evictions deliveries stops) }
+    ensures memory { OnErr result (GrewByPrefix out.old out.new
+        (policy_line name.now reads evictions deliveries stops)) }
 {
     out.append(name.as_bytes())?;
     out.append(b": ")?;
