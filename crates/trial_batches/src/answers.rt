@@ -1,20 +1,22 @@
 // The worked answers, in both layouts, on one worker and more, in one part and more.
-use crate::batches::{COUNT, SUM, ended, one_worker};
-use crate::wanted::{Wanted, is_wanted};
+use crate::batches::{COUNT, SUM, Trial, ended_in_memory};
+use crate::wanted::{Wanted, are_wanted};
 use batch_run::Options;
-use coop_outside::{MemDepot, SpoiltDepot};
 use piece_format::Layout;
 use std::alloc::Global;
 use std::hash::RandomState;
 use std::process::Abort;
+use std::random::RandomSource;
 use std::sync::Wait;
 use std::test::Fail;
 use std::thread::Threads;
 use table_core::Cell::{Code, Int, Null};
 use trial_stories::tables::TABLE_A;
 
-// Tables, statements and their answers.
-const ANSWERS: [(&str, &[u8], Wanted); 11] = [
+// A table, a statement and its answer.
+type Case<'a> = (&'a str, &'a [u8], Wanted);
+
+const ANSWERS: &[Case<'static>] = &[
     (TABLE_A, COUNT, Wanted::Rows(&[&[Int(5)]])),
     (TABLE_A, SUM, Wanted::Rows(&[&[Int(65)]])),
     (
@@ -68,74 +70,106 @@ const ANSWERS: [(&str, &[u8], Wanted); 11] = [
     ),
 ];
 
-// Workers, frames and parts, and how many rows a chunk has.
-const RUNS: [(u32, u32, u32, u32); 3] = [(1, 12, 1, 2), (2, 21, 2, 1), (3, 40, 3, 9)];
+// One worker, two and three, with one part, two and three, over pieces of chunks.
+const BY_ROWS: &[Options] = &[
+    Options {
+        workers: 1,
+        frames: 12,
+        per: 2,
+        layout: Layout::Row,
+        parts: 1,
+    },
+    Options {
+        workers: 2,
+        frames: 21,
+        per: 1,
+        layout: Layout::Row,
+        parts: 2,
+    },
+    Options {
+        workers: 3,
+        frames: 40,
+        per: 9,
+        layout: Layout::Row,
+        parts: 3,
+    },
+];
 
-// Each table, statement and run in this layout.
-fn expect_answers<R: Abort + Threads + Wait + Sync>(
+// The same over pieces of columns.
+const BY_COLUMNS: &[Options] = &[
+    Options {
+        workers: 1,
+        frames: 12,
+        per: 2,
+        layout: Layout::Column,
+        parts: 1,
+    },
+    Options {
+        workers: 2,
+        frames: 21,
+        per: 1,
+        layout: Layout::Column,
+        parts: 2,
+    },
+    Options {
+        workers: 3,
+        frames: 40,
+        per: 9,
+        layout: Layout::Column,
+        parts: 3,
+    },
+];
+
+// Whether the statement has its answer under these options.
+fn is_answered<R: Abort + RandomSource + Threads + Wait + Sync>(
     rt: &R,
     alloc: Global,
-    keys: RandomState,
-    layout: Layout,
+    case: &Case<'_>,
+    options: Options,
+) -> Result<bool, Fail> {
+    let (text, statement, wanted) = *case;
+    let trial = Trial {
+        text,
+        statements: &[statement],
+        options,
+    };
+    let keys = RandomState::new(rt)?;
+    let end = ended_in_memory(rt, alloc, keys, &trial, &[])?;
+    Ok(are_wanted(&end.answers, &[wanted]))
+}
+
+fn expect_answers<R: Abort + RandomSource + Threads + Wait + Sync>(
+    rt: &R,
+    alloc: Global,
+    options: Options,
+    cases: &[Case<'_>],
 ) -> Result<(), Fail> {
-    for (text, statement, wanted) in ANSWERS {
-        for (workers, frames, parts, per) in RUNS {
-            let options = Options {
-                workers,
-                frames,
-                per,
-                layout,
-                parts,
-            };
-            let depot = MemDepot::new(alloc);
-            let end = ended(
-                rt,
-                alloc,
-                keys,
-                text.as_bytes(),
-                &[statement],
-                options,
-                depot,
-            )?;
-            assert!(rt; end.answers.len() == 1);
-            assert!(rt; is_wanted(&end.answers[0], wanted), "{workers}");
-        }
+    for place in 0..cases.len() {
+        let is_right = is_answered(rt, alloc, &cases[place], options)?;
+        assert!(rt; is_right, "case {place}");
+    }
+    Ok(())
+}
+
+// Each statement has its answer under each of these options.
+fn expect_each_way<R: Abort + RandomSource + Threads + Wait + Sync>(
+    rt: &R,
+    alloc: Global,
+    ways: &[Options],
+    cases: &[Case<'_>],
+) -> Result<(), Fail> {
+    for options in ways {
+        expect_answers(rt, alloc, *options, cases)?;
     }
     Ok(())
 }
 
 #[test]
 fn the_worked_answers_with_a_piece_a_chunk(rt: HostRuntime) -> Result<(), Fail> {
-    let keys = RandomState::new(&rt)?;
-    expect_answers(&rt, rt.alloc(), keys, Layout::Row)
+    expect_each_way(&rt, rt.alloc(), BY_ROWS, ANSWERS)
 }
 
 #[test]
 fn the_worked_answers_with_a_piece_a_column(rt: HostRuntime) -> Result<(), Fail> {
-    let keys = RandomState::new(&rt)?;
-    expect_answers(&rt, rt.alloc(), keys, Layout::Column)
-}
-
-#[test]
-fn answers_come_from_the_depot(rt: HostRuntime) -> Result<(), Fail> {
-    let keys = RandomState::new(&rt)?;
-    let depot = SpoiltDepot {
-        inner: MemDepot::new(rt.alloc()),
-        piece: 0,
-        word: 3,
-        value: 50,
-    };
-    let options = one_worker(Layout::Row);
-    let end = ended(
-        &rt,
-        rt.alloc(),
-        keys,
-        TABLE_A.as_bytes(),
-        &[SUM],
-        options,
-        depot,
-    )?;
-    assert!(rt; end.answers.len() == 1);
-    assert!(rt; is_wanted(&end.answers[0], Wanted::Rows(&[&[Int(105)]])));
-    Ok(())
+    expect_each_way(&rt, rt.alloc(), BY_COLUMNS, ANSWERS)
 }

@@ -3,13 +3,14 @@ ghost use Rattle.std.specs.Prelude.{◌≡◌, ◌≤◌, ◌*◌, ◌^◌, All,
 ghost use Rattle.std.specs.Bool.{OnTrue};
 ghost use Rattle.table_core.specs.Sets.{Rising};
 ghost use Rattle.table_core.specs.Value.{places_of};
+ghost use Rattle.table_core.specs.Chunk.{chunk_count as chunks_of};
 ghost use Rattle.piece_format.specs.Shape.{IsShape, frame_words as words_of, groups as groups_of};
 ghost use Rattle.table_pieces.specs.Shaping as spec;
 ghost use Rattle.batch_plan.specs.Setting.{AreOptions};
 ghost use Rattle.batch_run.specs.Tasks.{CanBeLoaded, IsPlanOfTable};
 
 use batch_run::{BatchEnd, BatchRefusal, Options, Task, run_batch};
-use coop_outside::Depot;
+use coop_outside::{Depot, MemDepot};
 use cscan::{Gate, NoGate};
 use csv_load::{Loaded, load};
 use piece_format::{Layout, Shape, frame_words, groups};
@@ -34,19 +35,23 @@ pub(crate) fn next(seed: u64) -> u64 {
         .wrapping_add(1442695040888963407)
 }
 
-// Options of one worker with the least frames, and two rows in a chunk.
-pub(crate) fn one_worker(layout: Layout) -> Options {
-    Options {
-        workers: 1,
-        frames: match layout {
-            Layout::Row => 4,
-            Layout::Column => 12,
-        },
-        per: 2,
-        layout,
-        parts: 1,
-    }
-}
+// One worker with the least frames, and two rows in a chunk.
+pub(crate) const ALONE: Options = Options {
+    workers: 1,
+    frames: 4,
+    per: 2,
+    layout: Layout::Row,
+    parts: 1,
+};
+
+// The same over pieces of the columns of table A.
+pub(crate) const ALONE_BY_COLUMNS: Options = Options {
+    workers: 1,
+    frames: 12,
+    per: 2,
+    layout: Layout::Column,
+    parts: 1,
+};
 
 fn load_text(rt: &impl Abort, alloc: Global, keys: RandomState, text: &[u8]) -> Result<Loaded, Fail>
     ensures { IfOk result (λ l. CanBeLoaded l.table l.dicts.items) }
@@ -164,43 +169,42 @@ fn expect_options(
     Ok(())
 }
 
-// A batch that starts under relevance, or why it doesn't.
-pub(crate) fn run<R: Abort + Threads + Wait + Sync, D: Depot + Send, T: Gate + Sync>(
-    rt: &R,
-    alloc: Global,
-    keys: RandomState,
-    text: &[u8],
-    statements: &[&[u8]],
-    options: Options,
-    depot: D,
-    gate: &T,
-) -> Result<Result<BatchEnd<D>, BatchRefusal>, Fail>
-    requires { D.gets depot ≤ 2 ^ 63 }
+// Whether a table of at most 1,000 rows has few enough chunks of so many rows.
+fn is_cut(loaded: &Loaded, per: u32) -> bool
+    ensures some { OnTrue result (1 ≤ per) }
+    ensures short { OnTrue result (per ≤ 16384) }
+    ensures few { OnTrue result (chunks_of (length loaded.now.table.rows) per ≤ 1024) }
 {
-    run_under(
-        rt, alloc, keys, text, statements, options, depot, Relevance, gate,
-    )
-}
-
-// A batch that starts under relevance beside no gate, and its end.
-pub(crate) fn ended<R: Abort + Threads + Wait + Sync, D: Depot + Send>(
-    rt: &R,
-    alloc: Global,
-    keys: RandomState,
-    text: &[u8],
-    statements: &[&[u8]],
-    options: Options,
-    depot: D,
-) -> Result<BatchEnd<D>, Fail>
-    requires { D.gets depot ≤ 2 ^ 63 }
-{
-    match run(rt, alloc, keys, text, statements, options, depot, &NoGate)? {
-        Ok(end) => Ok(end),
-        Err(_) => panic!(rt; "refused"),
+    if per < 1 || per > 16384 || loaded.table.len() > 1000 {
+        return false;
     }
+    chunk_count(loaded.table.len() as u32, per) <= 1024
 }
 
-// The same as `run` under a policy.
+// The table of a batch that may run under these options.
+fn table_for(
+    rt: &impl Abort,
+    alloc: Global,
+    keys: RandomState,
+    text: &[u8],
+    options: &Options,
+) -> Result<Loaded, Fail>
+    ensures loaded { IfOk result (λ l. CanBeLoaded l.table l.dicts.items) }
+    ensures some { IfOk result (λ l. 1 ≤ options.now.per) }
+    ensures short { IfOk result (λ l. options.now.per ≤ 16384) }
+    ensures few { IfOk result (λ l. chunks_of (length l.table.rows) options.now.per ≤ 1024) }
+    ensures options { IfOk result (λ l. AreOptions
+        (groups_of (spec.shape_of l.table l.dicts.items options.now.layout options.now.per)) options.now) }
+    ensures words { IfOk result (λ l. options.now.frames * words_of
+        (spec.shape_of l.table l.dicts.items options.now.layout options.now.per) ≤ 33554432) }
+{
+    let loaded = load_text(rt, alloc, keys, text)?;
+    assert!(rt; is_cut(&loaded, options.per));
+    expect_options(rt, alloc, &loaded, options)?;
+    Ok(loaded)
+}
+
+// A batch under a policy, or why it doesn't start.
 pub(crate) fn run_under<
     R: Abort + Threads + Wait + Sync,
     P: Policy,
@@ -219,15 +223,68 @@ pub(crate) fn run_under<
 ) -> Result<Result<BatchEnd<D>, BatchRefusal>, Fail>
     requires { D.gets depot ≤ 2 ^ 63 }
 {
-    let loaded = load_text(rt, alloc, keys, text)?;
+    let loaded = table_for(rt, alloc, keys, text, &options)?;
     let plans = plans_of(rt, alloc, &loaded, statements)?;
     let tasks = tasks_of(rt, alloc, &plans, options.parts)?;
-    assert!(rt; options.per >= 1 && options.per <= 16384);
-    assert!(rt; loaded.table.len() <= 1000);
-    assert!(rt; chunk_count(loaded.table.len() as u32, options.per) <= 1024);
-    expect_options(rt, alloc, &loaded, &options)?;
     match run_batch(rt, alloc, loaded, &tasks, &options, depot, policy, gate) {
         Ok(end) => Ok(Ok(end)),
         Err((_, refusal)) => Ok(Err(refusal)),
     }
+}
+
+// A batch under relevance, or why it doesn't start.
+pub(crate) fn run<R: Abort + Threads + Wait + Sync, D: Depot + Send, T: Gate + Sync>(
+    rt: &R,
+    alloc: Global,
+    keys: RandomState,
+    text: &[u8],
+    statements: &[&[u8]],
+    options: Options,
+    depot: D,
+    gate: &T,
+) -> Result<Result<BatchEnd<D>, BatchRefusal>, Fail>
+    requires { D.gets depot ≤ 2 ^ 63 }
+{
+    run_under(
+        rt, alloc, keys, text, statements, options, depot, Relevance, gate,
+    )
+}
+
+// A table, statements, and how their batch runs.
+#[derive(Clone, Copy)]
+pub(crate) struct Trial<'a> {
+    pub(crate) text: &'a str,
+    pub(crate) statements: &'a [&'a [u8]],
+    pub(crate) options: Options,
+}
+
+// The end of a batch under relevance, beside no gate.
+pub(crate) fn ended<R: Abort + Threads + Wait + Sync, D: Depot + Send>(
+    rt: &R,
+    alloc: Global,
+    keys: RandomState,
+    trial: &Trial<'_>,
+    depot: D,
+) -> Result<BatchEnd<D>, Fail>
+    requires { D.gets depot ≤ 2 ^ 63 }
+{
+    let text = trial.text.as_bytes();
+    let (statements, options) = (trial.statements, trial.options);
+    match run(rt, alloc, keys, text, statements, options, depot, &NoGate)? {
+        Ok(end) => Ok(end),
+        Err(_) => panic!(rt; "refused"),
+    }
+}
+
+// The same over a depot in memory whose gets of these numbers fail.
+pub(crate) fn ended_in_memory<R: Abort + Threads + Wait + Sync>(
+    rt: &R,
+    alloc: Global,
+    keys: RandomState,
+    trial: &Trial<'_>,
+    fail_gets: &[u64],
+) -> Result<BatchEnd<MemDepot>, Fail> {
+    let mut depot = MemDepot::new(alloc);
+    depot.fail_gets = Vec::from_slice(alloc, fail_gets)?;
+    ended(rt, alloc, keys, trial, depot)
 }

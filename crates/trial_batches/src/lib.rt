@@ -13,10 +13,14 @@ mod faults;
 #[cfg(test)]
 mod gates;
 #[cfg(test)]
+mod judged;
+#[cfg(test)]
 mod policies;
 #[cfg(test)]
 mod stress;
 #[cfg(test)]
 mod takings;
+#[cfg(test)]
+mod told;
 #[cfg(test)]
 mod wanted;

@@ -1,10 +1,7 @@
 // The stories of each policy over small batches that seeds draw: each is legal by its own policy's definition, and by each other one's
 // some are not.
-ghost use Rattle.std.specs.Prelude.{◌≤◌};
-ghost use Rattle.std.specs.Bool.{OnTrue};
-ghost use Rattle.story_views.specs.Small as small;
-
 use crate::batches::{next, run_under};
+use crate::judged::{is_legal, is_sound};
 use batch_run::{Answer, BatchEnd, Options};
 use coop_outside::MemDepot;
 use cscan::NoGate;
@@ -12,15 +9,15 @@ use piece_format::Layout;
 use policy_box::Elevator;
 use policy_plain::{Attach, Normal};
 use relevance::Relevance;
-use scan_story::{Need, PolicyName, Setting};
+use scan_story::{Entry, Need, PolicyName, Setting};
 use std::alloc::Global;
 use std::collections::LinkedList;
 use std::hash::RandomState;
 use std::process::Abort;
+use std::random::RandomSource;
 use std::sync::Wait;
 use std::test::Fail;
 use std::thread::Threads;
-use story_judge::{first_illegal, is_licensed, is_undisturbed, is_whole};
 use table_core::Cell;
 use trial_stories::{POLICIES, first_cursor};
 
@@ -82,46 +79,96 @@ fn is_right(answer: &Answer, asked: Asked) -> bool {
     }
 }
 
-// The needs of the queries, of which each worker runs each so many-th.
-fn needs_of(alloc: Global, asked: &[Asked], workers: u32) -> Result<LinkedList<Need>, Fail>
-    requires { 1 ≤ workers }
-{
-    let mut needs = LinkedList::new(alloc);
-    let mut query: u32 = 0;
+// Whether the answers are those over the table.
+fn are_right(answers: &[Answer], asked: &[Asked]) -> bool {
+    answers.len() == asked.len()
+        && answers
+            .iter()
+            .zip(asked)
+            .all(|(answer, one)| is_right(answer, *one))
+}
+
+// Queries over a table of so many rows, and how they run.
+#[derive(Drop)]
+struct Batch {
+    asked: Vec<Asked>,
+    rows: u32,
+    options: Options,
+}
+
+// A batch with just the frames that are enough, and more chunks than these hold.
+fn batch_of(alloc: Global, layout: Layout, workers: u32, seed: u64) -> Result<Batch, Fail> {
+    let enough = workers.saturating_mul(3).saturating_add(1);
+    let rows = enough.saturating_add(4);
+    Ok(Batch {
+        asked: drawn(alloc, seed, rows, workers.saturating_add(3))?,
+        rows,
+        options: Options {
+            workers,
+            frames: match layout {
+                Layout::Row => enough,
+                Layout::Column => enough.saturating_mul(2),
+            },
+            per: 1,
+            layout,
+            parts: 1,
+        },
+    })
+}
+
+fn statements_of(alloc: Global, asked: &[Asked]) -> Result<Vec<String>, Fail> {
+    let mut texts = Vec::new(alloc);
     for one in asked {
-        let mut chunks = LinkedList::new(alloc);
-        for row in one.first..=one.last {
-            chunks.push_back(row.saturating_sub(1))?;
-        }
-        let mut columns = LinkedList::new(alloc);
-        columns.push_back(0)?;
-        if one.sums {
-            columns.push_back(1)?;
-        }
-        needs.push_back(Need {
-            query: query.saturating_add(1),
-            worker: query % workers,
-            chunks,
-            columns,
-        })?;
-        query = query.saturating_add(1);
+        texts.push(statement_of(alloc, *one)?)?;
+    }
+    Ok(texts)
+}
+
+fn bytes_of(alloc: Global, texts: &[String]) -> Result<Vec<&[u8]>, Fail> {
+    let mut all = Vec::new(alloc);
+    for text in texts {
+        all.push(text.as_bytes())?;
+    }
+    Ok(all)
+}
+
+// The chunks and the columns that a query needs.
+fn need_of(alloc: Global, query: u32, worker: u32, asked: Asked) -> Result<Need, Fail> {
+    let mut chunks = LinkedList::new(alloc);
+    for row in asked.first..=asked.last {
+        chunks.push_back(row.saturating_sub(1))?;
+    }
+    let mut columns = LinkedList::new(alloc);
+    columns.push_back(0)?;
+    if asked.sums {
+        columns.push_back(1)?;
+    }
+    Ok(Need {
+        query,
+        worker,
+        chunks,
+        columns,
+    })
+}
+
+// The needs of the queries, of which each worker runs each so many-th.
+fn needs_of(alloc: Global, asked: &[Asked], workers: u32) -> Result<LinkedList<Need>, Fail> {
+    let mut needs = LinkedList::new(alloc);
+    let mut before: u32 = 0;
+    for one in asked {
+        let query = before.saturating_add(1);
+        needs.push_back(need_of(alloc, query, before % workers.max(1), *one)?)?;
+        before = query;
     }
     Ok(needs)
 }
 
 // The setting of the batch under the policy of this name.
-fn setting_of(
-    alloc: Global,
-    name: PolicyName,
-    asked: &[Asked],
-    rows: u32,
-    options: &Options,
-) -> Result<Setting, Fail>
-    requires { 1 ≤ options.now.workers }
-{
+fn setting_of(alloc: Global, name: PolicyName, batch: &Batch) -> Result<Setting, Fail> {
+    let options = batch.options;
     Ok(Setting {
-        needs: needs_of(alloc, asked, options.workers)?,
-        chunks: rows,
+        needs: needs_of(alloc, &batch.asked, options.workers)?,
+        chunks: batch.rows,
         workers: options.workers,
         frames: options.frames,
         groups: match options.layout {
@@ -133,184 +180,187 @@ fn setting_of(
     })
 }
 
-fn is_small(s: &Setting) -> bool
-    ensures { OnTrue result (small.IsSmall s.now) }
-{
-    s.needs.len() <= 256 && s.groups > 0 && s.groups <= 16
-}
-
-// Runs the batch under a new policy of this name.
-fn run_by<R: Abort + Threads + Wait + Sync>(
+// Runs statements over a table under a new policy of this name.
+fn run_by<R: Abort + RandomSource + Threads + Wait + Sync>(
     rt: &R,
     alloc: Global,
-    keys: RandomState,
     name: PolicyName,
     text: &[u8],
     statements: &[&[u8]],
     options: Options,
 ) -> Result<BatchEnd<MemDepot>, Fail> {
+    let keys = RandomState::new(rt)?;
     let depot = MemDepot::new(alloc);
     let gate = &NoGate;
     let end = match name {
         PolicyName::Relevance => run_under(
             rt, alloc, keys, text, statements, options, depot, Relevance, gate,
-        )?,
+        ),
         PolicyName::Elevator => {
             let policy = Elevator::new();
             run_under(
                 rt, alloc, keys, text, statements, options, depot, policy, gate,
-            )?
+            )
         }
         PolicyName::Normal => {
             let policy = Normal::new();
             run_under(
                 rt, alloc, keys, text, statements, options, depot, policy, gate,
-            )?
+            )
         }
         PolicyName::Attach => {
             let policy = Attach::new();
             run_under(
                 rt, alloc, keys, text, statements, options, depot, policy, gate,
-            )?
+            )
         }
     };
-    match end {
+    match end? {
         Ok(end) => Ok(end),
         Err(_) => panic!(rt; "refused"),
     }
 }
 
-// The answers are those over the table, and the story is legal under its own policy, whole, undisturbed and licensed.
-fn expect_own<R: Abort>(
+// Runs the batch under a new policy of this name.
+fn end_of<R: Abort + RandomSource + Threads + Wait + Sync>(
     rt: &R,
     alloc: Global,
-    s: &Setting,
-    asked: &[Asked],
+    name: PolicyName,
+    batch: &Batch,
+) -> Result<BatchEnd<MemDepot>, Fail> {
+    let text = table_of(alloc, batch.rows)?;
+    let texts = statements_of(alloc, &batch.asked)?;
+    let statements = bytes_of(alloc, &texts)?;
+    run_by(rt, alloc, name, text.as_bytes(), &statements, batch.options)
+}
+
+// Whether the answers are those over the table, and the story is legal under its own policy, whole, undisturbed and licensed.
+fn is_own(
+    rt: &impl Abort,
+    alloc: Global,
+    name: PolicyName,
+    batch: &Batch,
     end: &BatchEnd<MemDepot>,
-) -> Result<(), Fail> {
-    assert_eq!(rt; end.answers.len(), asked.len());
-    for (answer, one) in end.answers.iter().zip(asked) {
-        assert!(rt; is_right(answer, *one));
-    }
-    assert!(rt; is_small(s));
-    assert_eq!(rt; first_illegal(alloc, s, &end.ran.story)?, None);
-    assert!(rt; is_whole(alloc, s, &end.ran.story)?);
-    assert!(rt; is_undisturbed(s, &end.ran.story));
-    assert!(rt; is_licensed(true, 0, end.depot.faults, &end.ran.story));
-    Ok(())
+) -> Result<bool, Fail> {
+    let s = setting_of(alloc, name, batch)?;
+    let is_sound = is_sound(rt, alloc, &s, &end.ran.story, end.depot.faults)?;
+    Ok(is_sound && are_right(&end.answers, &batch.asked))
+}
+
+// By which of the four policies some stories aren't legal.
+type Refused = [bool; 4];
+
+fn either(one: Refused, other: Refused) -> Refused {
+    [
+        one[0] || other[0],
+        one[1] || other[1],
+        one[2] || other[2],
+        one[3] || other[3],
+    ]
+}
+
+// Each policy but the one of this name.
+fn others(name: PolicyName) -> Refused {
+    [
+        POLICIES[0] != name,
+        POLICIES[1] != name,
+        POLICIES[2] != name,
+        POLICIES[3] != name,
+    ]
 }
 
 // By which policies the story isn't legal.
-fn refused_by<R: Abort>(
-    rt: &R,
+fn refused_by(
+    rt: &impl Abort,
     alloc: Global,
-    asked: &[Asked],
-    rows: u32,
-    options: &Options,
-    end: &BatchEnd<MemDepot>,
-) -> Result<[bool; 4], Fail>
-    requires { 1 ≤ options.now.workers }
-{
+    batch: &Batch,
+    story: &[Entry],
+) -> Result<Refused, Fail> {
     let mut refused = [false; 4];
     for place in 0..4 {
-        let s = setting_of(alloc, POLICIES[place], asked, rows, options)?;
-        assert!(rt; is_small(&s));
-        refused[place] = first_illegal(alloc, &s, &end.ran.story)?.is_some();
+        let s = setting_of(alloc, POLICIES[place], batch)?;
+        refused[place] = !is_legal(rt, alloc, &s, story)?;
     }
     Ok(refused)
 }
 
-// One batch under the policy of this name, with just the frames that are enough and more chunks than these hold. By which policies
-// its story isn't legal, where one worker makes it, so that it is always the same; else by none.
-fn expect_batch<R: Abort + Threads + Wait + Sync>(
+// One batch under the policy of this name. By which policies its story isn't legal, where one worker makes it, so that it is always
+// the same; else by none.
+fn expect_batch<R: Abort + RandomSource + Threads + Wait + Sync>(
     rt: &R,
     alloc: Global,
-    keys: RandomState,
     name: PolicyName,
-    layout: Layout,
-    workers: u32,
-    seed: u64,
-) -> Result<[bool; 4], Fail>
-    requires some { 1 ≤ workers }
-    requires few { workers ≤ 4 }
-{
-    let frames = 3 * workers + 1;
-    let rows = frames + 4;
-    let options = Options {
-        workers,
-        frames: match layout {
-            Layout::Row => frames,
-            Layout::Column => 2 * frames,
-        },
-        per: 1,
-        layout,
-        parts: 1,
-    };
-    let asked = drawn(alloc, seed, rows, workers + 3)?;
-    let text = table_of(alloc, rows)?;
-    let mut texts = Vec::new(alloc);
-    for one in asked.iter() {
-        texts.push(statement_of(alloc, *one)?)?;
-    }
-    let mut statements: Vec<&[u8]> = Vec::new(alloc);
-    for text in texts.iter() {
-        statements.push(text.as_bytes())?;
-    }
-    let end = run_by(rt, alloc, keys, name, text.as_bytes(), &statements, options)?;
-    let s = setting_of(alloc, name, &asked, rows, &options)?;
-    expect_own(rt, alloc, &s, &asked, &end)?;
-    if workers > 1 {
+    batch: &Batch,
+) -> Result<Refused, Fail> {
+    let end = end_of(rt, alloc, name, batch)?;
+    assert!(rt; is_own(rt, alloc, name, batch, &end)?);
+    if batch.options.workers > 1 {
         return Ok([false; 4]);
     }
-    refused_by(rt, alloc, &asked, rows, &options, &end)
+    refused_by(rt, alloc, batch, &end.ran.story)
+}
+
+// A layout, the number of workers, and how many seeds draw a batch.
+type Draws = (Layout, u32, u64);
+
+const DRAWS: &[Draws] = &[
+    (Layout::Row, 1, 8),
+    (Layout::Row, 2, 2),
+    (Layout::Row, 3, 2),
+    (Layout::Row, 4, 2),
+    (Layout::Column, 1, 8),
+    (Layout::Column, 2, 2),
+    (Layout::Column, 3, 2),
+    (Layout::Column, 4, 2),
+];
+
+// The batches of each seed: by which policies some story isn't legal.
+fn expect_seeds<R: Abort + RandomSource + Threads + Wait + Sync>(
+    rt: &R,
+    alloc: Global,
+    name: PolicyName,
+    draws: &Draws,
+) -> Result<Refused, Fail> {
+    let (layout, workers, seeds) = *draws;
+    let mut refused = [false; 4];
+    for seed in 0..seeds {
+        let batch = batch_of(alloc, layout, workers, seed)?;
+        refused = either(refused, expect_batch(rt, alloc, name, &batch)?);
+    }
+    Ok(refused)
 }
 
 // Batches under the policy of this name, on 1 to 4 workers and in both layouts.
-fn expect_stories<R: Abort + Threads + Wait + Sync>(
+fn expect_stories<R: Abort + RandomSource + Threads + Wait + Sync>(
     rt: &R,
     alloc: Global,
-    keys: RandomState,
     name: PolicyName,
+    draws: &[Draws],
 ) -> Result<(), Fail> {
     let mut refused = [false; 4];
-    for layout in [Layout::Row, Layout::Column] {
-        for workers in 1..=4 {
-            let seeds = if workers == 1 { 8 } else { 2 };
-            for seed in 0..seeds {
-                let here = expect_batch(rt, alloc, keys, name, layout, workers, seed)?;
-                for place in 0..4 {
-                    refused[place] = refused[place] || here[place];
-                }
-            }
-        }
+    for one in draws {
+        refused = either(refused, expect_seeds(rt, alloc, name, one)?);
     }
-    for place in 0..4 {
-        let other = POLICIES[place];
-        assert_eq!(rt; refused[place], other != name, "{name:?} by {other:?}");
-    }
+    assert!(rt; refused == others(name), "{refused:?}");
     Ok(())
 }
 
 #[test]
 fn stories_of_relevance(rt: HostRuntime) -> Result<(), Fail> {
-    let keys = RandomState::new(&rt)?;
-    expect_stories(&rt, rt.alloc(), keys, PolicyName::Relevance)
+    expect_stories(&rt, rt.alloc(), PolicyName::Relevance, DRAWS)
 }
 
 #[test]
 fn stories_of_elevator(rt: HostRuntime) -> Result<(), Fail> {
-    let keys = RandomState::new(&rt)?;
-    expect_stories(&rt, rt.alloc(), keys, PolicyName::Elevator)
+    expect_stories(&rt, rt.alloc(), PolicyName::Elevator, DRAWS)
 }
 
 #[test]
 fn stories_of_normal(rt: HostRuntime) -> Result<(), Fail> {
-    let keys = RandomState::new(&rt)?;
-    expect_stories(&rt, rt.alloc(), keys, PolicyName::Normal)
+    expect_stories(&rt, rt.alloc(), PolicyName::Normal, DRAWS)
 }
 
 #[test]
 fn stories_of_attach(rt: HostRuntime) -> Result<(), Fail> {
-    let keys = RandomState::new(&rt)?;
-    expect_stories(&rt, rt.alloc(), keys, PolicyName::Attach)
+    expect_stories(&rt, rt.alloc(), PolicyName::Attach, DRAWS)
 }

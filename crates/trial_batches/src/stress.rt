@@ -1,30 +1,30 @@
 // Eight workers, sixteen queries and few frames, while reads fail: each story is judged, and each answer counted over the table.
-ghost use Rattle.std.specs.Prelude.{◌≡◌, ◌≤◌, IfOk, length};
-ghost use Rattle.story_views.specs.Small.{IsSmall};
-
-use crate::batches::{ended, next};
+use crate::batches::{Trial, ended_in_memory, next};
+use crate::judged::is_sound;
 use batch_run::{Answer, BatchEnd, Cause, Options};
 use coop_outside::MemDepot;
 use piece_format::Layout;
 use scan_story::{Need, PolicyName, Setting};
-use std::alloc::{AllocError, Global};
+use std::alloc::Global;
 use std::collections::LinkedList;
 use std::hash::RandomState;
 use std::process::Abort;
+use std::random::RandomSource;
 use std::sync::Wait;
 use std::test::Fail;
 use std::thread::Threads;
-use story_judge::{is_legal, is_licensed, is_undisturbed, is_whole};
 use table_core::Cell;
 
 // How many rows the table has, one in a chunk: more chunks than the frames can hold.
 const ROWS: u32 = 28;
 
-const TABLE: &[u8] =
-    b"n,k\n1,0\n2,1\n3,2\n4,0\n5,1\n6,2\n7,0\n8,1\n9,2\n10,0\n11,1\n12,2\n13,0\n14,1\n15,2\n16,0\n17,1\n18,2\n19,0\n20,1\n21,2\n22,0\n23,1\n24,2\n25,0\n26,1\n27,2\n28,0\n";
+const TABLE: &str =
+    "n,k\n1,0\n2,1\n3,2\n4,0\n5,1\n6,2\n7,0\n8,1\n9,2\n10,0\n11,1\n12,2\n13,0\n14,1\n15,2\n16,0\n17,1\n18,2\n19,0\n20,1\n21,2\n22,0\n23,1\n24,2\n25,0\n26,1\n27,2\n28,0\n";
 
-// Statements, and the first and the last row that each counts, from 1.
-const QUERIES: [(&[u8], u32, u32); 16] = [
+// A statement, and the first and the last row that it counts, from 1.
+type Query<'a> = (&'a [u8], u32, u32);
+
+const QUERIES: &[Query<'static>] = &[
     (
         b"SELECT COUNT(*) FROM t WHERE n >= 1 AND n <= 2 AND k >= 0",
         1,
@@ -108,7 +108,7 @@ const QUERIES: [(&[u8], u32, u32); 16] = [
 ];
 
 // The numbers from one to another.
-fn numbers(alloc: Global, from: u32, to: u32) -> Result<LinkedList<u32>, AllocError> {
+fn numbers(alloc: Global, from: u32, to: u32) -> Result<LinkedList<u32>, Fail> {
     let mut numbers = LinkedList::new(alloc);
     for n in from..to {
         numbers.push_back(n)?;
@@ -117,34 +117,33 @@ fn numbers(alloc: Global, from: u32, to: u32) -> Result<LinkedList<u32>, AllocEr
 }
 
 // The needs of the queries, in their order; the workers take turns.
-fn needs_of(alloc: Global, workers: u32) -> Result<LinkedList<Need>, AllocError>
-    requires { 1 ≤ workers }
-    ensures { IfOk result (λ needs. length needs ≡ 16) }
-{
+fn needs_of(alloc: Global, queries: &[Query<'_>], workers: u32) -> Result<LinkedList<Need>, Fail> {
     let mut needs = LinkedList::new(alloc);
-    for i in 0..16u32 {
-        let (_, first, last) = QUERIES[i as usize];
+    let mut before: u32 = 0;
+    for (_, first, last) in queries {
+        let query = before.saturating_add(1);
         needs.push_back(Need {
-            query: i + 1,
-            worker: i % workers,
-            chunks: numbers(alloc, first.saturating_sub(1), last)?,
+            query,
+            worker: before % workers.max(1),
+            chunks: numbers(alloc, first.saturating_sub(1), *last)?,
             columns: numbers(alloc, 0, 2)?,
         })?;
+        before = query;
     }
     Ok(needs)
 }
 
 // The setting of the batch.
-fn setting_of(alloc: Global, options: &Options, groups: u32) -> Result<Setting, AllocError>
-    requires { 1 ≤ options.now.workers }
-    ensures { IfOk result (λ s. (length s.needs ≡ 16) × (s.groups ≡ groups)) }
-{
+fn setting_of(alloc: Global, queries: &[Query<'_>], options: &Options) -> Result<Setting, Fail> {
     Ok(Setting {
-        needs: needs_of(alloc, options.workers)?,
+        needs: needs_of(alloc, queries, options.workers)?,
         chunks: ROWS,
         workers: options.workers,
         frames: options.frames,
-        groups,
+        groups: match options.layout {
+            Layout::Row => 1,
+            Layout::Column => 2,
+        },
         policy: PolicyName::Relevance,
         cursor: LinkedList::new(alloc),
     })
@@ -162,85 +161,111 @@ fn is_right(answer: &Answer, count: u32) -> bool {
     }
 }
 
-// The story is legal and whole, and the answers are those over the table.
-fn judge(
-    rt: &impl Abort,
-    alloc: Global,
-    s: &Setting,
-    end: &BatchEnd<MemDepot>,
-    stopped: u64,
-) -> Result<(), Fail>
-    requires { IsSmall s.now }
-{
-    let legal = is_legal(alloc, s, &end.ran.story)?;
-    assert!(rt; legal, "illegal");
-    let whole = is_whole(alloc, s, &end.ran.story)?;
-    assert!(rt; whole, "not whole");
-    assert!(rt; is_undisturbed(s, &end.ran.story), "disturbed");
-    assert!(rt;
-        is_licensed(true, 0, end.depot.faults, &end.ran.story),
-        "not licensed"
-    );
-    assert_eq!(rt; end.answers.len(), 16);
+// Whether the answers are those over the table, of which at most so many are lost.
+fn are_right(answers: &[Answer], queries: &[Query<'_>], stopped: u64) -> bool {
     let mut lost: u64 = 0;
-    for (answer, (_, first, last)) in end.answers.iter().zip(QUERIES) {
-        let count = last.saturating_sub(first).saturating_add(1);
-        assert!(rt; is_right(answer, count), "{first}");
+    for (answer, (_, first, last)) in answers.iter().zip(queries) {
+        if !is_right(answer, last.saturating_sub(*first).saturating_add(1)) {
+            return false;
+        }
         if answer.is_stopped() {
             lost = lost.saturating_add(1);
         }
     }
-    assert!(rt; lost <= stopped, "{lost} lost");
-    Ok(())
+    answers.len() == queries.len() && lost <= stopped
 }
 
-// Runs a batch in which so many gets may fail, and judges it.
-fn expect_round<R: Abort + Threads + Wait + Sync>(
-    rt: &R,
-    alloc: Global,
-    keys: RandomState,
-    layout: Layout,
-    failing: u64,
-) -> Result<(), Fail> {
-    let (groups, frames) = match layout {
-        Layout::Row => (1, 25),
-        Layout::Column => (2, 50),
-    };
-    let options = Options {
-        workers: 8,
-        frames,
-        per: 1,
-        layout,
-        parts: 1,
-    };
-    let mut fail_gets = Vec::new(alloc);
+// So many numbers of gets that fail.
+fn failing_gets(alloc: Global, failing: u64) -> Result<Vec<u64>, Fail> {
+    let mut gets = Vec::new(alloc);
     let mut seed = failing;
     for _ in 0..failing {
         seed = next(seed);
-        fail_gets.push((seed >> 33) % 24 + 1)?;
+        gets.push((seed >> 33) % 24 + 1)?;
     }
-    let mut depot = MemDepot::new(alloc);
-    depot.fail_gets = fail_gets;
-    let mut statements: Vec<&[u8]> = Vec::new(alloc);
-    for (statement, _, _) in QUERIES {
-        statements.push(statement)?;
-    }
-    let end = ended(rt, alloc, keys, TABLE, &statements, options, depot)?;
-    let s = setting_of(alloc, &options, groups)?;
-    judge(rt, alloc, &s, &end, failing)
+    Ok(gets)
 }
 
-#[test]
-fn eight_workers_over_25_frames_while_reads_fail(rt: HostRuntime) -> Result<(), Fail> {
-    let keys = RandomState::new(&rt)?;
+fn statements_of<'a>(alloc: Global, queries: &[Query<'a>]) -> Result<Vec<&'a [u8]>, Fail> {
+    let mut statements = Vec::new(alloc);
+    for (statement, _, _) in queries {
+        statements.push(*statement)?;
+    }
+    Ok(statements)
+}
+
+// Runs the batch, in which so many gets may fail.
+fn end_of<R: Abort + RandomSource + Threads + Wait + Sync>(
+    rt: &R,
+    alloc: Global,
+    queries: &[Query<'_>],
+    options: Options,
+    failing: u64,
+) -> Result<BatchEnd<MemDepot>, Fail> {
+    let statements = statements_of(alloc, queries)?;
+    let trial = Trial {
+        text: TABLE,
+        statements: &statements,
+        options,
+    };
+    let gets = failing_gets(alloc, failing)?;
+    let keys = RandomState::new(rt)?;
+    ended_in_memory(rt, alloc, keys, &trial, &gets)
+}
+
+// The story is legal and whole, and the answers are those over the table.
+fn expect_round<R: Abort + RandomSource + Threads + Wait + Sync>(
+    rt: &R,
+    alloc: Global,
+    queries: &[Query<'_>],
+    options: Options,
+    failing: u64,
+) -> Result<(), Fail> {
+    let end = end_of(rt, alloc, queries, options, failing)?;
+    let s = setting_of(alloc, queries, &options)?;
+    let is_sound = is_sound(rt, alloc, &s, &end.ran.story, end.depot.faults)?;
+    assert!(rt;
+        is_sound && are_right(&end.answers, queries, failing),
+        "{failing} fail"
+    );
+    Ok(())
+}
+
+// Rounds in which none, one, two and more gets fail.
+fn expect_rounds<R: Abort + RandomSource + Threads + Wait + Sync>(
+    rt: &R,
+    alloc: Global,
+    queries: &[Query<'_>],
+    options: Options,
+) -> Result<(), Fail> {
     for failing in 0..4 {
-        expect_round(&rt, rt.alloc(), keys, Layout::Row, failing)?;
+        expect_round(rt, alloc, queries, options, failing)?;
     }
     Ok(())
 }
 
+const BY_ROWS: Options = Options {
+    workers: 8,
+    frames: 25,
+    per: 1,
+    layout: Layout::Row,
+    parts: 1,
+};
+
+#[test]
+fn eight_workers_over_25_frames_while_reads_fail(rt: HostRuntime) -> Result<(), Fail> {
+    expect_rounds(&rt, rt.alloc(), QUERIES, BY_ROWS)
+}
+
+const BY_COLUMNS: Options = Options {
+    workers: 8,
+    frames: 50,
+    per: 1,
+    layout: Layout::Column,
+    parts: 1,
+};
+
 #[test]
 fn eight_workers_over_pieces_of_columns_while_reads_fail(rt: HostRuntime) -> Result<(), Fail> {
-    let keys = RandomState::new(&rt)?;
-    expect_round(&rt, rt.alloc(), keys, Layout::Column, 2)
+    expect_round(&rt, rt.alloc(), QUERIES, BY_COLUMNS, 2)
 }
