@@ -5,6 +5,7 @@ use coop_outside::{
     Bytes, Failed, MemShelf, MemSink, ReadFault, Shelf, WriteFault, read_all, write_all,
 };
 use std::alloc::Global;
+use std::process::Abort;
 use std::test::Fail;
 
 const TEXT: &[u8] = b"id,dept,pay\n1,a,10\n";
@@ -61,7 +62,9 @@ fn size_read<F: Shelf>(
 }
 
 // A name, the limit, the read that fails, how many bytes are read or why none, and how many reads there are.
-const READ: [(&str, u64, u64, Result<usize, ReadFault>, u64); 8] = [
+type Read<'a> = (&'a str, u64, u64, Result<usize, ReadFault>, u64);
+
+const READ: &[Read<'static>] = &[
     ("a", 19, 0, Ok(19), 2),
     ("a", 20, 0, Ok(19), 2),
     ("a", 18, 0, Err(ReadFault::TooLong { limit: 18 }), 1),
@@ -72,32 +75,52 @@ const READ: [(&str, u64, u64, Result<usize, ReadFault>, u64); 8] = [
     ("a", 19, 3, Ok(19), 2),
 ];
 
-#[test]
-fn reads_all_up_to_the_limit(rt: HostRuntime) -> Result<(), Fail> {
-    for (name, limit, fail_read, want, calls) in READ {
-        let mut shelf = shelf_of(rt.alloc(), fail_read)?;
-        let got = size_read(rt.alloc(), &mut shelf, name, limit);
-        assert_eq!(rt; (got, shelf.calls), (want.map(|size| (size, true)), calls));
+fn expect_read(rt: &impl Abort, alloc: Global, rows: &[Read<'_>]) -> Result<(), Fail> {
+    for (name, limit, fail_read, want, calls) in rows {
+        let mut shelf = shelf_of(alloc, *fail_read)?;
+        let got = size_read(alloc, &mut shelf, name, *limit);
+        let want = want.map(|size| (size, true));
+        assert!(rt;
+            (got, shelf.calls) == (want, *calls),
+            "{name} {limit} {fail_read}"
+        );
     }
     Ok(())
+}
+
+#[test]
+fn reads_all_up_to_the_limit(rt: HostRuntime) -> Result<(), Fail> {
+    expect_read(&rt, rt.alloc(), READ)
+}
+
+// How many bytes are read of a shelf that gives at most so many a read, and how many it gave.
+fn read_short(
+    alloc: Global,
+    limit: u64,
+    most: usize,
+) -> Result<(Result<(usize, bool), ReadFault>, u64), Fail> {
+    let mut shelf = ShortShelf {
+        inner: shelf_of(alloc, 0)?,
+        most,
+        given: 0,
+    };
+    let got = size_read(alloc, &mut shelf, "a", limit);
+    Ok((got, shelf.given))
 }
 
 #[test]
 fn reads_all_where_each_read_gives_little(rt: HostRuntime) -> Result<(), Fail> {
     for most in [1, 7, 18, 19, 20] {
-        let inner = shelf_of(rt.alloc(), 0)?;
-        let mut shelf = ShortShelf {
-            inner,
-            most,
-            given: 0,
-        };
-        assert_eq!(rt; size_read(rt.alloc(), &mut shelf, "a", 19), Ok((19, true)));
+        let (got, _given) = read_short(rt.alloc(), 19, most)?;
+        assert!(rt; got == Ok((19, true)), "{most}");
     }
     Ok(())
 }
 
 // The limit, the most bytes that a read gives, and how many bytes are given of a text of 19.
-const GIVEN: [(u64, usize, u64); 6] = [
+type Given = (u64, usize, u64);
+
+const GIVEN: &[Given] = &[
     (0, 100, 1),
     (5, 100, 6),
     (5, 4, 6),
@@ -106,22 +129,26 @@ const GIVEN: [(u64, usize, u64); 6] = [
     (19, 100, 19),
 ];
 
-#[test]
-fn a_shelf_gives_one_byte_past_the_limit_and_no_more(rt: HostRuntime) -> Result<(), Fail> {
-    for (limit, most, given) in GIVEN {
-        let mut shelf = ShortShelf {
-            inner: shelf_of(rt.alloc(), 0)?,
-            most,
-            given: 0,
-        };
-        let got = size_read(rt.alloc(), &mut shelf, "a", limit);
-        assert_eq!(rt; (got.is_ok(), shelf.given), (limit == 19, given));
+fn expect_given(rt: &impl Abort, alloc: Global, rows: &[Given]) -> Result<(), Fail> {
+    for (limit, most, given) in rows {
+        let (got, gave) = read_short(alloc, *limit, *most)?;
+        assert!(rt;
+            (got.is_ok(), gave) == (*limit == 19, *given),
+            "{limit} {most}"
+        );
     }
     Ok(())
 }
 
+#[test]
+fn a_shelf_gives_one_byte_past_the_limit_and_no_more(rt: HostRuntime) -> Result<(), Fail> {
+    expect_given(&rt, rt.alloc(), GIVEN)
+}
+
 // The most bytes of a write, the write that fails, what all of them answer, and what the sink takes.
-const WRITTEN: [(usize, u64, Result<(), WriteFault>, &[u8]); 6] = [
+type Written<'a> = (usize, u64, Result<(), WriteFault>, &'a [u8]);
+
+const WRITTEN: &[Written<'static>] = &[
     (100, 0, Ok(()), TEXT),
     (7, 0, Ok(()), TEXT),
     (7, 1, Err(WriteFault { gone: 0 }), b""),
@@ -130,19 +157,30 @@ const WRITTEN: [(usize, u64, Result<(), WriteFault>, &[u8]); 6] = [
     (0, 0, Err(WriteFault { gone: 0 }), b""),
 ];
 
-#[test]
-fn writes_all_or_says_how_much(rt: HostRuntime) -> Result<(), Fail> {
-    let alloc = rt.alloc();
-    for (per_call, fail_write, want, taken) in WRITTEN {
-        let mut sink = MemSink {
-            taken: Bytes::new(Vec::new(alloc)),
-            per_call,
-            fail_writes: Vec::from_slice(alloc, &[fail_write])?,
-            calls: 0,
-            faults: 0,
-        };
+// A sink that takes at most so many bytes of a write, and fails at this one.
+fn sink_of(alloc: Global, per_call: usize, fail_write: u64) -> Result<MemSink, Fail> {
+    Ok(MemSink {
+        taken: Bytes::new(Vec::new(alloc)),
+        per_call,
+        fail_writes: Vec::from_slice(alloc, &[fail_write])?,
+        calls: 0,
+        faults: 0,
+    })
+}
+
+fn expect_written(rt: &impl Abort, alloc: Global, rows: &[Written<'_>]) -> Result<(), Fail> {
+    for (per_call, fail_write, want, taken) in rows {
+        let mut sink = sink_of(alloc, *per_call, *fail_write)?;
         let got = write_all(&mut sink, TEXT);
-        assert_eq!(rt; (got, sink.taken.as_slice()), (want, taken));
+        assert!(rt;
+            got == *want && sink.taken.as_slice() == *taken,
+            "{per_call} {fail_write}"
+        );
     }
     Ok(())
+}
+
+#[test]
+fn writes_all_or_says_how_much(rt: HostRuntime) -> Result<(), Fail> {
+    expect_written(&rt, rt.alloc(), WRITTEN)
 }

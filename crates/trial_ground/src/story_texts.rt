@@ -1,6 +1,7 @@
 // The text of a story: written, read back, and refused at its first bad line.
 use scan_story::{Entry, Story, StoryRefusal, Why, capacity, read_story, write_story};
-use std::test::Fail;
+use std::alloc::Global;
+use std::process::Abort;
 
 // One query over three chunks of a table, alone on one worker with four frames.
 const ONE_COUNT: &str = "register 0 1
@@ -22,35 +23,62 @@ release 0 1 2
 end 0 1
 ";
 
+// The longest text that is read.
+const MOST_BYTES: usize = 1 << 30;
+
+fn read(rt: &impl Abort, alloc: Global, text: &str) -> Result<Vec<Entry>, StoryRefusal> {
+    assert!(rt; text.len() <= MOST_BYTES);
+    read_story(alloc, text.as_bytes())
+}
+
+// Whether the text is read as these entries.
+fn is_read(rt: &impl Abort, alloc: Global, text: &str, entries: &[Entry]) -> bool {
+    match read(rt, alloc, text) {
+        Ok(read) => read.as_slice() == entries,
+        Err(_) => false,
+    }
+}
+
+// Whether the entries are written as this text.
+fn is_written(alloc: Global, entries: &[Entry], text: &str) -> bool {
+    match write_story(alloc, entries) {
+        Ok(written) => written.as_slice() == text.as_bytes(),
+        Err(_) => false,
+    }
+}
+
+// How many bytes the text of the entries has, once it is taken apart.
+fn size_written(alloc: Global, entries: &[Entry]) -> usize {
+    match write_story(alloc, entries) {
+        Ok(text) => text.into_vec().len(),
+        Err(_) => 0,
+    }
+}
+
+const PLANNED: Entry = Entry::Plan {
+    worker: 0,
+    query: 1,
+    chunk: 0,
+};
+
+const RELEASED: Entry = Entry::Release {
+    worker: 0,
+    query: 1,
+    chunk: 2,
+};
+
 #[test]
-fn a_trace_is_read_back(rt: HostRuntime) -> Result<(), Fail> {
-    let alloc = rt.alloc();
-    let entries = read_story(alloc, ONE_COUNT.as_bytes()).expect(&rt, "a story");
-    assert_eq!(rt; entries.len(), 17);
-    assert_eq!(rt;
-        entries[1],
-        Entry::Plan {
-            worker: 0,
-            query: 1,
-            chunk: 0
-        }
-    );
-    assert_eq!(rt;
-        entries[15],
-        Entry::Release {
-            worker: 0,
-            query: 1,
-            chunk: 2
-        }
-    );
-    let text = write_story(alloc, entries.as_slice()).expect(&rt, "a text");
-    assert!(rt; text.as_slice() == ONE_COUNT.as_bytes());
-    assert_eq!(rt; text.into_vec().len(), 210);
-    Ok(())
+fn a_trace_is_read_back(rt: HostRuntime) {
+    let entries = read(&rt, rt.alloc(), ONE_COUNT).expect(&rt, "a story");
+    assert!(rt; entries.len() == 17 && entries[1] == PLANNED && entries[15] == RELEASED);
+    assert!(rt; is_written(rt.alloc(), entries.as_slice(), ONE_COUNT));
+    assert!(rt; size_written(rt.alloc(), entries.as_slice()) == 210);
 }
 
 // An entry of each kind, and its line.
-const LINES: [(Entry, &str); 11] = [
+type Line<'a> = (Entry, &'a str);
+
+const LINES: &[Line<'static>] = &[
     (
         Entry::Register {
             worker: 3,
@@ -142,19 +170,22 @@ const LINES: [(Entry, &str); 11] = [
     ),
 ];
 
-#[test]
-fn each_kind_has_its_line(rt: HostRuntime) -> Result<(), Fail> {
-    for (entry, line) in LINES {
-        let text = write_story(rt.alloc(), &[entry]).expect(&rt, "a text");
-        assert!(rt; text.as_slice() == line.as_bytes(), "{line}");
-        let read = read_story(rt.alloc(), line.as_bytes()).expect(&rt, "a story");
-        assert!(rt; read.as_slice() == [entry].as_slice(), "{line}");
+fn expect_lines(rt: &impl Abort, alloc: Global, rows: &[Line<'_>]) {
+    for (entry, line) in rows {
+        assert!(rt; is_written(alloc, &[*entry], line), "{line}");
+        assert!(rt; is_read(rt, alloc, line, &[*entry]), "{line}");
     }
-    Ok(())
+}
+
+#[test]
+fn each_kind_has_its_line(rt: HostRuntime) {
+    expect_lines(&rt, rt.alloc(), LINES);
 }
 
 // A text, and the first of its lines, from 1, that is none of a story.
-const BAD: [(&str, u32); 21] = [
+type Bad<'a> = (&'a str, u32);
+
+const BAD: &[Bad<'static>] = &[
     ("register 0 1", 1),
     ("\n", 1),
     ("register 0 1\nend 0 1", 2),
@@ -178,46 +209,51 @@ const BAD: [(&str, u32); 21] = [
     ("failed 0 1 2 lost 4\n", 1),
 ];
 
-#[test]
-fn the_first_bad_line_is_named(rt: HostRuntime) -> Result<(), Fail> {
-    for (text, line) in BAD {
-        let read = read_story(rt.alloc(), text.as_bytes());
-        assert!(rt;
-            matches!(read, Err(StoryRefusal::BadLine { line: n }) if n == line),
-            "{text}"
-        );
+// The line at which a text is refused, if it is.
+fn bad_line(rt: &impl Abort, alloc: Global, text: &str) -> Option<u32> {
+    match read(rt, alloc, text) {
+        Err(StoryRefusal::BadLine { line }) => Some(line),
+        _ => None,
     }
-    assert!(rt;
-        read_story(rt.alloc(), b"")
-            .expect(&rt, "no lines")
-            .is_empty()
-    );
-    Ok(())
+}
+
+fn expect_bad(rt: &impl Abort, alloc: Global, rows: &[Bad<'_>]) {
+    for (text, line) in rows {
+        assert!(rt; bad_line(rt, alloc, text) == Some(*line), "{text}");
+    }
 }
 
 #[test]
-fn a_story_grows_in_its_room(rt: HostRuntime) -> Result<(), Fail> {
-    let alloc = rt.alloc();
-    let mut story = Story::with_room(alloc, 2).expect(&rt, "room");
-    story.push(Entry::Register {
-        worker: 0,
-        query: 1,
-    });
-    story.push(Entry::End {
-        worker: 0,
-        query: 1,
-    });
-    assert_eq!(rt; story.entries().len(), 2);
+fn the_first_bad_line_is_named(rt: HostRuntime) {
+    expect_bad(&rt, rt.alloc(), BAD);
+    assert!(rt; is_read(&rt, rt.alloc(), "", &[]));
+}
+
+const REGISTERED: Entry = Entry::Register {
+    worker: 0,
+    query: 1,
+};
+
+const ENDED: Entry = Entry::End {
+    worker: 0,
+    query: 1,
+};
+
+// A story of two entries, in room for two.
+fn story_of_two(rt: &impl Abort, alloc: Global) -> Story {
+    let mut story = Story::with_room(alloc, 2).expect(rt, "room");
+    story.push(REGISTERED);
+    story.push(ENDED);
+    story
+}
+
+#[test]
+fn a_story_grows_in_its_room(rt: HostRuntime) {
+    let story = story_of_two(&rt, rt.alloc());
+    assert!(rt; story.entries().len() == 2);
     let entries = story.into_entries();
-    assert_eq!(rt;
-        entries[1],
-        Entry::End {
-            worker: 0,
-            query: 1
-        }
-    );
+    assert!(rt; entries.as_slice() == [REGISTERED, ENDED].as_slice());
     // one query of three chunks with one piece each: 3 + 6 + 6 * 4
-    assert_eq!(rt; capacity(3, 1, 1), 33);
-    assert_eq!(rt; capacity(262144, 256, 16), 9464064);
-    Ok(())
+    assert!(rt; capacity(3, 1, 1) == 33);
+    assert!(rt; capacity(262144, 256, 16) == 9464064);
 }
