@@ -1,0 +1,105 @@
+// A run of queries under a policy.
+ghost use Rattle.std.specs.Prelude.{◌≡◌, IfOk, length, vec_len};
+ghost use Rattle.command_words.specs.Limits.{IsFrom};
+ghost use Rattle.command_words.specs.declared.limits.TheConstants.{MOST_WORKERS};
+
+use crate::experiment::{BATCH, Experiment};
+use crate::played::Played;
+use crate::range_query::{RangeQuery, batch_text};
+use crate::slow_depot::SlowDepot;
+use crate::timing_gate::TimingGate;
+use crate::watch::Watch;
+use anyhow::Result;
+use coop_outside::{Bytes, MemShelf, MemSink};
+use coop_run::run_settings;
+use policy_box::Elevator;
+use policy_plain::{Attach, Normal};
+use relevance::{Policy, Relevance};
+use run_decision::Counts;
+use scan_story::PolicyName;
+use std::alloc::{AllocError, Global};
+use std::hash::RandomState;
+use std::sync::Wait;
+use std::thread::Threads;
+
+// A shelf with one file.
+fn shelf_with(alloc: Global, name: &str, text: String) -> Result<MemShelf, AllocError> {
+    let mut files = Vec::new(alloc);
+    files.push((
+        String::from_str(alloc, name)?,
+        Bytes::new(text.into_bytes()),
+    ))?;
+    Ok(MemShelf {
+        files,
+        fail_reads: Vec::new(alloc),
+        calls: 0,
+        faults: 0,
+    })
+}
+
+// A sink that takes whatever it is given.
+fn sink(alloc: Global) -> MemSink {
+    MemSink {
+        taken: Bytes::new(Vec::new(alloc)),
+        per_call: usize::MAX,
+        fail_writes: Vec::new(alloc),
+        calls: 0,
+        faults: 0,
+    }
+}
+
+// Plays the queries under a policy, on so many workers.
+fn play<P: Policy, R: Threads + Wait + Sync>(
+    handle: &R,
+    rt: HostRuntime,
+    experiment: &Experiment,
+    workers: u32,
+    queries: &[RangeQuery],
+    policy: P,
+) -> Result<Played>
+    requires workers { IsFrom 1 MOST_WORKERS workers }
+    ensures each { IfOk result (λ played. vec_len played.ends ≡ length queries.now) }
+{
+    let alloc = rt.alloc();
+    let settings = experiment.settings(alloc, workers)?;
+    let mut shelf = shelf_with(alloc, BATCH, batch_text(alloc, queries)?)?;
+    let mut out = sink(alloc);
+    let watch = Watch::new(rt)?;
+    let depot = SlowDepot::new(alloc, watch, experiment.get_us);
+    let gate = TimingGate::new(alloc, watch, queries, experiment.slow_us)?;
+    let keys = RandomState::new(&rt)?;
+    let ended = run_settings(
+        handle, alloc, keys, &settings, &mut shelf, depot, policy, &gate, &mut out,
+    );
+    let MemSink { taken, .. } = out;
+    Ok(Played {
+        status: ended.status,
+        answers: taken,
+        gets: ended.depot.gets(),
+        counts: Counts::of(&ended.story),
+        streams: workers as usize,
+        began: ended.depot.filled_at(),
+        ends: gate.ends(alloc)?,
+    })
+}
+
+/// Plays the queries under the policy of a name, on so many workers. The error is out of memory, or one of the system's
+/// clock or of its random numbers; a run that stops, or loses a query, is no error but a status.
+pub(crate) fn play_under<R: Threads + Wait + Sync>(
+    handle: &R,
+    rt: HostRuntime,
+    experiment: &Experiment,
+    workers: u32,
+    queries: &[RangeQuery],
+    name: PolicyName,
+) -> Result<Played>
+    requires workers { IsFrom 1 MOST_WORKERS workers }
+    ensures each { IfOk result (λ played. vec_len played.ends ≡ length queries.now) }
+{
+    match name {
+        PolicyName::Relevance => play(handle, rt, experiment, workers, queries, Relevance),
+        PolicyName::Elevator => play(handle, rt, experiment, workers, queries, Elevator::new()),
+        PolicyName::Normal => play(handle, rt, experiment, workers, queries, Normal::new()),
+        PolicyName::Attach => play(handle, rt, experiment, workers, queries, Attach::new()),
+    }
+}

@@ -1,0 +1,137 @@
+// The words of the command line.
+ghost use Rattle.std.specs.Prelude.{◌≤◌, ◌≡◌, IfSome};
+ghost use Rattle.command_words.specs.declared.limits.TheConstants.{MOST_FRAMES, MOST_GENERATED_ROWS, MOST_WORKERS};
+
+use crate::experiment::{Experiment, MOST_QUERIES};
+use clap::{Arg, ArgAction, ArgMatches, Command, value_parser};
+use command_words::{MOST_FRAMES, MOST_GENERATED_ROWS, MOST_WORKERS};
+use std::alloc::{AllocError, Global};
+use table_core::MOST_CHUNK_ROWS;
+
+// What `--policy` may be.
+const NAMES: [&str; 5] = ["all", "relevance", "elevator", "normal", "attach"];
+
+// An option whose value is a number within limits.
+fn number<'a>(alloc: Global, name: &'a str, least: u32, most: u32, help: &'a str) -> Arg<'a> {
+    let numbers = value_parser!(u32).range(i64::from(least)..=i64::from(most));
+    Arg::new(alloc, name)
+        .long(name)
+        .value_name("N")
+        .value_parser(numbers)
+        .help(help)
+}
+
+// A flag.
+fn flag<'a>(alloc: Global, name: &'a str, help: &'a str) -> Arg<'a> {
+    Arg::new(alloc, name)
+        .long(name)
+        .action(ArgAction::SetTrue)
+        .help(help)
+}
+
+// The command with the numbers of an experiment.
+fn with_numbers<'a>(alloc: Global, command: Command<'a>) -> Result<Command<'a>, AllocError> {
+    let most_us = 1_000_000;
+    command
+        .arg(number(
+            alloc,
+            "streams",
+            1,
+            MOST_WORKERS,
+            "Streams, each on a worker of its own",
+        )
+        .default_value("16"))?
+        .arg(number(alloc, "queries", 1, MOST_QUERIES, "Queries of a stream").default_value("4"))?
+        .arg(number(alloc, "rows", 1, MOST_CHUNK_ROWS, "Rows of a chunk").default_value("64"))?
+        .arg(number(
+            alloc,
+            "table-rows",
+            1,
+            MOST_GENERATED_ROWS,
+            "Rows of the table",
+        )
+        .default_value("62500"))?
+        .arg(number(alloc, "get-us", 0, most_us, "Microseconds of a get").default_value("1000"))?
+        .arg(number(
+            alloc,
+            "slow-us",
+            0,
+            most_us,
+            "Microseconds of a slow query for each chunk",
+        )
+        .default_value("1000"))?
+        .arg(number(
+            alloc,
+            "frames",
+            1,
+            MOST_FRAMES,
+            "Frames of the buffer [default: for a quarter of the chunks]",
+        ))?
+        .arg(number(
+            alloc,
+            "seed",
+            0,
+            u32::MAX,
+            "The seed of the table and of the queries",
+        )
+        .default_value("7"))
+}
+
+/// The command line that the program reads.
+pub(crate) fn command<'a>(alloc: Global) -> Result<Command<'a>, AllocError> {
+    let policy = Arg::new(alloc, "policy")
+        .long("policy")
+        .value_parser(NAMES.as_slice())
+        .default_value("all")
+        .help("The policy under which the streams run");
+    let about =
+        "Plays streams of range queries over a table whose chunks take their time to be read";
+    let command = Command::new(alloc, "scan_streams").about(about);
+    with_numbers(alloc, command)?
+        .arg(policy)?
+        .arg(flag(alloc, "each", "Prints the time of each query"))?
+        .arg(flag(alloc, "check", "Prints only what every schedule gives"))
+}
+
+// The number of an option, within its limits.
+fn given(matches: &ArgMatches<'_>, name: &str, least: u32, most: u32) -> u32
+    requires order { least ≤ most }
+    ensures least { least ≤ result }
+    ensures most { result ≤ most }
+{
+    matches
+        .get_one::<u32>(name)
+        .unwrap_or(least)
+        .clamp(least, most)
+}
+
+// Frames for a quarter of the chunks, or the least that the streams need, if that is more.
+fn quarter(chunks: u32, streams: u32) -> u32
+    requires chunks { chunks ≤ MOST_GENERATED_ROWS }
+    requires streams { streams ≤ MOST_WORKERS }
+    ensures some { 1 ≤ result }
+    ensures few { result ≤ MOST_FRAMES }
+{
+    (chunks.div_ceil(4)).max(3 * streams + 1)
+}
+
+/// The experiment that the words ask for.
+pub(crate) fn experiment_of(matches: &ArgMatches<'_>) -> Experiment {
+    let streams = given(matches, "streams", 1, MOST_WORKERS);
+    let chunk_rows = given(matches, "rows", 1, MOST_CHUNK_ROWS);
+    let table_rows = given(matches, "table-rows", 1, MOST_GENERATED_ROWS);
+    let frames = match matches.get_one::<u32>("frames") {
+        Some(frames) => frames.clamp(1, MOST_FRAMES),
+        None => quarter(table_rows.div_ceil(chunk_rows), streams),
+    };
+    Experiment {
+        streams,
+        queries: given(matches, "queries", 1, MOST_QUERIES),
+        chunk_rows,
+        table_rows,
+        frames,
+        get_us: given(matches, "get-us", 0, u32::MAX),
+        slow_us: given(matches, "slow-us", 0, u32::MAX),
+        seed: given(matches, "seed", 0, u32::MAX),
+    }
+}
