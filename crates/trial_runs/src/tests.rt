@@ -23,6 +23,7 @@ mod layouts;
 mod meeting;
 mod refusals;
 mod stories;
+mod told;
 
 // Two rows a chunk, one worker, and no frame more than it needs.
 const WORDS: &str = "--threads 1 --frames 4 --rows 2 a.csv b.sql";
@@ -74,66 +75,30 @@ fn words_of(alloc: Global, line: &str) -> Result<Vec<String>, Fail> {
     Ok(words)
 }
 
-// Words, a table, a batch, the status and the output.
-type Case<'a> = (&'a str, &'a str, &'a str, u8, &'a str);
-
-// The first case, counted from 1, that ends otherwise over a depot in memory; 0 where each ends as it should.
-fn wrong_case<R: RandomSource + Threads + Wait + Sync>(
-    rt: &R,
-    alloc: Global,
-    cases: &[Case<'_>],
-) -> Result<usize, Fail> {
-    for place in 0..cases.len() {
-        let (line, table, batch, status, output) = cases[place];
-        let (ended, taken) = run_on(rt, alloc, line, table, batch, MemDepot::new(alloc))?;
-        if ended.status != status || taken.as_slice() != output.as_bytes() {
-            return Ok(place + 1);
-        }
-    }
-    Ok(0)
+// What a run leaves, and what it wrote.
+#[derive(Drop)]
+struct Left<D> {
+    ended: Ended<D>,
+    output: Bytes,
 }
 
-// Each case ends as it should, over a depot in memory.
-fn expect_cases<R: Abort + RandomSource + Threads + Wait + Sync>(
+// A run of these words over a shelf, a depot and a sink, beside a gate.
+fn run_over<D: Depot + Send, T: Gate + Sync, R: RandomSource + Threads + Wait + Sync>(
     rt: &R,
     alloc: Global,
-    cases: &[Case<'_>],
-) -> Result<(), Fail> {
-    let wrong = wrong_case(rt, alloc, cases)?;
-    assert!(rt; wrong == 0, "case {wrong}");
-    Ok(())
-}
-
-// Who took which chunks: a query, a part, a worker, and the chunks in their order.
-type Took<'a> = (u32, u32, u32, &'a [u32]);
-
-// Whether there is one scan for each of these, in their order.
-fn are_taken(taken: &[Taken], wanted: &[Took<'_>]) -> bool {
-    taken.len() == wanted.len()
-        && taken.iter().zip(wanted).all(|(scan, (query, part, worker, chunks))| {
-            scan.query == *query
-                && scan.part == *part
-                && scan.worker == *worker
-                && scan.chunks.as_slice() == *chunks
-        })
-}
-
-// A run of these words over a table, a batch and a depot: what it leaves, and what it wrote.
-fn run_on<D: Depot + Send, R: RandomSource + Threads + Wait + Sync>(
-    rt: &R,
-    alloc: Global,
-    line: &str,
-    table: &str,
-    batch: &str,
+    words: &[String],
+    shelf: &mut MemShelf,
     depot: D,
-) -> Result<(Ended<D>, Bytes), Fail>
+    gate: &T,
+    out: &mut MemSink,
+) -> Result<Ended<D>, Fail>
     requires gets { D.gets depot ≤ 2 ^ 63 }
 {
-    let (table, batch) = (table.as_bytes(), batch.as_bytes());
-    run_beside(rt, alloc, line, table, batch, depot, &NoGate)
+    let keys = RandomState::new(rt)?;
+    Ok(run(rt, alloc, keys, words, shelf, depot, Relevance, gate, out))
 }
 
-// The same beside a gate, over texts of any bytes.
+// A run of the words of a line over a table and a batch of any bytes, beside a gate.
 fn run_beside<D: Depot + Send, T: Gate + Sync, R: RandomSource + Threads + Wait + Sync>(
     rt: &R,
     alloc: Global,
@@ -142,15 +107,66 @@ fn run_beside<D: Depot + Send, T: Gate + Sync, R: RandomSource + Threads + Wait 
     batch: &[u8],
     depot: D,
     gate: &T,
-) -> Result<(Ended<D>, Bytes), Fail>
+) -> Result<Left<D>, Fail>
     requires gets { D.gets depot ≤ 2 ^ 63 }
 {
     let words = words_of(alloc, line)?;
-    let keys = RandomState::new(rt)?;
     let mut shelf = shelf_of(alloc, table, batch)?;
     let mut out = sink_of(alloc, 100);
-    let ended = run(
-        rt, alloc, keys, &words, &mut shelf, depot, Relevance, gate, &mut out,
-    );
-    Ok((ended, out.taken))
+    let ended = run_over(rt, alloc, &words, &mut shelf, depot, gate, &mut out)?;
+    Ok(Left {
+        ended,
+        output: out.taken,
+    })
+}
+
+// Words, a table, a batch, the status and the output.
+type Case<'a> = (&'a str, &'a str, &'a str, u8, &'a str);
+
+// Whether the case ends as it should over a depot.
+fn ends_so<D: Depot + Send, R: RandomSource + Threads + Wait + Sync>(
+    rt: &R,
+    alloc: Global,
+    case: &Case<'_>,
+    depot: D,
+) -> Result<bool, Fail>
+    requires gets { D.gets depot ≤ 2 ^ 63 }
+{
+    let (line, table, batch, status, output) = *case;
+    let (table, batch) = (table.as_bytes(), batch.as_bytes());
+    let left = run_beside(rt, alloc, line, table, batch, depot, &NoGate)?;
+    Ok(left.ended.status == status && left.output.as_slice() == output.as_bytes())
+}
+
+// Each case ends as it should, over a depot in memory.
+fn expect_cases<R: Abort + RandomSource + Threads + Wait + Sync>(
+    rt: &R,
+    alloc: Global,
+    cases: &[Case<'_>],
+) -> Result<(), Fail> {
+    for place in 0..cases.len() {
+        let is_right = ends_so(rt, alloc, &cases[place], MemDepot::new(alloc))?;
+        assert!(rt; is_right, "case {place}");
+    }
+    Ok(())
+}
+
+// Who took which chunks: a query, a part, a worker, and the chunks in their order.
+type Took<'a> = (u32, u32, u32, &'a [u32]);
+
+fn is_taken(scan: &Taken, took: &Took<'_>) -> bool {
+    let (query, part, worker, chunks) = *took;
+    scan.query == query
+        && scan.part == part
+        && scan.worker == worker
+        && scan.chunks.as_slice() == chunks
+}
+
+// Whether there is one scan for each of these, in their order.
+fn are_taken(taken: &[Taken], wanted: &[Took<'_>]) -> bool {
+    taken.len() == wanted.len()
+        && taken
+            .iter()
+            .zip(wanted)
+            .all(|(scan, took)| is_taken(scan, took))
 }

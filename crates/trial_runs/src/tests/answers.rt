@@ -1,5 +1,5 @@
 // Answers by the worked examples.
-use super::{COUNT, Case, SUMS, SUMS_PRINTED, WORDS, expect_cases, run_on};
+use super::{COUNT, Case, SUMS, SUMS_PRINTED, WORDS, ends_so, expect_cases};
 use coop_outside::{MemDepot, SpoiltDepot};
 use std::test::Fail;
 use trial_stories::tables::TABLE_A;
@@ -138,19 +138,22 @@ fn sums_at_the_edge_of_64_bits(rt: HostRuntime) -> Result<(), Fail> {
     expect_cases(&rt, rt.alloc(), AT_THE_EDGE)
 }
 
+const SUM: &str = "SELECT SUM(pay) FROM t;";
+
+const SPOILT: Case<'static> = (WORDS, TABLE_A, SUM, 0, "query 1\n105\n");
+
+const UNSPOILT: &[Case<'static>] = &[(WORDS, TABLE_A, SUM, 0, "query 1\n65\n")];
+
 #[test]
 fn answers_come_from_the_depot(rt: HostRuntime) -> Result<(), Fail> {
-    let sum = "SELECT SUM(pay) FROM t;";
     let depot = SpoiltDepot {
         inner: MemDepot::new(rt.alloc()),
         piece: 0,
         word: 3,
         value: 50,
     };
-    let (ended, taken) = run_on(&rt, rt.alloc(), WORDS, TABLE_A, sum, depot)?;
-    assert!(rt; ended.status == 0 && taken.as_slice() == b"query 1\n105\n".as_slice());
-    let unspoilt = (WORDS, TABLE_A, sum, 0, "query 1\n65\n");
-    expect_cases(&rt, rt.alloc(), &[unspoilt])
+    assert!(rt; ends_so(&rt, rt.alloc(), &SPOILT, depot)?);
+    expect_cases(&rt, rt.alloc(), UNSPOILT)
 }
 
 const REPORT: &str = "-- what each region sold

@@ -1,8 +1,9 @@
 // Runs with policies in boxes, by the worked examples.
 ghost use Rattle.std.specs.Prelude.{◌≡◌, ◌≤◌, IfOk, length};
 
+use super::told::{depot_of, is_count};
 use super::{COUNT, COUNT_TWICE, WORDS, shelf_of, sink_of, words_of};
-use coop_outside::{Bytes, MemDepot};
+use coop_outside::{Bytes, MemDepot, MemShelf, MemSink};
 use coop_run::{BoxedEnd, PolicyRun, run_boxed};
 use cscan::NoGate;
 use policy_box::Elevator;
@@ -11,11 +12,11 @@ use relevance::{Policy, Relevance};
 use scan_story::{Entry, PolicyName};
 use std::alloc::Global;
 use std::hash::RandomState;
+use std::process::Abort;
 use std::random::RandomSource;
 use std::sync::Wait;
 use std::test::Fail;
 use std::thread::Threads;
-use trial_stories::POLICIES;
 use trial_stories::tables::{SIX_ROWS, TABLE_A};
 
 type Boxes = Vec<Box<dyn Policy + Send>>;
@@ -42,55 +43,58 @@ fn two(alloc: Global) -> Result<Boxes, Fail>
     Ok(policies)
 }
 
+// The policies that a run is handed.
+#[derive(Clone, Copy)]
+enum Handed {
+    Four,
+    Two,
+    None,
+}
+
+fn boxes_of(alloc: Global, handed: Handed) -> Result<Boxes, Fail>
+    ensures { IfOk result (λ policies. length policies.items ≤ 16) }
+{
+    match handed {
+        Handed::Four => four(alloc),
+        Handed::Two => two(alloc),
+        Handed::None => Ok(Vec::new(alloc)),
+    }
+}
+
 // What a run leaves, what it wrote, and how often the shelf was called.
 #[derive(Drop)]
 struct Left {
     ended: BoxedEnd<MemDepot>,
-    written: Bytes,
+    output: Bytes,
     calls: u64,
 }
 
-// A run of these words over a table, a batch and a depot.
-fn run_over<R: RandomSource + Threads + Wait + Sync>(
+// A run of these words over a shelf, a depot and a sink.
+fn run_over<R: Threads + Wait + Sync>(
     rt: &R,
     alloc: Global,
+    keys: RandomState,
     policies: Boxes,
-    line: &str,
-    table: &str,
-    batch: &str,
+    words: &[String],
+    shelf: &mut MemShelf,
     depot: MemDepot,
-) -> Result<Left, Fail>
+    out: &mut MemSink,
+) -> BoxedEnd<MemDepot>
     requires few { length policies.items ≤ 16 }
     requires gets { depot.gets ≡ 0 }
 {
-    let words = words_of(alloc, line)?;
-    let keys = RandomState::new(rt)?;
-    let mut shelf = shelf_of(alloc, table.as_bytes(), batch.as_bytes())?;
-    let mut out = sink_of(alloc, 100);
-    let ended = run_boxed(
-        rt, alloc, keys, &words, &mut shelf, depot, policies, &NoGate, &mut out,
-    );
-    Ok(Left {
-        ended,
-        written: out.taken,
-        calls: shelf.calls,
-    })
+    run_boxed(rt, alloc, keys, words, shelf, depot, policies, &NoGate, out)
 }
 
-// The same with a new depot: what it leaves, and what it wrote.
-fn run_on<R: RandomSource + Threads + Wait + Sync>(
-    rt: &R,
-    alloc: Global,
-    policies: Boxes,
-    line: &str,
-    table: &str,
-    batch: &str,
-) -> Result<(BoxedEnd<MemDepot>, Bytes), Fail>
-    requires few { length policies.items ≤ 16 }
-{
-    let depot = MemDepot::new(alloc);
-    let left = run_over(rt, alloc, policies, line, table, batch, depot)?;
-    Ok((left.ended, left.written))
+// What is told of the runs.
+#[derive(Clone, Copy)]
+enum Runs<'a> {
+    Any,
+    Count(usize),
+    // one run under each of these policies, each with three scans
+    Three(&'a [PolicyName]),
+    // one run with two scans: its policy, the chunks that the second one takes, and those that leave the buffer
+    Shared(PolicyName, &'a [u32], &'a [u32]),
 }
 
 // Whether the chunks that left the buffer are these, in this order.
@@ -107,114 +111,256 @@ fn are_evicted(story: &[Entry], wanted: &[u32]) -> bool {
     left.is_empty()
 }
 
-// Two counts over six chunks under a policy.
-#[derive(Drop)]
-struct TwoCounts<'a> {
-    words: &'a str,
-    name: PolicyName,
-    // the chunks that the second count takes; the first takes them in table order
-    second: &'a [u32],
-    evicted: &'a [u32],
-}
-
-// Whether there is one run, which is as is told.
-fn are_as_told(case: &TwoCounts<'_>, runs: &[PolicyRun]) -> bool {
-    let [run] = runs else {
-        return false;
-    };
+// Whether the run is one under the policy, whose first scan takes the six chunks in table order.
+fn is_shared(run: &PolicyRun, name: PolicyName, second: &[u32], evicted: &[u32]) -> bool {
     let [one, other] = run.taken.as_slice() else {
         return false;
     };
-    run.name == case.name
+    run.name == name
         && one.chunks.as_slice() == [0, 1, 2, 3, 4, 5].as_slice()
-        && other.chunks.as_slice() == case.second
-        && are_evicted(&run.story, case.evicted)
+        && other.chunks.as_slice() == second
+        && are_evicted(&run.story, evicted)
 }
 
-const EACH_POLICY: [TwoCounts<'static>; 4] = [
-    TwoCounts {
+fn are_three(runs: &[PolicyRun], names: &[PolicyName]) -> bool {
+    runs.len() == names.len()
+        && runs
+            .iter()
+            .zip(names)
+            .all(|(run, name)| run.name == *name && run.taken.len() == 3)
+}
+
+fn are_runs(runs: &[PolicyRun], wanted: &Runs<'_>) -> bool {
+    match wanted {
+        Runs::Any => true,
+        Runs::Count(count) => runs.len() == *count,
+        Runs::Three(names) => are_three(runs, names),
+        Runs::Shared(name, second, evicted) => match runs {
+            [run] => is_shared(run, *name, second, evicted),
+            _ => false,
+        },
+    }
+}
+
+// A run with policies in boxes over a depot in memory, and what it comes to; `None` where that isn't told.
+struct Told<'a> {
+    policies: Handed,
+    words: &'a str,
+    table: &'a str,
+    batch: &'a str,
+    // the gets and the puts that fail, counted from 1
+    fail_gets: &'a [u64],
+    fail_puts: &'a [u64],
+    status: u8,
+    output: &'a str,
+    puts: Option<u64>,
+    gets: Option<u64>,
+    calls: Option<u64>,
+    runs: Runs<'a>,
+}
+
+// What the run leaves.
+fn left_by<R: RandomSource + Threads + Wait + Sync>(
+    rt: &R,
+    alloc: Global,
+    told: &Told<'_>,
+) -> Result<Left, Fail> {
+    let keys = RandomState::new(rt)?;
+    let words = words_of(alloc, told.words)?;
+    let mut shelf = shelf_of(alloc, told.table.as_bytes(), told.batch.as_bytes())?;
+    let depot = depot_of(alloc, told.fail_gets, told.fail_puts)?;
+    let boxes = boxes_of(alloc, told.policies)?;
+    let mut out = sink_of(alloc, 100);
+    let ended = run_over(rt, alloc, keys, boxes, &words, &mut shelf, depot, &mut out);
+    Ok(Left {
+        ended,
+        output: out.taken,
+        calls: shelf.calls,
+    })
+}
+
+// Whether the run comes to what is told.
+fn is_as_told<R: RandomSource + Threads + Wait + Sync>(
+    rt: &R,
+    alloc: Global,
+    told: &Told<'_>,
+) -> Result<bool, Fail> {
+    let left = left_by(rt, alloc, told)?;
+    Ok(
+        left.ended.status == told.status
+            && left.output.as_slice() == told.output.as_bytes()
+            && is_count(left.ended.depot.puts, told.puts)
+            && is_count(left.ended.depot.gets, told.gets)
+            && is_count(left.calls, told.calls)
+            && are_runs(&left.ended.runs, &told.runs),
+    )
+}
+
+// Each run comes to what is told.
+fn expect_told<R: Abort + RandomSource + Threads + Wait + Sync>(
+    rt: &R,
+    alloc: Global,
+    rows: &[Told<'_>],
+) -> Result<(), Fail> {
+    for place in 0..rows.len() {
+        let is_told = is_as_told(rt, alloc, &rows[place])?;
+        assert!(rt; is_told, "run {place}");
+    }
+    Ok(())
+}
+
+const BOTH_SIX: &str = "query 1\n6\nquery 2\n6\n";
+
+// Two counts over six chunks.
+const EACH_POLICY: &[Told<'static>] = &[
+    Told {
+        policies: Handed::Four,
         words: "--threads 1 --frames 4 --rows 1 a.csv b.sql",
-        name: PolicyName::Relevance,
-        second: &[2, 3, 4, 5, 0, 1],
-        evicted: &[0, 1, 2, 0],
+        table: SIX_ROWS,
+        batch: COUNT_TWICE,
+        fail_gets: &[],
+        fail_puts: &[],
+        status: 0,
+        output: BOTH_SIX,
+        puts: None,
+        gets: Some(8),
+        calls: None,
+        runs: Runs::Shared(PolicyName::Relevance, &[2, 3, 4, 5, 0, 1], &[0, 1, 2, 0]),
     },
-    TwoCounts {
+    Told {
+        policies: Handed::Four,
         words: "--threads 1 --frames 4 --rows 1 --policy elevator a.csv b.sql",
-        name: PolicyName::Elevator,
-        second: &[2, 3, 4, 5, 0, 1],
-        evicted: &[0, 1, 2, 3],
+        table: SIX_ROWS,
+        batch: COUNT_TWICE,
+        fail_gets: &[],
+        fail_puts: &[],
+        status: 0,
+        output: BOTH_SIX,
+        puts: None,
+        gets: Some(8),
+        calls: None,
+        runs: Runs::Shared(PolicyName::Elevator, &[2, 3, 4, 5, 0, 1], &[0, 1, 2, 3]),
     },
-    TwoCounts {
+    Told {
+        policies: Handed::Four,
         words: "--threads 1 --frames 4 --rows 1 --policy normal a.csv b.sql",
-        name: PolicyName::Normal,
-        second: &[2, 3, 4, 5, 0, 1],
-        evicted: &[0, 1, 2, 3],
+        table: SIX_ROWS,
+        batch: COUNT_TWICE,
+        fail_gets: &[],
+        fail_puts: &[],
+        status: 0,
+        output: BOTH_SIX,
+        puts: None,
+        gets: Some(8),
+        calls: None,
+        runs: Runs::Shared(PolicyName::Normal, &[2, 3, 4, 5, 0, 1], &[0, 1, 2, 3]),
     },
-    TwoCounts {
+    Told {
+        policies: Handed::Four,
         words: "--threads 1 --frames 4 --rows 1 --policy attach a.csv b.sql",
-        name: PolicyName::Attach,
-        second: &[5, 2, 3, 4, 0, 1],
-        evicted: &[0, 1, 2, 0],
+        table: SIX_ROWS,
+        batch: COUNT_TWICE,
+        fail_gets: &[],
+        fail_puts: &[],
+        status: 0,
+        output: BOTH_SIX,
+        puts: None,
+        gets: Some(8),
+        calls: None,
+        runs: Runs::Shared(PolicyName::Attach, &[5, 2, 3, 4, 0, 1], &[0, 1, 2, 0]),
     },
 ];
 
 #[test]
 fn two_counts_under_each_policy(rt: HostRuntime) -> Result<(), Fail> {
-    for case in &EACH_POLICY {
-        let boxes = four(rt.alloc())?;
-        let (ended, written) = run_on(&rt, rt.alloc(), boxes, case.words, SIX_ROWS, COUNT_TWICE)?;
-        assert!(rt; ended.status == 0 && ended.depot.gets == 8);
-        assert!(rt; written.as_slice() == b"query 1\n6\nquery 2\n6\n".as_slice());
-        assert!(rt; are_as_told(case, &ended.runs));
-    }
-    Ok(())
+    expect_told(&rt, rt.alloc(), EACH_POLICY)
 }
+
+const ALL_ROWS: &[Told<'static>] = &[Told {
+    policies: Handed::Four,
+    words: WORDS,
+    table: TABLE_A,
+    batch: COUNT,
+    fail_gets: &[],
+    fail_puts: &[],
+    status: 0,
+    output: "query 1\n5\n",
+    puts: None,
+    gets: None,
+    calls: None,
+    runs: Runs::Any,
+}];
 
 #[test]
 fn all_rows_are_counted_under_relevance(rt: HostRuntime) -> Result<(), Fail> {
-    let boxes = four(rt.alloc())?;
-    let (ended, written) = run_on(&rt, rt.alloc(), boxes, WORDS, TABLE_A, COUNT)?;
-    assert!(rt; ended.status == 0 && written.as_slice() == b"query 1\n5\n".as_slice());
-    Ok(())
+    expect_told(&rt, rt.alloc(), ALL_ROWS)
 }
 
-// Whether a run with these policies is refused as usage, with nothing done.
-fn is_refused<R: RandomSource + Threads + Wait + Sync>(
-    rt: &R,
-    alloc: Global,
-    policies: Boxes,
-    line: &str,
-) -> Result<bool, Fail>
-    requires few { length policies.items ≤ 16 }
-{
-    let (ended, written) = run_on(rt, alloc, policies, line, TABLE_A, COUNT)?;
-    let is_told = written.as_slice() == b"stopped 2: usage\n".as_slice();
-    Ok(ended.status == 2 && ended.runs.is_empty() && is_told)
-}
+const USAGE: &str = "stopped 2: usage\n";
+
+const NOT_THERE: &[Told<'static>] = &[
+    Told {
+        policies: Handed::Four,
+        words: "--policy fast --threads 1 a.csv b.sql",
+        table: TABLE_A,
+        batch: COUNT,
+        fail_gets: &[],
+        fail_puts: &[],
+        status: 2,
+        output: USAGE,
+        puts: None,
+        gets: None,
+        calls: None,
+        runs: Runs::Count(0),
+    },
+    Told {
+        policies: Handed::Two,
+        words: "--policy normal --threads 1 a.csv b.sql",
+        table: TABLE_A,
+        batch: COUNT,
+        fail_gets: &[],
+        fail_puts: &[],
+        status: 2,
+        output: USAGE,
+        puts: None,
+        gets: None,
+        calls: None,
+        runs: Runs::Count(0),
+    },
+    // the list has no relevance, which stands where no policy is named
+    Told {
+        policies: Handed::Two,
+        words: "--threads 1 a.csv b.sql",
+        table: TABLE_A,
+        batch: COUNT,
+        fail_gets: &[],
+        fail_puts: &[],
+        status: 2,
+        output: USAGE,
+        puts: None,
+        gets: None,
+        calls: None,
+        runs: Runs::Count(0),
+    },
+    Told {
+        policies: Handed::None,
+        words: "--threads 1 a.csv b.sql",
+        table: TABLE_A,
+        batch: COUNT,
+        fail_gets: &[],
+        fail_puts: &[],
+        status: 2,
+        output: USAGE,
+        puts: None,
+        gets: None,
+        calls: None,
+        runs: Runs::Count(0),
+    },
+];
 
 #[test]
 fn a_policy_that_is_not_there(rt: HostRuntime) -> Result<(), Fail> {
-    let alloc = rt.alloc();
-    let unknown = is_refused(
-        &rt,
-        alloc,
-        four(alloc)?,
-        "--policy fast --threads 1 a.csv b.sql",
-    )?;
-    assert!(rt; unknown);
-    let missing = is_refused(
-        &rt,
-        alloc,
-        two(alloc)?,
-        "--policy normal --threads 1 a.csv b.sql",
-    )?;
-    assert!(rt; missing);
-    // the list has no relevance, which stands where no policy is named
-    let unnamed = is_refused(&rt, alloc, two(alloc)?, "--threads 1 a.csv b.sql")?;
-    assert!(rt; unnamed);
-    let of_none = is_refused(&rt, alloc, Vec::new(alloc), "--threads 1 a.csv b.sql")?;
-    assert!(rt; of_none);
-    Ok(())
+    expect_told(&rt, rt.alloc(), NOT_THERE)
 }
 
 const COMPARED: &str = "--frames 4 --rows 1 --compare a.csv b.sql";
@@ -228,24 +374,32 @@ attach: 9 reads, 5 evictions, 13 deliveries, 0 stops
 const THREE_COUNTS: &str =
     "SELECT COUNT(*) FROM t; SELECT COUNT(*) FROM t; SELECT COUNT(*) FROM t WHERE v = 1;";
 
-// The names of the policies of the runs.
-fn names(alloc: Global, runs: &[PolicyRun]) -> Result<Vec<PolicyName>, Fail> {
-    Ok(runs.iter().map(|run| run.name).collect(alloc)?)
-}
+const FOUR_COMPARED: &[Told<'static>] = &[
+    // the shelf is called for each of the two texts, and its end
+    Told {
+        policies: Handed::Four,
+        words: COMPARED,
+        table: SIX_ROWS,
+        batch: THREE_COUNTS,
+        fail_gets: &[],
+        fail_puts: &[],
+        status: 0,
+        output: FOUR_LINES,
+        puts: None,
+        gets: Some(34),
+        calls: Some(4),
+        runs: Runs::Three(&[
+            PolicyName::Relevance,
+            PolicyName::Elevator,
+            PolicyName::Normal,
+            PolicyName::Attach,
+        ]),
+    },
+];
 
 #[test]
 fn four_policies_compared(rt: HostRuntime) -> Result<(), Fail> {
-    let alloc = rt.alloc();
-    let depot = MemDepot::new(alloc);
-    let boxes = four(alloc)?;
-    let left = run_over(&rt, alloc, boxes, COMPARED, SIX_ROWS, THREE_COUNTS, depot)?;
-    // each of the two texts, and its end
-    assert!(rt; left.calls == 4 && left.ended.status == 0 && left.ended.depot.gets == 34);
-    assert!(rt; left.written.as_slice() == FOUR_LINES.as_bytes());
-    let names = names(alloc, &left.ended.runs)?;
-    assert!(rt; names.as_slice() == POLICIES.as_slice());
-    assert!(rt; left.ended.runs.iter().all(|run| run.taken.len() == 3));
-    Ok(())
+    expect_told(&rt, rt.alloc(), FOUR_COMPARED)
 }
 
 // The second read fails, which stops the first query of the first run.
@@ -255,102 +409,181 @@ normal: 8 reads, 4 evictions, 13 deliveries, 0 stops
 attach: 9 reads, 5 evictions, 13 deliveries, 0 stops
 ";
 
+const ONE_LOST: &[Told<'static>] = &[Told {
+    policies: Handed::Four,
+    words: COMPARED,
+    table: SIX_ROWS,
+    batch: THREE_COUNTS,
+    fail_gets: &[2],
+    fail_puts: &[],
+    status: 1,
+    output: ONE_STOP,
+    puts: None,
+    gets: None,
+    calls: None,
+    runs: Runs::Any,
+}];
+
 #[test]
 fn a_query_that_one_run_loses(rt: HostRuntime) -> Result<(), Fail> {
-    let mut depot = MemDepot::new(rt.alloc());
-    depot.fail_gets.push(2)?;
-    let boxes = four(rt.alloc())?;
-    let left = run_over(
-        &rt,
-        rt.alloc(),
-        boxes,
-        COMPARED,
-        SIX_ROWS,
-        THREE_COUNTS,
-        depot,
-    )?;
-    assert!(rt; left.ended.status == 1 && left.written.as_slice() == ONE_STOP.as_bytes());
-    Ok(())
+    expect_told(&rt, rt.alloc(), ONE_LOST)
 }
+
+const NOT_STORED: &[Told<'static>] = &[Told {
+    policies: Handed::Four,
+    words: COMPARED,
+    table: SIX_ROWS,
+    batch: THREE_COUNTS,
+    fail_gets: &[],
+    fail_puts: &[14],
+    status: 5,
+    output: "stopped 5: piece 1 not stored\n",
+    puts: None,
+    gets: Some(17),
+    calls: None,
+    runs: Runs::Count(2),
+}];
 
 #[test]
 fn a_piece_that_the_third_run_does_not_store(rt: HostRuntime) -> Result<(), Fail> {
-    let mut depot = MemDepot::new(rt.alloc());
-    depot.fail_puts.push(14)?;
-    let boxes = four(rt.alloc())?;
-    let left = run_over(
-        &rt,
-        rt.alloc(),
-        boxes,
-        COMPARED,
-        SIX_ROWS,
-        THREE_COUNTS,
-        depot,
-    )?;
-    let Left { ended, written, .. } = left;
-    assert!(rt; ended.status == 5 && ended.runs.len() == 2 && ended.depot.gets == 17);
-    assert!(rt; written.as_slice() == b"stopped 5: piece 1 not stored\n".as_slice());
-    Ok(())
+    expect_told(&rt, rt.alloc(), NOT_STORED)
 }
 
 const TWO_LINES: &str = "attach: 6 reads, 2 evictions, 6 deliveries, 0 stops
 elevator: 6 reads, 2 evictions, 6 deliveries, 0 stops
 ";
 
+const ONE_REFUSED: &[Told<'static>] = &[Told {
+    policies: Handed::Two,
+    words: COMPARED,
+    table: SIX_ROWS,
+    batch: "SELECT COUNT(*) FROM t; SELECT w FROM t;",
+    fail_gets: &[],
+    fail_puts: &[],
+    status: 1,
+    output: TWO_LINES,
+    puts: None,
+    gets: None,
+    calls: None,
+    runs: Runs::Count(2),
+}];
+
 #[test]
 fn a_refused_query_in_a_comparison(rt: HostRuntime) -> Result<(), Fail> {
-    let boxes = two(rt.alloc())?;
-    let batch = "SELECT COUNT(*) FROM t; SELECT w FROM t;";
-    let (ended, written) = run_on(&rt, rt.alloc(), boxes, COMPARED, SIX_ROWS, batch)?;
-    assert!(rt; ended.status == 1 && ended.runs.len() == 2);
-    assert!(rt; written.as_slice() == TWO_LINES.as_bytes());
-    Ok(())
+    expect_told(&rt, rt.alloc(), ONE_REFUSED)
 }
+
+// No file is read, whether it is there or not.
+const NONE_COMPARED: &[Told<'static>] = &[
+    Told {
+        policies: Handed::None,
+        words: "--compare none.csv none.sql",
+        table: SIX_ROWS,
+        batch: COUNT,
+        fail_gets: &[],
+        fail_puts: &[],
+        status: 0,
+        output: "",
+        puts: Some(0),
+        gets: None,
+        calls: Some(0),
+        runs: Runs::Count(0),
+    },
+    Told {
+        policies: Handed::None,
+        words: COMPARED,
+        table: SIX_ROWS,
+        batch: THREE_COUNTS,
+        fail_gets: &[],
+        fail_puts: &[],
+        status: 0,
+        output: "",
+        puts: Some(0),
+        gets: None,
+        calls: Some(0),
+        runs: Runs::Count(0),
+    },
+];
 
 #[test]
 fn no_policies_compared(rt: HostRuntime) -> Result<(), Fail> {
-    // no file is read, whether it is there or not
-    for (words, batch) in [
-        ("--compare none.csv none.sql", COUNT),
-        (COMPARED, THREE_COUNTS),
-    ] {
-        let depot = MemDepot::new(rt.alloc());
-        let boxes = Vec::new(rt.alloc());
-        let left = run_over(&rt, rt.alloc(), boxes, words, SIX_ROWS, batch, depot)?;
-        assert!(rt; left.calls == 0 && left.ended.status == 0 && left.ended.depot.puts == 0);
-        assert!(rt; left.ended.runs.is_empty() && left.written.as_slice().is_empty());
-    }
-    Ok(())
+    expect_told(&rt, rt.alloc(), NONE_COMPARED)
 }
 
-// Words, the status and the line.
-const STOPPED: [(&str, u8, &str); 5] = [
-    (
-        "--compare --policy attach a.csv b.sql",
-        2,
-        "stopped 2: usage\n",
-    ),
-    ("--compare --summary a.csv b.sql", 2, "stopped 2: usage\n"),
-    ("--compare --threads 2 a.csv b.sql", 2, "stopped 2: usage\n"),
-    (
-        "--compare none.csv b.sql",
-        4,
-        "stopped 4: table read fault\n",
-    ),
-    (
-        "--compare --frames 3 a.csv b.sql",
-        8,
-        "stopped 8: 4 frames needed\n",
-    ),
+const STOPPED: &[Told<'static>] = &[
+    Told {
+        policies: Handed::Two,
+        words: "--compare --policy attach a.csv b.sql",
+        table: SIX_ROWS,
+        batch: COUNT,
+        fail_gets: &[],
+        fail_puts: &[],
+        status: 2,
+        output: USAGE,
+        puts: None,
+        gets: None,
+        calls: None,
+        runs: Runs::Count(0),
+    },
+    Told {
+        policies: Handed::Two,
+        words: "--compare --summary a.csv b.sql",
+        table: SIX_ROWS,
+        batch: COUNT,
+        fail_gets: &[],
+        fail_puts: &[],
+        status: 2,
+        output: USAGE,
+        puts: None,
+        gets: None,
+        calls: None,
+        runs: Runs::Count(0),
+    },
+    Told {
+        policies: Handed::Two,
+        words: "--compare --threads 2 a.csv b.sql",
+        table: SIX_ROWS,
+        batch: COUNT,
+        fail_gets: &[],
+        fail_puts: &[],
+        status: 2,
+        output: USAGE,
+        puts: None,
+        gets: None,
+        calls: None,
+        runs: Runs::Count(0),
+    },
+    Told {
+        policies: Handed::Two,
+        words: "--compare none.csv b.sql",
+        table: SIX_ROWS,
+        batch: COUNT,
+        fail_gets: &[],
+        fail_puts: &[],
+        status: 4,
+        output: "stopped 4: table read fault\n",
+        puts: None,
+        gets: None,
+        calls: None,
+        runs: Runs::Count(0),
+    },
+    Told {
+        policies: Handed::Two,
+        words: "--compare --frames 3 a.csv b.sql",
+        table: SIX_ROWS,
+        batch: COUNT,
+        fail_gets: &[],
+        fail_puts: &[],
+        status: 8,
+        output: "stopped 8: 4 frames needed\n",
+        puts: None,
+        gets: None,
+        calls: None,
+        runs: Runs::Count(0),
+    },
 ];
 
 #[test]
 fn comparisons_that_stop(rt: HostRuntime) -> Result<(), Fail> {
-    for (words, status, line) in STOPPED {
-        let boxes = two(rt.alloc())?;
-        let (ended, written) = run_on(&rt, rt.alloc(), boxes, words, SIX_ROWS, COUNT)?;
-        assert!(rt; ended.status == status && ended.runs.is_empty());
-        assert!(rt; written.as_slice() == line.as_bytes());
-    }
-    Ok(())
+    expect_told(&rt, rt.alloc(), STOPPED)
 }

@@ -1,9 +1,13 @@
 // Both layouts: the same answers, and what each of them reads.
-use super::{Case, SUMS, SUMS_PRINTED, WORDS, are_taken, expect_cases, run_on};
+use super::told::{Story, Told, expect_told};
+use super::{Case, SUMS, SUMS_PRINTED, WORDS, ends_so, expect_cases};
 use coop_outside::MemDepot;
-use scan_story::Entry;
 use std::alloc::Global;
+use std::process::Abort;
+use std::random::RandomSource;
+use std::sync::Wait;
 use std::test::Fail;
+use std::thread::Threads;
 use trial_stories::tables::TABLE_A;
 
 const COLUMNS: &str = "--threads 1 --rows 2 --layout column a.csv b.sql";
@@ -52,8 +56,45 @@ fn answers_by_columns(rt: HostRuntime) -> Result<(), Fail> {
     expect_cases(&rt, rt.alloc(), BY_COLUMNS)
 }
 
+// A statement, and what it prints.
+type Printed<'a> = (&'a str, &'a str);
+
+// Under the words each statement over the table prints this.
+fn expect_printed<R: Abort + RandomSource + Threads + Wait + Sync>(
+    rt: &R,
+    alloc: Global,
+    words: &str,
+    table: &str,
+    rows: &[Printed<'_>],
+) -> Result<(), Fail> {
+    for (statement, output) in rows {
+        let is_printed = ends_so(
+            rt,
+            alloc,
+            &(words, table, *statement, 0, *output),
+            MemDepot::new(alloc),
+        )?;
+        assert!(rt; is_printed, "{statement}");
+    }
+    Ok(())
+}
+
+// The same under each of these words.
+fn expect_each_way<R: Abort + RandomSource + Threads + Wait + Sync>(
+    rt: &R,
+    alloc: Global,
+    ways: &[&str],
+    table: &str,
+    rows: &[Printed<'_>],
+) -> Result<(), Fail> {
+    for words in ways {
+        expect_printed(rt, alloc, words, table, rows)?;
+    }
+    Ok(())
+}
+
 // Statements, and the first rows that they print.
-const ORDERED: [(&str, &str); 4] = [
+const ORDERED: &[Printed<'static>] = &[
     (
         "SELECT id, pay FROM t ORDER BY pay DESC, id LIMIT 3",
         "query 1\n4, 40\n2, 20\n1, 10\n",
@@ -67,7 +108,7 @@ const ORDERED: [(&str, &str); 4] = [
 ];
 
 // The words under which they are printed.
-const ORDERED_BY: [&str; 4] = [
+const ORDERED_BY: &[&str] = &[
     WORDS,
     "--threads 2 --rows 2 a.csv b.sql",
     COLUMNS,
@@ -76,22 +117,15 @@ const ORDERED_BY: [&str; 4] = [
 
 #[test]
 fn first_rows_in_an_order(rt: HostRuntime) -> Result<(), Fail> {
-    for words in ORDERED_BY {
-        for (statement, output) in ORDERED {
-            expect_cases(&rt, rt.alloc(), &[(words, TABLE_A, statement, 0, output)])?;
-        }
-    }
-    Ok(())
+    expect_each_way(&rt, rt.alloc(), ORDERED_BY, TABLE_A, ORDERED)
 }
 
 const TO_64_BITS: &str = "v\n9223372036854775807\n1\n-1\n";
 
-const SUM: &str = "SELECT SUM(v) FROM t";
-
-const GREATEST: &str = "query 1\n9223372036854775807\n";
+const GREATEST: &[Printed<'static>] = &[("SELECT SUM(v) FROM t", "query 1\n9223372036854775807\n")];
 
 // Both layouts, on one worker and on two, with one to three rows a chunk.
-const EACH_WAY: [&str; 12] = [
+const EACH_WAY: &[&str] = &[
     "--threads 1 --rows 1 --layout row a.csv b.sql",
     "--threads 1 --rows 2 --layout row a.csv b.sql",
     "--threads 1 --rows 3 --layout row a.csv b.sql",
@@ -108,81 +142,101 @@ const EACH_WAY: [&str; 12] = [
 
 #[test]
 fn a_sum_that_passes_64_bits_on_the_way(rt: HostRuntime) -> Result<(), Fail> {
-    for words in EACH_WAY {
-        expect_cases(&rt, rt.alloc(), &[(words, TO_64_BITS, SUM, 0, GREATEST)])?;
-    }
-    Ok(())
+    expect_each_way(&rt, rt.alloc(), EACH_WAY, TO_64_BITS, GREATEST)
 }
+
+const COUNT_AND_SUMS: &str =
+    "SELECT COUNT(*) FROM t; SELECT dept, SUM(pay), COUNT(pay) FROM t GROUP BY dept;";
+
+const WITHOUT_ROWS: &[Told<'static>] = &[
+    Told {
+        words: WORDS,
+        table: "id,dept,pay\n",
+        batch: COUNT_AND_SUMS,
+        fail_gets: &[],
+        fail_puts: &[],
+        status: 0,
+        output: &["query 1\n0\nquery 2\n"],
+        puts: Some(0),
+        gets: Some(0),
+        taken: None,
+        story: Story::Any,
+    },
+    Told {
+        words: COLUMNS,
+        table: "id,dept,pay\n",
+        batch: COUNT_AND_SUMS,
+        fail_gets: &[],
+        fail_puts: &[],
+        status: 0,
+        output: &["query 1\n0\nquery 2\n"],
+        puts: Some(0),
+        gets: Some(0),
+        taken: None,
+        story: Story::Any,
+    },
+];
 
 #[test]
 fn a_table_without_rows(rt: HostRuntime) -> Result<(), Fail> {
-    let both = "SELECT COUNT(*) FROM t; SELECT dept, SUM(pay), COUNT(pay) FROM t GROUP BY dept;";
-    for words in [WORDS, COLUMNS] {
-        let depot = MemDepot::new(rt.alloc());
-        let (ended, taken) = run_on(&rt, rt.alloc(), words, "id,dept,pay\n", both, depot)?;
-        assert!(rt; ended.status == 0 && ended.depot.puts == 0 && ended.depot.gets == 0);
-        assert!(rt; taken.as_slice() == b"query 1\n0\nquery 2\n".as_slice());
-    }
-    Ok(())
+    expect_told(&rt, rt.alloc(), WITHOUT_ROWS)
 }
 
-// The frames and pieces of the entries that tell of a read.
-fn filled(alloc: Global, story: &[Entry]) -> Result<Vec<(u32, u32)>, Fail> {
-    let mut all = Vec::new(alloc);
-    for entry in story {
-        if let Entry::Filled { frame, piece, .. } = *entry {
-            all.push((frame, piece))?;
-        }
-    }
-    Ok(all)
-}
+const READ: &[Told<'static>] = &[Told {
+    words: WORDS,
+    table: TABLE_A,
+    batch: "SELECT SUM(pay) FROM t WHERE id >= 4;",
+    fail_gets: &[],
+    fail_puts: &[],
+    status: 0,
+    output: &["query 1\n35\n"],
+    puts: Some(3),
+    gets: Some(2),
+    taken: Some(&[(1, 0, 0, &[1, 2])]),
+    story: Story::Any,
+}];
 
 #[test]
 fn what_is_read(rt: HostRuntime) -> Result<(), Fail> {
-    let sum = "SELECT SUM(pay) FROM t WHERE id >= 4;";
-    let (ended, _) = run_on(
-        &rt,
-        rt.alloc(),
-        WORDS,
-        TABLE_A,
-        sum,
-        MemDepot::new(rt.alloc()),
-    )?;
-    assert!(rt; ended.depot.puts == 3 && ended.depot.gets == 2);
-    assert!(rt; are_taken(&ended.taken, &[(1, 0, 0, &[1, 2])]));
-    Ok(())
+    expect_told(&rt, rt.alloc(), READ)
 }
+
+const ONE_COLUMN: &[Told<'static>] = &[Told {
+    words: COLUMNS,
+    table: TABLE_A,
+    batch: "SELECT SUM(pay) FROM t;",
+    fail_gets: &[],
+    fail_puts: &[],
+    status: 0,
+    output: &["query 1\n65\n"],
+    puts: Some(9),
+    gets: Some(3),
+    taken: None,
+    story: Story::Reads(&[(0, 2), (1, 5), (2, 8)]),
+}];
 
 #[test]
 fn one_column_is_read(rt: HostRuntime) -> Result<(), Fail> {
-    let (ended, taken) = run_on(
-        &rt,
-        rt.alloc(),
-        COLUMNS,
-        TABLE_A,
-        "SELECT SUM(pay) FROM t;",
-        MemDepot::new(rt.alloc()),
-    )?;
-    assert!(rt; ended.depot.puts == 9 && ended.depot.gets == 3);
-    assert!(rt; taken.as_slice() == b"query 1\n65\n".as_slice());
-    let reads = filled(rt.alloc(), ended.story.as_slice())?;
-    assert!(rt; reads.as_slice() == [(0, 2), (1, 5), (2, 8)].as_slice());
-    Ok(())
+    expect_told(&rt, rt.alloc(), ONE_COLUMN)
 }
+
+const NOTHING_READ: &[Told<'static>] = &[Told {
+    words: WORDS,
+    table: TABLE_A,
+    batch: "SELECT COUNT(*) FROM t WHERE id > 9;",
+    fail_gets: &[],
+    fail_puts: &[],
+    status: 0,
+    output: &["query 1\n0\n"],
+    puts: None,
+    gets: Some(0),
+    taken: None,
+    story: Story::Any,
+}];
 
 #[test]
 fn nothing_is_read_that_no_row_needs(rt: HostRuntime) -> Result<(), Fail> {
-    let none = "SELECT COUNT(*) FROM t WHERE id > 9;";
-    let (ended, _) = run_on(
-        &rt,
-        rt.alloc(),
-        WORDS,
-        TABLE_A,
-        none,
-        MemDepot::new(rt.alloc()),
-    )?;
-    assert!(rt; ended.depot.gets == 0);
-    Ok(())
+    expect_told(&rt, rt.alloc(), NOTHING_READ)
 }
 
 const TOO_FEW_FRAMES: &[Case<'static>] = &[(

@@ -1,13 +1,16 @@
 // Workers that meet: two hold chunks at once, and the manager lies free while a piece is read.
-ghost use Rattle.std.specs.Prelude.{◌≡◌};
+ghost use Rattle.std.specs.Prelude.{◌≡◌, ◌≤◌, ◌^◌};
 
 use super::{COUNT_TWICE, run_beside};
 use coop_outside::{Depot, DepotFault, Failed, MemDepot};
 use cscan::Gate;
+use std::alloc::Global;
+use std::random::RandomSource;
 use std::sync::Wait;
 use std::sync::atomic::{AtomicU64, Ordering};
 use std::test::Fail;
 use std::thread;
+use std::thread::Threads;
 use trial_stories::tables::TABLE_A;
 
 const TWO_WORKERS: &str = "--threads 2 --frames 7 --rows 2 a.csv b.sql";
@@ -24,6 +27,22 @@ fn await_flag(flag: &AtomicU64) -> bool {
         thread::yield_now();
     }
     false
+}
+
+// Whether a batch over table A on two workers beside a gate is answered so.
+fn is_answered<D: Depot + Send, T: Gate + Sync, R: RandomSource + Threads + Wait + Sync>(
+    rt: &R,
+    alloc: Global,
+    batch: &str,
+    answers: &str,
+    depot: D,
+    gate: &T,
+) -> Result<bool, Fail>
+    requires gets { D.gets depot ≤ 2 ^ 63 }
+{
+    let (table, batch) = (TABLE_A.as_bytes(), batch.as_bytes());
+    let left = run_beside(rt, alloc, TWO_WORKERS, table, batch, depot, gate)?;
+    Ok(left.ended.status == 0 && left.output.as_slice() == answers.as_bytes())
 }
 
 // Holds the first chunk of worker 0 until worker 1 holds one.
@@ -55,11 +74,10 @@ fn two_workers_hold_chunks_at_once(rt: HostRuntime) -> Result<(), Fail> {
         second: AtomicU64::new(0),
         met: AtomicU64::new(0),
     };
-    let (table, batch) = (TABLE_A.as_bytes(), COUNT_TWICE.as_bytes());
     let depot = MemDepot::new(rt.alloc());
-    let (ended, taken) = run_beside(&rt, rt.alloc(), TWO_WORKERS, table, batch, depot, &gate)?;
-    assert!(rt; ended.status == 0 && gate.met.load(Ordering::SeqCst) == 1);
-    assert!(rt; taken.as_slice() == b"query 1\n5\nquery 2\n5\n".as_slice());
+    let answers = "query 1\n5\nquery 2\n5\n";
+    let is_answered = is_answered(&rt, rt.alloc(), COUNT_TWICE, answers, depot, &gate)?;
+    assert!(rt; is_answered && gate.met.load(Ordering::SeqCst) == 1);
     Ok(())
 }
 
@@ -126,6 +144,9 @@ impl Depot for SlowDepot<'_> {
     }
 }
 
+const FOUR_COUNTS: &str = "SELECT COUNT(*) FROM t; SELECT COUNT(*) FROM t WHERE id <= 2;
+    SELECT COUNT(*) FROM t WHERE id > 9; SELECT COUNT(*) FROM t WHERE id <= 2;";
+
 #[test]
 fn the_baton_lies_free_during_a_get(rt: HostRuntime) -> Result<(), Fail> {
     let signs = Signs {
@@ -138,12 +159,8 @@ fn the_baton_lies_free_during_a_get(rt: HostRuntime) -> Result<(), Fail> {
         inner: MemDepot::new(rt.alloc()),
         signs: &signs,
     };
-    let batch = b"SELECT COUNT(*) FROM t; SELECT COUNT(*) FROM t WHERE id <= 2;
-        SELECT COUNT(*) FROM t WHERE id > 9; SELECT COUNT(*) FROM t WHERE id <= 2;"
-        .as_slice();
-    let table = TABLE_A.as_bytes();
-    let (ended, taken) = run_beside(&rt, rt.alloc(), TWO_WORKERS, table, batch, depot, &gate)?;
-    assert!(rt; ended.status == 0 && signs.late.load(Ordering::SeqCst) == 0);
-    assert!(rt; taken.as_slice() == b"query 1\n5\nquery 2\n2\nquery 3\n0\nquery 4\n2\n".as_slice());
+    let answers = "query 1\n5\nquery 2\n2\nquery 3\n0\nquery 4\n2\n";
+    let is_answered = is_answered(&rt, rt.alloc(), FOUR_COUNTS, answers, depot, &gate)?;
+    assert!(rt; is_answered && signs.late.load(Ordering::SeqCst) == 0);
     Ok(())
 }
