@@ -1,5 +1,5 @@
 // Runs with policies in boxes, by the worked examples.
-ghost use Rattle.std.specs.Prelude.{◌≡◌, ◌≤◌, IfOk, length};
+ghost use Rattle.std.specs.Prelude.{◌≡◌, ◌≤◌, length};
 
 use super::told::{depot_of, is_count};
 use super::{COUNT, COUNT_TWICE, WORDS, shelf_of, sink_of, words_of};
@@ -10,7 +10,7 @@ use policy_box::Elevator;
 use policy_plain::{Attach, Normal};
 use relevance::{Policy, Relevance};
 use scan_story::{Entry, PolicyName};
-use std::alloc::Global;
+use std::alloc::{AllocError, Global};
 use std::hash::RandomState;
 use std::process::Abort;
 use std::random::RandomSource;
@@ -22,43 +22,32 @@ use trial_stories::tables::{SIX_ROWS, TABLE_A};
 type Boxes = Vec<Box<dyn Policy + Send>>;
 
 // The four policies, in the order in which the program hands them in.
-fn four(alloc: Global) -> Result<Boxes, Fail>
-    ensures { IfOk result (λ policies. length policies.items ≤ 16) }
-{
-    let mut policies: Boxes = Vec::new(alloc);
-    policies.push(Box::new(alloc, Relevance)?)?;
-    policies.push(Box::new(alloc, Elevator::new())?)?;
-    policies.push(Box::new(alloc, Normal::new())?)?;
-    policies.push(Box::new(alloc, Attach::new())?)?;
-    Ok(policies)
-}
+const FOUR: &[PolicyName] = &[
+    PolicyName::Relevance,
+    PolicyName::Elevator,
+    PolicyName::Normal,
+    PolicyName::Attach,
+];
 
 // Two policies, neither of which is relevance.
-fn two(alloc: Global) -> Result<Boxes, Fail>
-    ensures { IfOk result (λ policies. length policies.items ≤ 16) }
-{
-    let mut policies: Boxes = Vec::new(alloc);
-    policies.push(Box::new(alloc, Attach::new())?)?;
-    policies.push(Box::new(alloc, Elevator::new())?)?;
-    Ok(policies)
-}
+const TWO: &[PolicyName] = &[PolicyName::Attach, PolicyName::Elevator];
 
-// The policies that a run is handed.
-#[derive(Clone, Copy)]
-enum Handed {
-    Four,
-    Two,
-    None,
-}
-
-fn boxes_of(alloc: Global, handed: Handed) -> Result<Boxes, Fail>
-    ensures { IfOk result (λ policies. length policies.items ≤ 16) }
-{
-    match handed {
-        Handed::Four => four(alloc),
-        Handed::Two => two(alloc),
-        Handed::None => Ok(Vec::new(alloc)),
+// A new policy of this name.
+fn box_of(alloc: Global, name: PolicyName) -> Result<Box<dyn Policy + Send>, AllocError> {
+    match name {
+        PolicyName::Relevance => Ok(Box::new(alloc, Relevance)?),
+        PolicyName::Elevator => Ok(Box::new(alloc, Elevator::new())?),
+        PolicyName::Normal => Ok(Box::new(alloc, Normal::new())?),
+        PolicyName::Attach => Ok(Box::new(alloc, Attach::new())?),
     }
+}
+
+fn boxes_of(alloc: Global, names: &[PolicyName]) -> Result<Boxes, AllocError> {
+    let mut policies: Boxes = Vec::new(alloc);
+    for name in names {
+        policies.push(box_of(alloc, *name)?)?;
+    }
+    Ok(policies)
 }
 
 // What a run leaves, what it wrote, and how often the shelf was called.
@@ -144,7 +133,7 @@ fn are_runs(runs: &[PolicyRun], wanted: &Runs<'_>) -> bool {
 
 // A run with policies in boxes over a depot in memory, and what it comes to; `None` where that isn't told.
 struct Told<'a> {
-    policies: Handed,
+    policies: &'a [PolicyName],
     words: &'a str,
     table: &'a str,
     batch: &'a str,
@@ -159,19 +148,24 @@ struct Told<'a> {
     runs: Runs<'a>,
 }
 
-// What the run leaves.
-fn left_by<R: RandomSource + Threads + Wait + Sync>(
+// A run of these words with policies, over a depot.
+fn run_on<R: Abort + Threads + Wait + Sync>(
     rt: &R,
     alloc: Global,
+    keys: RandomState,
+    policies: Boxes,
     told: &Told<'_>,
-) -> Result<Left, Fail> {
-    let keys = RandomState::new(rt)?;
+    depot: MemDepot,
+) -> Result<Left, Fail>
+    requires gets { depot.gets ≡ 0 }
+{
+    assert!(rt; policies.len() <= 16);
     let words = words_of(alloc, told.words)?;
     let mut shelf = shelf_of(alloc, told.table.as_bytes(), told.batch.as_bytes())?;
-    let depot = depot_of(alloc, told.fail_gets, told.fail_puts)?;
-    let boxes = boxes_of(alloc, told.policies)?;
     let mut out = sink_of(alloc, 100);
-    let ended = run_over(rt, alloc, keys, boxes, &words, &mut shelf, depot, &mut out);
+    let ended = run_over(
+        rt, alloc, keys, policies, &words, &mut shelf, depot, &mut out,
+    );
     Ok(Left {
         ended,
         output: out.taken,
@@ -179,8 +173,20 @@ fn left_by<R: RandomSource + Threads + Wait + Sync>(
     })
 }
 
+// What the run leaves.
+fn left_by<R: Abort + RandomSource + Threads + Wait + Sync>(
+    rt: &R,
+    alloc: Global,
+    told: &Told<'_>,
+) -> Result<Left, Fail> {
+    let keys = RandomState::new(rt)?;
+    let policies = boxes_of(alloc, told.policies)?;
+    let depot = depot_of(alloc, told.fail_gets, told.fail_puts)?;
+    run_on(rt, alloc, keys, policies, told, depot)
+}
+
 // Whether the run comes to what is told.
-fn is_as_told<R: RandomSource + Threads + Wait + Sync>(
+fn is_as_told<R: Abort + RandomSource + Threads + Wait + Sync>(
     rt: &R,
     alloc: Global,
     told: &Told<'_>,
@@ -214,7 +220,7 @@ const BOTH_SIX: &str = "query 1\n6\nquery 2\n6\n";
 // Two counts over six chunks.
 const EACH_POLICY: &[Told<'static>] = &[
     Told {
-        policies: Handed::Four,
+        policies: FOUR,
         words: "--threads 1 --frames 4 --rows 1 a.csv b.sql",
         table: SIX_ROWS,
         batch: COUNT_TWICE,
@@ -228,7 +234,7 @@ const EACH_POLICY: &[Told<'static>] = &[
         runs: Runs::Shared(PolicyName::Relevance, &[2, 3, 4, 5, 0, 1], &[0, 1, 2, 0]),
     },
     Told {
-        policies: Handed::Four,
+        policies: FOUR,
         words: "--threads 1 --frames 4 --rows 1 --policy elevator a.csv b.sql",
         table: SIX_ROWS,
         batch: COUNT_TWICE,
@@ -242,7 +248,7 @@ const EACH_POLICY: &[Told<'static>] = &[
         runs: Runs::Shared(PolicyName::Elevator, &[2, 3, 4, 5, 0, 1], &[0, 1, 2, 3]),
     },
     Told {
-        policies: Handed::Four,
+        policies: FOUR,
         words: "--threads 1 --frames 4 --rows 1 --policy normal a.csv b.sql",
         table: SIX_ROWS,
         batch: COUNT_TWICE,
@@ -256,7 +262,7 @@ const EACH_POLICY: &[Told<'static>] = &[
         runs: Runs::Shared(PolicyName::Normal, &[2, 3, 4, 5, 0, 1], &[0, 1, 2, 3]),
     },
     Told {
-        policies: Handed::Four,
+        policies: FOUR,
         words: "--threads 1 --frames 4 --rows 1 --policy attach a.csv b.sql",
         table: SIX_ROWS,
         batch: COUNT_TWICE,
@@ -277,7 +283,7 @@ fn two_counts_under_each_policy(rt: HostRuntime) -> Result<(), Fail> {
 }
 
 const ALL_ROWS: &[Told<'static>] = &[Told {
-    policies: Handed::Four,
+    policies: FOUR,
     words: WORDS,
     table: TABLE_A,
     batch: COUNT,
@@ -300,7 +306,7 @@ const USAGE: &str = "stopped 2: usage\n";
 
 const NOT_THERE: &[Told<'static>] = &[
     Told {
-        policies: Handed::Four,
+        policies: FOUR,
         words: "--policy fast --threads 1 a.csv b.sql",
         table: TABLE_A,
         batch: COUNT,
@@ -314,7 +320,7 @@ const NOT_THERE: &[Told<'static>] = &[
         runs: Runs::Count(0),
     },
     Told {
-        policies: Handed::Two,
+        policies: TWO,
         words: "--policy normal --threads 1 a.csv b.sql",
         table: TABLE_A,
         batch: COUNT,
@@ -329,7 +335,7 @@ const NOT_THERE: &[Told<'static>] = &[
     },
     // the list has no relevance, which stands where no policy is named
     Told {
-        policies: Handed::Two,
+        policies: TWO,
         words: "--threads 1 a.csv b.sql",
         table: TABLE_A,
         batch: COUNT,
@@ -343,7 +349,7 @@ const NOT_THERE: &[Told<'static>] = &[
         runs: Runs::Count(0),
     },
     Told {
-        policies: Handed::None,
+        policies: &[],
         words: "--threads 1 a.csv b.sql",
         table: TABLE_A,
         batch: COUNT,
@@ -377,7 +383,7 @@ const THREE_COUNTS: &str =
 const FOUR_COMPARED: &[Told<'static>] = &[
     // the shelf is called for each of the two texts, and its end
     Told {
-        policies: Handed::Four,
+        policies: FOUR,
         words: COMPARED,
         table: SIX_ROWS,
         batch: THREE_COUNTS,
@@ -410,7 +416,7 @@ attach: 9 reads, 5 evictions, 13 deliveries, 0 stops
 ";
 
 const ONE_LOST: &[Told<'static>] = &[Told {
-    policies: Handed::Four,
+    policies: FOUR,
     words: COMPARED,
     table: SIX_ROWS,
     batch: THREE_COUNTS,
@@ -430,7 +436,7 @@ fn a_query_that_one_run_loses(rt: HostRuntime) -> Result<(), Fail> {
 }
 
 const NOT_STORED: &[Told<'static>] = &[Told {
-    policies: Handed::Four,
+    policies: FOUR,
     words: COMPARED,
     table: SIX_ROWS,
     batch: THREE_COUNTS,
@@ -454,7 +460,7 @@ elevator: 6 reads, 2 evictions, 6 deliveries, 0 stops
 ";
 
 const ONE_REFUSED: &[Told<'static>] = &[Told {
-    policies: Handed::Two,
+    policies: TWO,
     words: COMPARED,
     table: SIX_ROWS,
     batch: "SELECT COUNT(*) FROM t; SELECT w FROM t;",
@@ -476,7 +482,7 @@ fn a_refused_query_in_a_comparison(rt: HostRuntime) -> Result<(), Fail> {
 // No file is read, whether it is there or not.
 const NONE_COMPARED: &[Told<'static>] = &[
     Told {
-        policies: Handed::None,
+        policies: &[],
         words: "--compare none.csv none.sql",
         table: SIX_ROWS,
         batch: COUNT,
@@ -490,7 +496,7 @@ const NONE_COMPARED: &[Told<'static>] = &[
         runs: Runs::Count(0),
     },
     Told {
-        policies: Handed::None,
+        policies: &[],
         words: COMPARED,
         table: SIX_ROWS,
         batch: THREE_COUNTS,
@@ -512,7 +518,7 @@ fn no_policies_compared(rt: HostRuntime) -> Result<(), Fail> {
 
 const STOPPED: &[Told<'static>] = &[
     Told {
-        policies: Handed::Two,
+        policies: TWO,
         words: "--compare --policy attach a.csv b.sql",
         table: SIX_ROWS,
         batch: COUNT,
@@ -526,7 +532,7 @@ const STOPPED: &[Told<'static>] = &[
         runs: Runs::Count(0),
     },
     Told {
-        policies: Handed::Two,
+        policies: TWO,
         words: "--compare --summary a.csv b.sql",
         table: SIX_ROWS,
         batch: COUNT,
@@ -540,7 +546,7 @@ const STOPPED: &[Told<'static>] = &[
         runs: Runs::Count(0),
     },
     Told {
-        policies: Handed::Two,
+        policies: TWO,
         words: "--compare --threads 2 a.csv b.sql",
         table: SIX_ROWS,
         batch: COUNT,
@@ -554,7 +560,7 @@ const STOPPED: &[Told<'static>] = &[
         runs: Runs::Count(0),
     },
     Told {
-        policies: Handed::Two,
+        policies: TWO,
         words: "--compare none.csv b.sql",
         table: SIX_ROWS,
         batch: COUNT,
@@ -568,7 +574,7 @@ const STOPPED: &[Told<'static>] = &[
         runs: Runs::Count(0),
     },
     Told {
-        policies: Handed::Two,
+        policies: TWO,
         words: "--compare --frames 3 a.csv b.sql",
         table: SIX_ROWS,
         batch: COUNT,

@@ -193,18 +193,29 @@ struct Faulty<'a> {
     output: &'a str,
 }
 
+// The status of a run of the words of a line over a shelf, into a sink.
+fn status_over<R: RandomSource + Threads + Wait + Sync>(
+    rt: &R,
+    alloc: Global,
+    line: &str,
+    shelf: &mut MemShelf,
+    out: &mut MemSink,
+) -> Result<u8, Fail> {
+    let words = words_of(alloc, line)?;
+    let ended = run_over(rt, alloc, &words, shelf, MemDepot::new(alloc), &NoGate, out)?;
+    Ok(ended.status)
+}
+
 // Whether the run has its status and output.
 fn ends_so_by_faults<R: RandomSource + Threads + Wait + Sync>(
     rt: &R,
     alloc: Global,
     row: &Faulty<'_>,
 ) -> Result<bool, Fail> {
-    let words = words_of(alloc, row.words)?;
     let mut shelf = failing_shelf(alloc, row.fail_read)?;
     let mut out = failing_sink(alloc, row.per_call, row.fail_write)?;
-    let depot = MemDepot::new(alloc);
-    let ended = run_over(rt, alloc, &words, &mut shelf, depot, &NoGate, &mut out)?;
-    Ok(ended.status == row.status && out.taken.as_slice() == row.output.as_bytes())
+    let status = status_over(rt, alloc, row.words, &mut shelf, &mut out)?;
+    Ok(status == row.status && out.taken.as_slice() == row.output.as_bytes())
 }
 
 fn expect_faulty<R: Abort + RandomSource + Threads + Wait + Sync>(
