@@ -213,7 +213,20 @@ fn end_of<R: Abort + RandomSource + Threads + Wait + Sync>(
     ended_in_memory(rt, alloc, keys, &trial, &gets)
 }
 
-// The story is legal and whole, and the answers are those over the table.
+// Whether the story is legal and whole, and the answers are those over the table, of which at most so many are lost.
+fn is_right_end(
+    rt: &impl Abort,
+    alloc: Global,
+    queries: &[Query<'_>],
+    options: &Options,
+    end: &BatchEnd<MemDepot>,
+    failing: u64,
+) -> Result<bool, Fail> {
+    let s = setting_of(alloc, queries, options)?;
+    let is_sound = is_sound(rt, alloc, &s, &end.ran.story, end.depot.faults)?;
+    Ok(is_sound && are_right(&end.answers, queries, failing))
+}
+
 fn expect_round<R: Abort + RandomSource + Threads + Wait + Sync>(
     rt: &R,
     alloc: Global,
@@ -222,12 +235,8 @@ fn expect_round<R: Abort + RandomSource + Threads + Wait + Sync>(
     failing: u64,
 ) -> Result<(), Fail> {
     let end = end_of(rt, alloc, queries, options, failing)?;
-    let s = setting_of(alloc, queries, &options)?;
-    let is_sound = is_sound(rt, alloc, &s, &end.ran.story, end.depot.faults)?;
-    assert!(rt;
-        is_sound && are_right(&end.answers, queries, failing),
-        "{failing} fail"
-    );
+    let is_right = is_right_end(rt, alloc, queries, &options, &end, failing)?;
+    assert!(rt; is_right, "{failing} fail");
     Ok(())
 }
 
