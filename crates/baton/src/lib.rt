@@ -16,6 +16,7 @@ mod bell;
 pub mod example;
 mod line;
 mod pass;
+mod place;
 pub mod rule;
 pub mod view;
 

@@ -29,6 +29,7 @@ mod rounds;
 mod row_cells;
 mod scan;
 mod station;
+mod waking;
 
 pub use gate::{Gate, NoGate};
 pub use held::Held;

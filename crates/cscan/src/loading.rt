@@ -14,6 +14,7 @@ ghost use Rattle.cscan.specs.Stations.{IsSeated};
 use crate::desk::take_desk;
 use crate::filling::{Failure, read_all};
 use crate::station::Station;
+use crate::waking::Woken;
 use abm_policy::{Desk, Ticket};
 use baton::Baton;
 use coop_outside::Depot;
@@ -81,6 +82,8 @@ pub(crate) fn load<S: Origin, C: Content, P: Policy, D: Depot, R: Wait>(
     );
     let mut desk = take_desk(rt, baton, &mut station.pass);
     settle(&mut desk, ticket, depot, read);
+    let bell = baton.bell();
+    let woken = Woken::after_load(bell, desk.book());
     baton.give(rt, &mut station.pass, desk);
-    baton.bell().ring();
+    woken.ring(bell);
 }

@@ -7,93 +7,120 @@ use scan_story::Phase;
 use std::sync::Wait;
 use std::time::Duration;
 
-// How often in a row a scan lets others go first.
-const SLEEPS: u32 = 16;
+// The microseconds of a sleep for others, for each of them that has a chunk to take.
+const FOR_EACH: u32 = 300;
 
-// How often of these in a row while nobody does anything.
-const QUIET_SLEEPS: u32 = 4;
+// The microseconds after which a sleep for a load ends, whether or not it was rung for.
+const FOR_LOAD: u32 = 10_000;
 
-// The microseconds that it sleeps for them each time.
-const FOR_OTHERS: u64 = 40;
+// Of how many active queries one may be a chunk further ahead.
+const QUERIES_PER_CHUNK: u32 = 8;
 
-// The microseconds after which a sleep for a load ends, whether or not it was rung.
-const FOR_LOAD: u64 = 10_000;
-
-/// Why a scan turns again.
+/// What a worker does before it turns again.
 #[derive(Clone, Copy)]
 pub(crate) enum Pause {
-    /// It has loaded.
+    /// Nothing.
     None,
-    /// A load of another is underway.
-    ForLoad,
-    /// Others have chunks to take.
-    ForOthers,
+    /// It sleeps until it is rung for once more than so often, and no longer than so many microseconds.
+    Sleep { rings: u64, most: u32 },
 }
 
-/// How often a scan still lets others go first before it loads.
-#[derive(Drop)]
+impl Pause {
+    // The worker lies down until the load underway has ended.
+    fn for_load(bell: &Bell, worker: u32, query: u32) -> Pause {
+        Pause::Sleep {
+            rings: bell.lie_down(worker, query),
+            most: FOR_LOAD,
+        }
+    }
+
+    // The worker lies down for so many others.
+    fn for_others(bell: &Bell, worker: u32, query: u32, others: u32) -> Pause
+        requires { others ≤ 256 }
+    {
+        Pause::Sleep {
+            rings: bell.lie_down(worker, query),
+            most: others * FOR_EACH,
+        }
+    }
+}
+
+/// Whether a scan has let others go first since it loaded, and what it does before it turns again.
+#[derive(Clone, Copy)]
 pub(crate) struct Patience {
-    sleeps: u32,
-    quiet_sleeps: u32,
-    // How many entries the query had waited when it last let others go first.
-    waited: u64,
+    is_over: bool,
+    pub(crate) pause: Pause,
 }
 
 impl Patience {
     pub(crate) fn new() -> Patience {
         Patience {
-            sleeps: SLEEPS,
-            quiet_sleeps: QUIET_SLEEPS,
-            waited: 0,
+            is_over: false,
+            pause: Pause::None,
         }
     }
 
-    /// Whether the query lets others go first now: it would load, another has a chunk to take, and its patience isn't at an
-    /// end.
-    pub(crate) fn lets_others_first(&mut self, book: &Book, query: u32) -> bool
+    /// Lies down where a turn of the query would be NotYet, and where it would load while another one is far behind and the
+    /// scan hasn't yet let others go first. Whether it lies.
+    pub(crate) fn lies_down(&mut self, bell: &Bell, book: &Book, worker: u32, query: u32) -> bool
         requires query { query ≤ 256 }
     {
-        if self.sleeps == 0 || self.quiet_sleeps == 0 {
+        if book.phase(query) != Phase::Active || book.needed(query) == 0 {
             return false;
         }
-        if !book.is_trigger(query) || book.available(query) > 0 || !others_have(book, query) {
+        if book.available(query) > 0 {
             return false;
         }
-        let waited = book.waiting(query);
-        self.quiet_sleeps = if waited == self.waited {
-            self.quiet_sleeps - 1
-        } else {
-            QUIET_SLEEPS
-        };
-        self.sleeps -= 1;
-        self.waited = waited;
+        if book.underway().is_some() {
+            self.pause = Pause::for_load(bell, worker, query);
+            return true;
+        }
+        if self.is_over || others_with(book, query, far(book)) == 0 {
+            return false;
+        }
+        self.is_over = true;
+        let others = others_with(book, query, 1);
+        self.pause = Pause::for_others(bell, worker, query, others);
         true
     }
 
-    /// Waits as the pause says. The bell's rings were read before the turn.
-    pub(crate) fn pause<R: Wait>(&mut self, rt: &R, bell: &Bell, rings: u64, pause: Pause) {
+    /// Sleeps as the pause says.
+    pub(crate) fn pause<R: Wait>(&mut self, rt: &R, bell: &Bell, worker: u32, pause: Pause) {
         match pause {
-            Pause::None => *self = Patience::new(),
-            Pause::ForLoad => bell.wait(rt, rings, Duration::from_micros(FOR_LOAD)),
-            Pause::ForOthers => bell.wait(rt, rings, Duration::from_micros(FOR_OTHERS)),
+            Pause::None => self.is_over = false,
+            Pause::Sleep { rings, most } => {
+                bell.sleep(rt, worker, rings, Duration::from_micros(most as u64));
+            }
         }
     }
 }
 
-/// Whether no load is underway, and no other query has a chunk to take.
-pub(crate) fn others_have_none(book: &Book, query: u32) -> bool {
-    book.underway().is_none() && !others_have(book, query)
+// A query with so many chunks to take is far behind.
+fn far(book: &Book) -> u32 {
+    (book.running() / QUERIES_PER_CHUNK).max(1)
 }
 
-// Whether another query has a chunk to take.
-fn others_have(book: &Book, query: u32) -> bool {
-    if book.running() < 2 {
-        return false;
-    }
+/// Whether another query is so far behind that who sleeps had better not load yet.
+pub(crate) fn somebody_lags(book: &Book, query: u32) -> bool {
+    others_with(book, query, far(book) / 2 + 1) > 0
+}
+
+// How many other queries have so many chunks to take.
+fn others_with(book: &Book, query: u32, chunks: u32) -> u32
+    ensures { result ≤ 256 }
+{
+    let mut found = 0;
+    let mut left = book.running();
     for q in 1..257 {
-        if q != query && book.phase(q) == Phase::Active && book.available(q) > 0 {
-            return true;
+        if left == 0 {
+            break;
+        }
+        if book.phase(q) == Phase::Active {
+            left -= 1;
+            if q != query && book.available(q) >= chunks {
+                found += 1;
+            }
         }
     }
-    false
+    found
 }

@@ -11,9 +11,10 @@ ghost use Rattle.cscan.specs.Stations.{IsSeated};
 use crate::desk::take_desk;
 use crate::given::Given;
 use crate::loading::load;
-use crate::pausing::{Patience, Pause, others_have_none};
+use crate::pausing::{Patience, Pause};
 use crate::pinning::pin_all;
 use crate::station::Station;
+use crate::waking::{next_to_load, wake};
 use abm_policy::{Desk, Turn};
 use baton::Baton;
 use coop_outside::Depot;
@@ -62,16 +63,15 @@ pub(crate) fn turn_once<S: Origin, C: Content, P: Policy, D: Depot, R: Wait>(
 {
     let number = station.number;
     let mut desk = take_desk(rt, baton, &mut station.pass);
-    if patience.lets_others_first(desk.book(), query) {
+    let bell = baton.bell();
+    if patience.lies_down(bell, desk.book(), number, query) {
         baton.give(rt, &mut station.pass, desk);
-        return Round::Again(Pause::ForOthers);
+        return Round::Again(patience.pause);
     }
     let turn = desk.turn(number, query);
-    let rings = baton.bell().is_waited_for() && others_have_none(desk.book(), query);
+    let next = next_to_load(bell, desk.book(), query);
     baton.give(rt, &mut station.pass, desk);
-    if rings {
-        baton.bell().ring();
-    }
+    wake(bell, next);
     match turn {
         Turn::Take { chunk, slots } => {
             pin_all(rt, pool, &mut station.berth, &slots);
@@ -82,7 +82,7 @@ pub(crate) fn turn_once<S: Origin, C: Content, P: Policy, D: Depot, R: Wait>(
             load(rt, baton, pool, shape, station, (ticket, depot));
             Round::Again(Pause::None)
         }
-        Turn::NotYet => Round::Again(Pause::ForLoad),
+        Turn::NotYet => Round::Again(Pause::None),
         Turn::Finished => Round::Done,
         Turn::Stopped(cause) => Round::Stopped(cause),
     }
@@ -110,9 +110,8 @@ pub(crate) fn turn_on<S: Origin, C: Content, P: Policy, D: Depot, R: Wait>(
     let bell = baton.bell();
     let mut patience = Patience::new();
     for _ in rt.forever() {
-        let rings = bell.rings();
         match turn_once(rt, baton, pool, shape, station, query, &mut patience) {
-            Round::Again(pause) => patience.pause(rt, bell, rings, pause),
+            Round::Again(pause) => patience.pause(rt, bell, station.number, pause),
             Round::Took(given) => return Round::Took(given),
             Round::Done => return Round::Done,
             Round::Stopped(cause) => return Round::Stopped(cause),

@@ -14,6 +14,7 @@ use crate::held::Held;
 use crate::next::Next;
 use crate::rounds::{Round, turn_on};
 use crate::station::Station;
+use crate::waking::Woken;
 use abm_policy::Desk;
 use baton::Baton;
 use coop_outside::Depot;
@@ -134,8 +135,10 @@ impl<'a, S: Origin, C: Content, P: Policy, D: Depot> CScan<'a, S, C, P, D> {
             return cause;
         }
         desk.stop(number, query);
+        let bell = baton.bell();
+        let woken = Woken::after_load(bell, desk.book());
         baton.give(rt, &mut station.pass, desk);
-        baton.bell().ring();
+        woken.ring(bell);
         Cause::Memory
     }
 }

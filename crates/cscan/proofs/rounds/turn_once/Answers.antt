@@ -43,19 +43,19 @@ turned : (g : _) (c : After-give-2 g) (new : List Entry) → c.turn-turn.new.sel
 turned g c new is =
     went_turn c.args.station.now.pass c.take_desk-desk.new.pass c.give-2.new.pass c.take_desk-desk.result c.turn-turn.new.self new c.take_desk-desk.ensures.pass c.give-2.ensures.pass c.give-2.ensures.mine c.take_desk-desk.ensures.seen is
 
-pub lets_others_first-requires : goal.lets_others_first-requires
-lets_others_first-requires g c =
-    record { query = (worker_within g.S.Origin.origin.setting c.args.query c.args.station.now.number c.take_desk-desk.ensures.start.setting (may g (goal.at.lets_others_first-requires g c).After-take_desk-desk).runs.on).1 }
+pub lies_down-requires : goal.lies_down-requires
+lies_down-requires g c =
+    record { query = (worker_within g.S.Origin.origin.setting c.args.query c.args.station.now.number c.take_desk-desk.ensures.start.setting (may g (goal.at.lies_down-requires g c).After-take_desk-desk).runs.on).1 }
 
 pub give-requires-clause-story : goal.give-requires-clause-story
 give-requires-clause-story g c =
     adds_these c.args.station.now.pass c.take_desk-desk.new.pass c.args.station.now.number c.take_desk-desk.result c.take_desk-desk.result [] c.take_desk-desk.ensures.pass (sym (append-nil c.take_desk-desk.result)) c.requires.seated.0.1 tt
 
-pub returns-then-lets_others_first-clause-round : goal.returns-then-lets_others_first-clause-round
-returns-then-lets_others_first-clause-round g c =
+pub returns-then-lies_down-clause-round : goal.returns-then-lies_down-clause-round
+returns-then-lies_down-clause-round g c =
     let s = g.S.Origin.origin.setting in
     let old = c.take_desk-desk.result in
-    let at = goal.at.returns-then-lets_others_first-clause-round g c in
+    let at = goal.at.returns-then-lies_down-clause-round g c in
     let seen = ap (λ (p : PassView). p.seen) c.give.ensures.pass in
     record {
       loads = [];
