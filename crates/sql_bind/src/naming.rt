@@ -19,7 +19,8 @@ fn add(set: &mut ColumnSet, column: u32)
 
 fn all_named(columns: &[Column], places: &[Place<'_>]) -> ColumnSet
     requires { length columns.now ≤ MOST_COLUMNS }
-    ensures named { (x : ℕ) → x < MOST_COLUMNS → has result x ≡ spec.is_named columns.now (map place_seen places.entry.now) x }
+    ensures named { (x : ℕ) → x < MOST_COLUMNS → has result x
+        ≡ spec.is_named columns.now (map place_seen places.entry.now) x }
     ensures members { AreMembers MOST_COLUMNS result }
 {
     let mut set = ColumnSet::empty();
