@@ -1,17 +1,19 @@
 // Columns by the spellings of their fields, with the edges of 64 bits, and the codes of texts.
-use crate::loading::loaded;
-use csv_load::Loaded;
+use crate::loading::{cells_of, loaded};
 use std::alloc::{AllocError, Global};
-use std::hash::RandomState;
+use std::process::Abort;
+use std::random::RandomSource;
 use std::test::Fail;
-use table_core::{Cell, Kind};
+use table_core::{Cell, Dict, Kind};
 
 const INT: Kind = Kind::Int;
 
 const TEXT: Kind = Kind::Text;
 
 // Two fields of a column, and its kind.
-const SPELLED: [([&[u8]; 2], Kind); 24] = [
+type Spelled<'a> = ([&'a [u8]; 2], Kind);
+
+const SPELLED: &[Spelled<'static>] = &[
     ([b"", b""], INT),
     ([b"0", b"-5"], INT),
     ([b"", b"10"], INT),
@@ -48,22 +50,49 @@ fn text_of(alloc: Global, fields: [&[u8]; 2]) -> Result<Vec<u8>, AllocError> {
     Ok(text)
 }
 
-#[test]
-fn the_spelling_of_the_fields_decides_the_kind(rt: HostRuntime) -> Result<(), Fail> {
-    let keys = RandomState::new(&rt)?;
-    for (fields, kind) in SPELLED {
-        let text = text_of(rt.alloc(), fields)?;
-        let Ok(Loaded { table, .. }) = loaded(&rt, rt.alloc(), keys, text.as_slice()) else {
-            return Err(Fail::new("refused"));
-        };
-        let columns = table.schema().columns();
-        assert!(rt; columns.len() == 1 && columns[0].kind == kind, "{fields:?}");
+// Whether the text has a table of one column, which is of this kind.
+fn has_kind(rt: &(impl Abort + RandomSource), alloc: Global, text: &[u8], kind: Kind) -> bool {
+    match loaded(rt, alloc, text) {
+        Ok(loaded) => {
+            let columns = loaded.table.schema().columns();
+            columns.len() == 1 && columns[0].kind == kind
+        }
+        Err(_) => false,
+    }
+}
+
+fn expect_kinds(
+    rt: &(impl Abort + RandomSource),
+    alloc: Global,
+    rows: &[Spelled<'_>],
+) -> Result<(), Fail> {
+    for (fields, kind) in rows {
+        let text = text_of(alloc, *fields)?;
+        assert!(rt; has_kind(rt, alloc, text.as_slice(), *kind), "{fields:?}");
     }
     Ok(())
 }
 
+#[test]
+fn the_spelling_of_the_fields_decides_the_kind(rt: HostRuntime) -> Result<(), Fail> {
+    expect_kinds(&rt, rt.alloc(), SPELLED)
+}
+
+const NAMES: &[u8] = b"n\nb\n\"\"\n\xff\na\nb\nab\n";
+
+const RANKS: &[Cell] = &[
+    Cell::Code(2),
+    Cell::Null,
+    Cell::Code(3),
+    Cell::Code(0),
+    Cell::Code(2),
+    Cell::Code(1),
+];
+
 // A text, and its code or how many texts are smaller.
-const CODES: [(&[u8], Result<u32, u32>); 7] = [
+type Ranked<'a> = (&'a [u8], Result<u32, u32>);
+
+const CODES: &[Ranked<'static>] = &[
     (b"a", Ok(0)),
     (b"ab", Ok(1)),
     (b"b", Ok(2)),
@@ -73,25 +102,19 @@ const CODES: [(&[u8], Result<u32, u32>); 7] = [
     (b"c", Err(3)),
 ];
 
+fn expect_codes(rt: &impl Abort, dicts: &[Dict], rows: &[Ranked<'_>]) {
+    assert!(rt; dicts.len() == 1 && dicts[0].len() == 4);
+    for (text, code) in rows {
+        assert!(rt; dicts[0].code_of(text) == *code, "{text:?}");
+    }
+}
+
 #[test]
 fn names_are_ranked_byte_by_byte(rt: HostRuntime) -> Result<(), Fail> {
-    let keys = RandomState::new(&rt)?;
-    let text = b"n\nb\n\"\"\n\xff\na\nb\nab\n";
-    let Ok(Loaded { table, dicts }) = loaded(&rt, rt.alloc(), keys, text) else {
+    let Ok(loaded) = loaded(&rt, rt.alloc(), NAMES) else {
         return Err(Fail::new("refused"));
     };
-    let cells = [
-        Cell::Code(2),
-        Cell::Null,
-        Cell::Code(3),
-        Cell::Code(0),
-        Cell::Code(2),
-        Cell::Code(1),
-    ];
-    assert_eq!(rt; table.rows(0, table.len()), cells.as_slice());
-    assert!(rt; dicts.len() == 1 && dicts[0].len() == 4);
-    for (text, code) in CODES {
-        assert_eq!(rt; dicts[0].code_of(text), code);
-    }
+    assert!(rt; cells_of(&loaded.table) == RANKS);
+    expect_codes(&rt, &loaded.dicts, CODES);
     Ok(())
 }

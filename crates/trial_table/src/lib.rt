@@ -7,6 +7,8 @@
 #[cfg(test)]
 mod asked;
 #[cfg(test)]
+mod conds;
+#[cfg(test)]
 mod damages;
 #[cfg(test)]
 mod example;
@@ -21,6 +23,12 @@ mod pieces;
 #[cfg(test)]
 mod putting;
 #[cfg(test)]
+mod reading_back;
+#[cfg(test)]
 mod shapes;
+#[cfg(test)]
+mod small_zones;
+#[cfg(test)]
+mod truths;
 #[cfg(test)]
 mod zones;

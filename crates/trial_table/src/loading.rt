@@ -3,6 +3,7 @@ use csv_load::{LoadRefusal, Loaded, load};
 use std::alloc::{AllocError, Global};
 use std::hash::RandomState;
 use std::process::Abort;
+use std::random::RandomSource;
 use std::test::Fail;
 use table_core::{Cell, Kind, MOST_ROWS, Table};
 
@@ -10,7 +11,9 @@ use table_core::{Cell, Kind, MOST_ROWS, Table};
 const MOST_TEXT_BYTES: usize = 268435456;
 
 // A text and the cells of its table, row by row.
-const CELLS: [(&[u8], &[Cell]); 3] = [
+type Read<'a> = (&'a [u8], &'a [Cell]);
+
+const CELLS: &[Read<'static>] = &[
     (
         b"x\n1\n\"\"\n\n3\n",
         &[Cell::Int(1), Cell::Null, Cell::Int(3)],
@@ -55,34 +58,41 @@ const TYPED: &[u8] =
 
 // The table of a text within the limit.
 pub(crate) fn loaded(
-    rt: &impl Abort,
+    rt: &(impl Abort + RandomSource),
     alloc: Global,
-    keys: RandomState,
     text: &[u8],
 ) -> Result<Loaded, LoadRefusal> {
     assert!(rt; text.len() <= MOST_TEXT_BYTES);
+    let keys = RandomState::new(rt).expect(rt, "keys");
     load(alloc, keys, text)
 }
 
 // All cells of a table.
-fn cells_of(table: &Table) -> &[Cell] {
+pub(crate) fn cells_of(table: &Table) -> &[Cell] {
     table.rows(0, table.len())
 }
 
-#[test]
-fn texts_have_their_cells(rt: HostRuntime) -> Result<(), Fail> {
-    let keys = RandomState::new(&rt)?;
-    for (text, cells) in CELLS {
-        let Ok(Loaded { table, .. }) = loaded(&rt, rt.alloc(), keys, text) else {
-            return Err(Fail::new("refused"));
-        };
-        assert_eq!(rt; cells_of(&table), cells);
+// Whether the text has a table of these cells.
+fn has_cells(rt: &(impl Abort + RandomSource), alloc: Global, text: &[u8], cells: &[Cell]) -> bool {
+    match loaded(rt, alloc, text) {
+        Ok(loaded) => cells_of(&loaded.table) == cells,
+        Err(_) => false,
     }
-    Ok(())
+}
+
+fn expect_cells(rt: &(impl Abort + RandomSource), alloc: Global, rows: &[Read<'_>]) {
+    for (text, cells) in rows {
+        assert!(rt; has_cells(rt, alloc, text, cells), "{text:?}");
+    }
+}
+
+#[test]
+fn texts_have_their_cells(rt: HostRuntime) {
+    expect_cells(&rt, rt.alloc(), CELLS);
 }
 
 // The kind of each column, and how many texts its dictionary has.
-const KINDS: [(Kind, u32); 5] = [
+const KINDS: &[(Kind, u32)] = &[
     (Kind::Int, 0),
     (Kind::Text, 2),
     (Kind::Int, 0),
@@ -90,33 +100,41 @@ const KINDS: [(Kind, u32); 5] = [
     (Kind::Text, 3),
 ];
 
-#[test]
-fn columns_are_typed_and_texts_are_codes(rt: HostRuntime) -> Result<(), Fail> {
-    let keys = RandomState::new(&rt)?;
-    let Ok(Loaded { table, dicts }) = loaded(&rt, rt.alloc(), keys, TYPED) else {
-        return Err(Fail::new("refused"));
-    };
-    let columns = table.schema().columns();
-    assert_eq!(rt; (columns.len(), dicts.len()), (5, 5));
-    for place in 0..columns.len().min(dicts.len()).min(5) {
-        assert_eq!(rt; (columns[place].kind, dicts[place].len()), KINDS[place]);
+// Whether the columns are of these kinds, with so many texts.
+fn are_typed(loaded: &Loaded, wanted: &[(Kind, u32)]) -> bool {
+    let columns = loaded.table.schema().columns();
+    let dicts = loaded.dicts.as_slice();
+    if columns.len() != wanted.len() || dicts.len() != wanted.len() {
+        return false;
     }
-    Ok(())
+    for place in 0..wanted.len() {
+        if (columns[place].kind, dicts[place].len()) != wanted[place] {
+            return false;
+        }
+    }
+    true
+}
+
+#[test]
+fn columns_are_typed_and_texts_are_codes(rt: HostRuntime) {
+    let loaded = loaded(&rt, rt.alloc(), TYPED);
+    assert!(rt; loaded.is_ok_and(|loaded| are_typed(&loaded, KINDS)));
 }
 
 // The rows of a text's table, or why it is none.
 fn rows_loaded(
-    rt: &impl Abort,
+    rt: &(impl Abort + RandomSource),
     alloc: Global,
-    keys: RandomState,
     text: &[u8],
 ) -> Result<usize, LoadRefusal> {
-    let loaded = loaded(rt, alloc, keys, text)?;
+    let loaded = loaded(rt, alloc, text)?;
     Ok(loaded.table.len())
 }
 
 // A text, and how many rows its table has or why it is none.
-const JUDGED: [(&[u8], Result<usize, LoadRefusal>); 15] = [
+type Judged<'a> = (&'a [u8], Result<usize, LoadRefusal>);
+
+const JUDGED: &[Judged<'static>] = &[
     (b"", Err(LoadRefusal::NoHeader)),
     (b"\xef\xbb\xbf", Err(LoadRefusal::NoHeader)),
     (b"id\n", Ok(0)),
@@ -162,67 +180,99 @@ const JUDGED: [(&[u8], Result<usize, LoadRefusal>); 15] = [
     (b"a\n\xff\xfe\n", Ok(1)),
 ];
 
-#[test]
-fn hostile_tables(rt: HostRuntime) -> Result<(), Fail> {
-    let keys = RandomState::new(&rt)?;
-    for (text, wanted) in JUDGED {
-        assert_eq!(rt;
-            rows_loaded(&rt, rt.alloc(), keys, text),
-            wanted,
-            "{text:?}"
-        );
+fn expect_judged(rt: &(impl Abort + RandomSource), alloc: Global, rows: &[Judged<'_>]) {
+    for (text, wanted) in rows {
+        assert!(rt; rows_loaded(rt, alloc, text) == *wanted, "{text:?}");
     }
-    Ok(())
 }
 
 #[test]
-fn the_length_of_a_name(rt: HostRuntime) -> Result<(), Fail> {
-    let keys = RandomState::new(&rt)?;
-    for (size, wanted) in [
-        (128, Ok(0)),
-        (129, Err(LoadRefusal::LongName { column: 1 })),
-    ] {
-        let mut text = Vec::from_slice(rt.alloc(), b"a,")?;
-        for _ in 0..size {
-            text.push(b'x')?;
-        }
-        assert_eq!(rt; rows_loaded(&rt, rt.alloc(), keys, text.as_slice()), wanted);
-    }
-    Ok(())
+fn hostile_tables(rt: HostRuntime) {
+    expect_judged(&rt, rt.alloc(), JUDGED);
 }
 
-// A text of one column with the most rows that a table may have, and more behind them.
-fn full_text(alloc: Global, back: &[u8]) -> Result<Vec<u8>, AllocError> {
-    let mut text = Vec::from_slice(alloc, b"a\n")?;
-    for _ in 0..MOST_ROWS / 16 {
-        text.extend_from_slice(b"1\n1\n1\n1\n1\n1\n1\n1\n1\n1\n1\n1\n1\n1\n1\n1\n")?;
+// A front, a part that stands so many times behind it, and a back; and how many rows the table of this text has or why
+// it is none.
+type Long<'a> = (
+    &'a [u8],
+    &'a [u8],
+    u32,
+    &'a [u8],
+    Result<usize, LoadRefusal>,
+);
+
+fn text_of(alloc: Global, long: &Long<'_>) -> Result<Vec<u8>, AllocError> {
+    let (front, part, count, back, _wanted) = *long;
+    let mut text = Vec::from_slice(alloc, front)?;
+    for _ in 0..count {
+        text.extend_from_slice(part)?;
     }
     text.extend_from_slice(back)?;
     Ok(text)
 }
 
-// What stands behind the most rows, and how many rows the table has or why it is none.
-const FULL: [(&[u8], Result<usize, LoadRefusal>); 2] = [
-    (b"", Ok(2097152)),
-    (b"1,2\n", Err(LoadRefusal::TooManyRows)),
-];
-
-#[test]
-fn the_number_of_rows(rt: HostRuntime) -> Result<(), Fail> {
-    let keys = RandomState::new(&rt)?;
-    for (back, wanted) in FULL {
-        let text = full_text(rt.alloc(), back)?;
-        assert_eq!(rt; rows_loaded(&rt, rt.alloc(), keys, text.as_slice()), wanted);
+fn expect_long(
+    rt: &(impl Abort + RandomSource),
+    alloc: Global,
+    rows: &[Long<'_>],
+) -> Result<(), Fail> {
+    for long in rows {
+        let text = text_of(alloc, long)?;
+        let got = rows_loaded(rt, alloc, text.as_slice());
+        assert!(rt; got == long.4, "{} {:?}", long.2, long.3);
     }
     Ok(())
 }
 
+// Names of 128 and 129 bytes.
+const NAMES: &[Long<'static>] = &[
+    (b"a,", b"x", 128, b"", Ok(0)),
+    (
+        b"a,",
+        b"x",
+        129,
+        b"",
+        Err(LoadRefusal::LongName { column: 1 }),
+    ),
+];
+
+#[test]
+fn the_length_of_a_name(rt: HostRuntime) -> Result<(), Fail> {
+    expect_long(&rt, rt.alloc(), NAMES)
+}
+
+// A sixteenth of the most rows that a table may have.
+const SIXTEENTH: u32 = MOST_ROWS / 16;
+
+const SIXTEEN: &[u8] = b"1\n1\n1\n1\n1\n1\n1\n1\n1\n1\n1\n1\n1\n1\n1\n1\n";
+
+// The most rows, and more behind them.
+const FULL: &[Long<'static>] = &[
+    (b"a\n", SIXTEEN, SIXTEENTH, b"", Ok(2097152)),
+    (
+        b"a\n",
+        SIXTEEN,
+        SIXTEENTH,
+        b"1,2\n",
+        Err(LoadRefusal::TooManyRows),
+    ),
+];
+
+#[test]
+fn the_number_of_rows(rt: HostRuntime) -> Result<(), Fail> {
+    expect_long(&rt, rt.alloc(), FULL)
+}
+
+const ONE_MORE: &[Long<'static>] = &[(
+    b"a\n",
+    SIXTEEN,
+    SIXTEENTH,
+    b"1\n",
+    Err(LoadRefusal::TooManyRows),
+)];
+
 // A test of its own, since each of these texts takes seconds.
 #[test]
 fn a_row_too_many(rt: HostRuntime) -> Result<(), Fail> {
-    let keys = RandomState::new(&rt)?;
-    let text = full_text(rt.alloc(), b"1\n")?;
-    let got = rows_loaded(&rt, rt.alloc(), keys, text.as_slice());
-    assert_eq!(rt; got, Err(LoadRefusal::TooManyRows));
-    Ok(())
+    expect_long(&rt, rt.alloc(), ONE_MORE)
 }

@@ -1,13 +1,15 @@
 // The shape of a table, and the zones of its chunks.
 use crate::example::{CELLS, KINDS, cut};
-use filter_zones::Zone;
-use piece_format::Layout;
+use filter_zones::{ChunkZones, Zone};
+use piece_format::{Layout, Shape};
+use std::alloc::Global;
+use std::process::Abort;
 use std::test::Fail;
-use table_core::Cell::{Code, Int};
+use table_core::Cell::{self, Code, Int};
 use table_pieces::{chunks_of, zones_of_chunks};
 
 // The zones of the columns of each chunk, with two rows in a chunk.
-const ZONES: [[Zone; 3]; 3] = [
+const ZONES: &[[Zone; 3]] = &[
     [
         Zone {
             has_null: false,
@@ -52,40 +54,62 @@ const ZONES: [[Zone; 3]; 3] = [
     ],
 ];
 
-#[test]
-fn each_chunk_has_the_zones_of_its_rows(rt: HostRuntime) -> Result<(), Fail> {
-    let cut = cut(&rt, rt.alloc(), &CELLS, Layout::Row, 2)?;
-    let zones = zones_of_chunks(rt.alloc(), &cut.shape, &cut.table)?;
-    assert_eq!(rt; zones.len(), 3);
-    for c in 0..zones.len() {
-        assert!(rt; c < 3);
-        assert_eq!(rt; &zones[c].zones[..3], ZONES[c].as_slice());
+// Whether each chunk has just these zones in its first columns.
+fn have_zones(chunks: &[ChunkZones], wanted: &[[Zone; 3]]) -> bool {
+    if chunks.len() != wanted.len() {
+        return false;
     }
-    Ok(())
+    for c in 0..chunks.len() {
+        if &chunks[c].zones[..3] != wanted[c].as_slice() {
+            return false;
+        }
+    }
+    true
+}
+
+// Whether the rows, two in a chunk, have just the chunks with these zones.
+fn has_zones(
+    rt: &impl Abort,
+    alloc: Global,
+    cells: &[Cell],
+    wanted: &[[Zone; 3]],
+) -> Result<bool, Fail> {
+    let cut = cut(rt, alloc, cells, Layout::Row, 2)?;
+    let zones = zones_of_chunks(alloc, &cut.shape, &cut.table)?;
+    Ok(chunks_of(&cut.shape) as usize == wanted.len() && have_zones(zones.as_slice(), wanted))
 }
 
 #[test]
-fn a_table_without_rows_has_no_zones(rt: HostRuntime) -> Result<(), Fail> {
-    let cut = cut(&rt, rt.alloc(), &[], Layout::Row, 2)?;
-    assert_eq!(rt; chunks_of(&cut.shape), 0);
-    assert!(rt; zones_of_chunks(rt.alloc(), &cut.shape, &cut.table)?.is_empty());
+fn each_chunk_has_the_zones_of_its_rows(rt: HostRuntime) -> Result<(), Fail> {
+    assert!(rt; has_zones(&rt, rt.alloc(), &CELLS, ZONES)?);
+    assert!(rt; has_zones(&rt, rt.alloc(), &[], &[])?, "without rows");
+    Ok(())
+}
+
+// Whether this is the shape of the five rows in columns, with so many rows in a chunk.
+fn is_of_five(shape: &Shape, per: u32) -> bool {
+    shape.kinds.as_slice() == KINDS.as_slice()
+        && shape.dict_lens.as_slice() == [0, 3, 0].as_slice()
+        && (shape.layout, shape.rows, shape.per) == (Layout::Column, 5, per)
+}
+
+// Whether the five rows have that shape, and so many chunks.
+fn has_chunks(rt: &impl Abort, alloc: Global, per: u32, chunks: u32) -> Result<bool, Fail> {
+    let cut = cut(rt, alloc, &CELLS, Layout::Column, per)?;
+    Ok(is_of_five(&cut.shape, per) && chunks_of(&cut.shape) == chunks)
+}
+
+// Rows in a chunk, and how many chunks there are.
+const CHUNKS: &[(u32, u32)] = &[(1, 5), (2, 3), (5, 1), (9, 1)];
+
+fn expect_chunks(rt: &impl Abort, alloc: Global, rows: &[(u32, u32)]) -> Result<(), Fail> {
+    for (per, chunks) in rows {
+        assert!(rt; has_chunks(rt, alloc, *per, *chunks)?, "{per}");
+    }
     Ok(())
 }
 
 #[test]
 fn a_shape_has_kinds_lengths_and_rows(rt: HostRuntime) -> Result<(), Fail> {
-    // rows in a chunk, chunks
-    for (per, chunks) in [(1, 5), (2, 3), (5, 1), (9, 1)] {
-        let cut = cut(&rt, rt.alloc(), &CELLS, Layout::Column, per)?;
-        let shape = &cut.shape;
-        assert_eq!(rt;
-            (shape.kinds.as_slice(), shape.dict_lens.as_slice()),
-            (KINDS.as_slice(), [0, 3, 0].as_slice())
-        );
-        assert_eq!(rt;
-            (shape.layout, shape.rows, shape.per, chunks_of(shape)),
-            (Layout::Column, 5, per, chunks)
-        );
-    }
-    Ok(())
+    expect_chunks(&rt, rt.alloc(), CHUNKS)
 }
