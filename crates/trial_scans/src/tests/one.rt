@@ -1,18 +1,18 @@
 // One scan, with one berth and one pass.
-ghost use Rattle.std.specs.Prelude.{◌<◌, ◌≤◌};
-
 use crate::notes::Saw;
+use crate::outcome::Outcome;
 use crate::single::alone;
 use crate::tables::{COLUMNS, NO_PIECE, ROWS, SIX, column_shape, depot, row_shape, six_shape};
 use crate::tests::expected::{Expected, expect, took};
 use piece_format::Shape;
 use relevance::Relevance;
-use scan_story::{Cause, PolicyName};
-use std::alloc::Global;
+use scan_story::{Cause, Memory, PolicyName};
+use std::alloc::{AllocError, Global};
 use std::process::Abort;
 use std::sync::Wait;
 use std::test::Fail;
 use table_core::Cell::{self, Code, Int, Null};
+use table_core::MOST_COLUMNS;
 use trial_stories::stories::{FIRST_OF_SIX, ONE_COUNT};
 use trial_stories::{need, setting};
 
@@ -32,7 +32,6 @@ const GAVE_UP: Saw = Saw::GaveUp {
 };
 
 // What the scan of a query takes, and what becomes of it.
-#[derive(Clone, Copy)]
 struct Case {
     name: &'static str,
     // The chunks and columns of the need.
@@ -52,32 +51,52 @@ struct Case {
     faults: u64,
 }
 
-// A trial over these pieces, with the least frames that are enough for so many groups.
-fn expect_case<R: Abort + Wait>(
-    rt: &R,
-    alloc: Global,
-    pieces: &[&[u64]],
-    shape: &Shape,
+// The pieces of a table, its shape, and how many groups of columns it has.
+#[derive(Clone, Copy)]
+struct Over<'a> {
+    pieces: &'a [&'a [u64]],
+    shape: &'a Shape,
     chunks: u32,
     groups: u32,
+}
+
+// What becomes of the case's scan, with the least frames that are enough for so many groups.
+fn outcome_of<R: Abort + Wait>(
+    rt: &R,
+    alloc: Global,
+    over: &Over<'_>,
     case: &Case,
-) -> Result<(), Fail>
-    requires some { 0 < groups }
-    requires few { groups ≤ 16 }
-{
+) -> Result<Option<Outcome>, Fail> {
     let first = need(alloc, 1, 0, case.chunks, case.columns)?;
-    let numbers = [chunks, 1, 4 * groups];
+    let groups = over.groups;
+    assert!(rt; 0 < groups && groups <= MOST_COLUMNS);
+    let numbers = [over.chunks, 1, 4 * groups];
     let s = setting(alloc, PolicyName::Relevance, numbers, groups, first, None)?;
-    let depot = depot(rt, alloc, pieces, case.fail_gets, case.spoilt)?;
-    let Ok(out) = alone(rt, alloc, &s, shape, Relevance, depot, case.steps) else {
-        panic!(rt; "no memory: {}", case.name)
-    };
+    let depot = depot(rt, alloc, over.pieces, case.fail_gets, case.spoilt)?;
+    match alone(rt, alloc, &s, over.shape, Relevance, depot, case.steps) {
+        Ok(out) => Ok(out),
+        Err(Memory) => Err(Fail::new("no memory")),
+    }
+}
+
+// What the case's scan answers: it takes each of its chunks and releases it, and answers its last.
+fn answers_of(alloc: Global, case: &Case) -> Result<Vec<Saw>, AllocError> {
     let mut saw = Vec::new(alloc);
     for (chunk, rows) in case.taken {
         saw.push(took(0, *chunk, *rows))?;
         saw.push(Saw::Released { worker: 0 })?;
     }
     saw.push(case.last)?;
+    Ok(saw)
+}
+
+fn expect_case<R: Abort + Wait>(
+    rt: &R,
+    alloc: Global,
+    over: &Over<'_>,
+    case: &Case,
+) -> Result<(), Fail> {
+    let saw = answers_of(alloc, case)?;
     let expected = Expected {
         name: case.name,
         story: case.story,
@@ -86,7 +105,20 @@ fn expect_case<R: Abort + Wait>(
         gets: case.gets,
         faults: case.faults,
     };
+    let out = outcome_of(rt, alloc, over, case)?;
     expect(rt, alloc, &out, &expected)
+}
+
+fn expect_cases<R: Abort + Wait>(
+    rt: &R,
+    alloc: Global,
+    over: &Over<'_>,
+    cases: &[Case],
+) -> Result<(), Fail> {
+    for case in cases {
+        expect_case(rt, alloc, over, case)?;
+    }
+    Ok(())
 }
 
 const TO_CHUNK_1: &str = "register 0 1
@@ -103,7 +135,7 @@ failed 0 1 1 ";
 
 const FIRST_TWO: [Cell; 6] = [Int(1), Code(0), Int(10), Int(2), Code(1), Int(20)];
 
-const OF_ROWS: [Case; 7] = [
+const OF_ROWS: &[Case] = &[
     Case {
         name: "each chunk is taken once and then it ends",
         chunks: &[0, 1, 2],
@@ -225,7 +257,7 @@ const OF_ROWS: [Case; 7] = [
     },
 ];
 
-const OF_SIX: Case = Case {
+const OF_SIX: &[Case] = &[Case {
     name: "frames are filled again",
     chunks: &[0, 1, 2, 3, 4, 5],
     columns: &[0],
@@ -238,9 +270,9 @@ const OF_SIX: Case = Case {
     cells: &[Int(70), Int(71), Int(72), Int(73), Int(74), Int(75)],
     gets: 6,
     faults: 0,
-};
+}];
 
-const OF_COLUMNS: [Case; 2] = [
+const OF_COLUMNS: &[Case] = &[
     Case {
         name: "a scan reads one column",
         chunks: &[0, 1, 2],
@@ -311,16 +343,33 @@ failed 0 1 5 fault 0 1
 
 #[test]
 fn one_scan_takes_its_chunks_until_it_ends_or_is_stopped(rt: HostRuntime) -> Result<(), Fail> {
-    let alloc = rt.alloc();
-    let shape = row_shape(alloc)?;
-    for case in OF_ROWS {
-        expect_case(&rt, alloc, &ROWS, &shape, 3, 1, &case)?;
-    }
-    let shape = six_shape(alloc)?;
-    expect_case(&rt, alloc, &SIX, &shape, 6, 1, &OF_SIX)?;
-    let shape = column_shape(alloc)?;
-    for case in OF_COLUMNS {
-        expect_case(&rt, alloc, &COLUMNS, &shape, 3, 2, &case)?;
-    }
-    Ok(())
+    let over = Over {
+        pieces: &ROWS,
+        shape: &row_shape(rt.alloc())?,
+        chunks: 3,
+        groups: 1,
+    };
+    expect_cases(&rt, rt.alloc(), &over, OF_ROWS)
+}
+
+#[test]
+fn one_scan_fills_frames_again(rt: HostRuntime) -> Result<(), Fail> {
+    let over = Over {
+        pieces: &SIX,
+        shape: &six_shape(rt.alloc())?,
+        chunks: 6,
+        groups: 1,
+    };
+    expect_cases(&rt, rt.alloc(), &over, OF_SIX)
+}
+
+#[test]
+fn one_scan_takes_the_pieces_of_its_columns(rt: HostRuntime) -> Result<(), Fail> {
+    let over = Over {
+        pieces: &COLUMNS,
+        shape: &column_shape(rt.alloc())?,
+        chunks: 3,
+        groups: 2,
+    };
+    expect_cases(&rt, rt.alloc(), &over, OF_COLUMNS)
 }

@@ -1,19 +1,19 @@
 // Two scans by turns, on one thread. No load is underway when a call of a scan returns, so no turn of another one waits.
-ghost use Rattle.std.specs.Prelude.{◌<◌, ◌≤◌};
-
 use crate::notes::Saw;
+use crate::outcome::Outcome;
 use crate::pair::by_turns;
 use crate::tables::{COLUMNS, NO_PIECE, ROWS, column_shape, depot, row_shape};
 use crate::tests::expected::{Expected, expect, took};
 use crate::tests::two::Did::{Done, GaveUp, Released, Stopped, Took};
 use piece_format::Shape;
 use relevance::Relevance;
-use scan_story::{Cause, PolicyName};
-use std::alloc::Global;
+use scan_story::{Cause, Memory, PolicyName, Setting};
+use std::alloc::{AllocError, Global};
 use std::process::Abort;
 use std::sync::Wait;
 use std::test::Fail;
 use table_core::Cell::{self, Code, Int, Null};
+use table_core::MOST_COLUMNS;
 use trial_stories::stories::COLUMNS as BEGUN;
 use trial_stories::{need, setting};
 
@@ -38,7 +38,6 @@ fn saw(worker: u32, did: Did) -> Saw {
 }
 
 // What two queries need and read, whose turns it is, and what becomes of them.
-#[derive(Clone, Copy)]
 struct Case {
     name: &'static str,
     // The chunks and the columns of each need.
@@ -53,46 +52,72 @@ struct Case {
     faults: u64,
 }
 
-// A trial over three chunks of these pieces, with the least frames that are enough for so many groups.
-fn expect_case<R: Abort + Wait>(
-    rt: &R,
+// The pieces of three chunks, their shape, and how many groups of columns it has.
+#[derive(Clone, Copy)]
+struct Over<'a> {
+    pieces: &'a [&'a [u64]],
+    shape: &'a Shape,
+    groups: u32,
+}
+
+// The setting of the case's queries, with the least frames that are enough for so many groups.
+fn setting_of(
+    rt: &impl Abort,
     alloc: Global,
-    pieces: &[&[u64]],
-    shape: &Shape,
     groups: u32,
     case: &Case,
-) -> Result<(), Fail>
-    requires some { 0 < groups }
-    requires few { groups ≤ 16 }
-{
+) -> Result<Setting, AllocError> {
     let first = need(alloc, 1, 0, case.first.0, case.first.1)?;
-    let second = need(alloc, 2, 1, case.second.0, case.second.1)?;
+    let second = Some(need(alloc, 2, 1, case.second.0, case.second.1)?);
+    assert!(rt; 0 < groups && groups <= MOST_COLUMNS);
     let numbers = [3, 2, 7 * groups];
-    let s = setting(
-        alloc,
-        PolicyName::Relevance,
-        numbers,
-        groups,
-        first,
-        Some(second),
-    )?;
-    let depot = depot(rt, alloc, pieces, case.fail_gets, (NO_PIECE, 0))?;
-    let Ok(out) = by_turns(rt, alloc, &s, shape, Relevance, depot, case.turns) else {
-        panic!(rt; "no memory: {}", case.name)
-    };
+    setting(alloc, PolicyName::Relevance, numbers, groups, first, second)
+}
+
+// What becomes of the case's scans.
+fn outcome_of<R: Abort + Wait>(
+    rt: &R,
+    alloc: Global,
+    over: &Over<'_>,
+    case: &Case,
+) -> Result<Option<Outcome>, Fail> {
+    let s = setting_of(rt, alloc, over.groups, case)?;
+    let depot = depot(rt, alloc, over.pieces, case.fail_gets, (NO_PIECE, 0))?;
+    match by_turns(rt, alloc, &s, over.shape, Relevance, depot, case.turns) {
+        Ok(out) => Ok(out),
+        Err(Memory) => Err(Fail::new("no memory")),
+    }
+}
+
+// What the case's scans answer.
+fn answers_of(alloc: Global, case: &Case) -> Result<Vec<Saw>, AllocError> {
     let mut seen = Vec::new(alloc);
     for (worker, did) in case.saw {
         seen.push(saw(*worker, *did))?;
     }
-    let expected = Expected {
-        name: case.name,
-        story: case.story,
-        saw: &seen,
-        cells: case.cells,
-        gets: case.gets,
-        faults: case.faults,
-    };
-    expect(rt, alloc, &out, &expected)
+    Ok(seen)
+}
+
+fn expect_cases<R: Abort + Wait>(
+    rt: &R,
+    alloc: Global,
+    over: &Over<'_>,
+    cases: &[Case],
+) -> Result<(), Fail> {
+    for case in cases {
+        let saw = answers_of(alloc, case)?;
+        let expected = Expected {
+            name: case.name,
+            story: case.story,
+            saw: &saw,
+            cells: case.cells,
+            gets: case.gets,
+            faults: case.faults,
+        };
+        let out = outcome_of(rt, alloc, over, case)?;
+        expect(rt, alloc, &out, &expected)?;
+    }
+    Ok(())
 }
 
 // Worker 1 loads for query 1 while worker 0 holds a chunk for it. The load fails, and worker 1 loads for its own query.
@@ -119,7 +144,7 @@ const BY_FAULT: Cause = Cause::Read {
     after: 1,
 };
 
-const OF_ROWS: [Case; 3] = [
+const OF_ROWS: &[Case] = &[
     Case {
         name: "both hold one chunk in one frame",
         first: (&[0, 1, 2], &[0, 1]),
@@ -256,7 +281,7 @@ end 0 1
     },
 ];
 
-const OF_COLUMNS: Case = Case {
+const OF_COLUMNS: &[Case] = &[Case {
     name: "a load takes only the pieces that no frame has",
     first: (&[0, 1], &[0]),
     second: (&[1, 2], &[0, 1]),
@@ -313,15 +338,24 @@ end 1 2
     ],
     gets: 5,
     faults: 0,
-};
+}];
 
 #[test]
 fn two_scans_by_turns(rt: HostRuntime) -> Result<(), Fail> {
-    let alloc = rt.alloc();
-    let shape = row_shape(alloc)?;
-    for case in OF_ROWS {
-        expect_case(&rt, alloc, &ROWS, &shape, 1, &case)?;
-    }
-    let shape = column_shape(alloc)?;
-    expect_case(&rt, alloc, &COLUMNS, &shape, 2, &OF_COLUMNS)
+    let over = Over {
+        pieces: &ROWS,
+        shape: &row_shape(rt.alloc())?,
+        groups: 1,
+    };
+    expect_cases(&rt, rt.alloc(), &over, OF_ROWS)
+}
+
+#[test]
+fn two_scans_by_turns_over_columns(rt: HostRuntime) -> Result<(), Fail> {
+    let over = Over {
+        pieces: &COLUMNS,
+        shape: &column_shape(rt.alloc())?,
+        groups: 2,
+    };
+    expect_cases(&rt, rt.alloc(), &over, OF_COLUMNS)
 }
