@@ -179,7 +179,7 @@ impl<S: Origin, P: Policy, D: Depot> Desk<S, P, D> {
         });
     }
 
-    /// Appends a Stop: the query, which is active on the worker, is given up for want of memory. The worker holds nothing
+    /// Appends a Stop: the query, which is active on the worker, is given up when out of memory. The worker holds nothing
     /// and loads nothing.
     pub fn stop(&mut self, w: u32, q: u32)
         requires may { MayStop S.origin.setting (past self.old) w q }

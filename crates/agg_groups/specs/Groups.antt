@@ -44,7 +44,7 @@ pub record StandsInSomeOrder (g : Kept) (rows : List (List Cell)) : Type 0 where
   pub stands : Stands g order
   pub same : IsPermutation order rows
 
--- what a refusal says of the overflow: want of memory says nothing
+-- what a refusal says of the overflow: out of memory says nothing
 abbrev pub IsFault : FinishFault → Option (ℕ × ℤ) → Type 0
 IsFault (fault.SumOverflow item total) o = o ≡ Some (item, total)
 IsFault fault.Memory o = Unit {0}

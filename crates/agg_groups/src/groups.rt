@@ -89,7 +89,7 @@ fn sum_overflow(first: (u32, i128)) -> FinishFault
 impl Groups {
     /// The groups of no rows. Without key columns one group stands there.
     ///
-    /// More than 4294967295 items, which a refusal could not number, are answered as want of memory.
+    /// More than 4294967295 items, which a refusal could not number, are answered as out of memory.
     pub fn new(alloc: Global, items: Vec<Item>, keys: Vec<u32>) -> Result<Self, Memory>
         ensures stands { IfOk result (λ g. Stands g []) }
         ensures items { IfOk result (λ g. g.items ≡ items.items) }
@@ -136,7 +136,7 @@ impl Groups {
 
     /// Adds the rows of other groups, of the same items and key columns, behind its own.
     ///
-    /// For want of memory the groups stay as they were, and the other groups come back.
+    /// Out of memory, the groups stay as they were, and the other groups come back.
     pub fn merge(&mut self, other: Groups) -> Result<(), (Groups, Memory)>
         requires items { other.items ≡ self.old.items }
         requires keys { other.keys ≡ self.old.keys }
@@ -168,7 +168,7 @@ impl Groups {
 
     /// The result rows: the meaning of each list of rows that the groups stand for, in whatever order its rows came.
     ///
-    /// A sum that is no whole number of 64 bits is refused, and no partial sum is. After want of memory the groups are gone.
+    /// A sum that is no whole number of 64 bits is refused, and no partial sum is. Out of memory, the groups are gone.
     pub fn finish(self) -> Result<Rows, FinishFault>
         ensures ok { IfOk result (λ answer. (rows : List (List Cell)) → StandsInSomeOrder self rows → answer
             ≡ meaning codes self.items self.keys rows) }

@@ -39,7 +39,7 @@ impl Rows {
 pub enum FinishFault {
     /// A sum is no whole number of 64 bits: the first in key order, then in item order. Items are counted from 1.
     SumOverflow { item: u32, total: i128 },
-    /// Want of memory.
+    /// Out of memory.
     Memory,
 }
 

@@ -271,7 +271,7 @@ impl GroupTable {
 
     /// Adds the groups of another table, whose values are over `more` rows.
     ///
-    /// After want of memory some of them may have been added.
+    /// Out of memory, some of them may have been added.
     pub(crate) fn absorb(
         &mut self,
         items: &[Item],

@@ -24,7 +24,7 @@ first_cause (Ok partial ∷ rs) = first_cause rs
 first_cause (Err why ∷ rs) = Some why
 
 -- what is kept of the results of some parts: what they gathered, in part order, or why the first was stopped; memory may have
--- been wanting for it only where none was stopped
+-- run out for it only where none was stopped
 abbrev pub AreParts : List Came → Parts → Type 0
 AreParts rs (parts.All all) = rs ≡ map Ok all.items
 AreParts rs (parts.Stopped why) = first_cause rs ≡ Some why
@@ -51,7 +51,7 @@ abbrev pub AnswersParts : List Partial → Answer → Type 0
 AnswersParts all a = (p : Plan) (lists : List (List (Numbered Cell))) (rows : List (Numbered Cell)) → All (FitsPlan p) all → StandForEach all lists → AreApart all lists
     → IsPermutation (joined lists) rows → IsAnswerOver p rows a
 
--- a query is stopped for the first cause of its parts; where none of them was stopped it isn't, or is for want of memory
+-- a query is stopped for the first cause of its parts; where none of them was stopped it isn't, or is stopped when out of memory
 abbrev pub IsStoppedFor : Option Cause → Option Cause → Type 0
 IsStoppedFor first lost = (lost ≡ first) ⊎ ((first ≡ None) × (lost ≡ Some cause.Memory))
 

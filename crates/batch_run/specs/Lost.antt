@@ -28,7 +28,7 @@ abbrev pub cause_of_query : History → ℕ → ℕ → Option Cause
 cause_of_query h parts query = cause_from h parts query 0 parts
 
 -- HOW A QUERY IS LOST: as the story says of the first of its parts that it stopped; where it stopped none of them the query isn't
--- lost, or is lost for want of memory
+-- lost, or is lost when out of memory
 abbrev pub IsLostBy : History → ℕ → ℕ → Option Cause → Type 0
 IsLostBy h parts query lost = (lost ≡ cause_of_query h parts query) ⊎ ((cause_of_query h parts query ≡ None) × (lost ≡ Some cause.Memory))
 

@@ -14,7 +14,7 @@ pub(crate) enum Parts {
     All(Vec<Partial>),
     /// Why the first part in part order that was stopped was stopped.
     Stopped(Cause),
-    /// No part was stopped, but memory was wanting to keep what they gathered.
+    /// No part was stopped, but memory ran out to keep what they gathered.
     Short,
 }
 

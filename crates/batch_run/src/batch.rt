@@ -41,7 +41,7 @@ use table_pieces::{BatchRefusal, put_pieces};
 /// All pieces of the table are put into the depot before a scan begins. Each query is split into as many scans as there are parts;
 /// the scans of all tasks, in task order and then part order, are dealt to the workers in turn, and each worker runs its scans in order
 /// over the frames that all share. What the parts of a query gathered is joined, and the query is answered. A read that fails and a
-/// damaged piece stop the query for which the piece was loaded, and so does want of memory once the workers have started.
+/// damaged piece stop the query for which the piece was loaded, and so does `Memory` once the workers have started.
 ///
 /// The table and its dictionaries are those that `csv_load::load` answers, and each plan is one that `sql_bind` answers over
 /// them. The numbers of the tasks rise from at least 1 to at most 256, and no scan's number passes 256. There are 1 to 16384 rows in a
@@ -75,7 +75,7 @@ pub fn run_batch<P: Policy, D: Depot + Send, T: Gate + Sync, R: Threads + Wait +
     // whatever the depot gave, the rows of each answer can be written
     ensures written { IfOk result (λ e. AllZip (λ t a. CanBeWritten loaded.dicts.items t.plan a) tasks.now
         e.answers.items) }
-    // a query is stopped as the story says of its scans, or for want of memory
+    // a query is stopped as the story says of its scans, or when out of memory
     ensures lost { IfOk result (λ e. AllZip (λ t a. IsLostBy (past e.ran.story.items) options.now.parts t.query
         (stop_of a)) tasks.now e.answers.items) }
     // the story is whole, legal, undisturbed and bounded in the setting of this batch; each of its faults has its cause, and the depot was read as it says

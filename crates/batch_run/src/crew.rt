@@ -22,7 +22,7 @@ pub(crate) struct Crew<'a, S: Origin, C: Content, P: Policy, D: Depot> {
     pub(crate) passes: Vec<Pass<Desk<S, P, D>>>,
 }
 
-/// Makes a worker of each pass and a berth, the one with the last number first. Where memory is wanting, those that are
+/// Makes a worker of each pass and a berth, the one with the last number first. Where memory runs out, those that are
 /// made stay, and the others have their berths and passes still.
 pub(crate) fn seat_all<'a, S: Origin, C: Content, P: Policy, D: Depot>(
     alloc: Global,

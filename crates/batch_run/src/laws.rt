@@ -17,7 +17,7 @@ pub fn plans_fit()
 {}
 
 /// Where the depot tells what it holds, and its count of faults neither rose nor stands at its last value, a query is
-/// stopped only for want of memory: a law, for the callers of `run_batch`. It does nothing.
+/// stopped only when out of memory: a law, for the callers of `run_batch`. It does nothing.
 pub fn lost_without_faults()
     ensures { (h : History) (faults parts query : ℕ) (why : Cause) → Licensed true faults faults h
         → faults < 2 ^ 64 - 1 → cause_of_query h parts query ≡ Some why → why ≡ cause.Memory }

@@ -48,7 +48,7 @@ pub struct ScansEnd<D> {
     pub depot: D,
 }
 
-// Gives each worker of the crew its station. Where memory is wanting, the works come back as they are then.
+// Gives each worker of the crew its station. Where memory runs out, the works come back as they are then.
 fn seat<'a, S: Origin, C: Content, P: Policy, D: Depot>(
     alloc: Global,
     works: Works<'a, S, C, P, D>,
@@ -127,7 +127,7 @@ fn work<
 ///
 /// The origin `S` is what the needs, the shape, the options, the policy and the depot make, and the content `C` is that of the pieces
 /// which the depot tells that it holds, or isn't told. The needs are those of the scans, one for each of them in their order.
-/// `Memory` is want of memory before the first scan begins; the depot comes back unread. Want of memory after that stops one scan.
+/// `Memory` comes when out of memory before the first scan begins; the depot comes back unread. Running out later stops one scan.
 pub fn run_scans<
     S: Origin + Send + Sync,
     C: Content + Send + Sync,

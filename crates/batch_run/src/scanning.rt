@@ -31,7 +31,7 @@ use std::sync::Wait;
 use std::thread;
 use std::thread::Threads;
 
-/// Runs one scan on the worker's station: what it gathered, or why it was stopped. Want of memory stops it.
+/// Runs one scan on the worker's station: what it gathered, or why it was stopped. Running out of memory stops it.
 pub(crate) fn run_scan<S: Origin, C: Content, P: Policy, D: Depot, T: Gate, R: Wait>(
     rt: &R,
     alloc: Global,

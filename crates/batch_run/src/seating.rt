@@ -39,7 +39,7 @@ pub(crate) struct Works<'a, S: Origin, C: Content, P: Policy, D: Depot> {
     pub(crate) crew: Crew<'a, S, C, P, D>,
 }
 
-// A baton with a new desk, and a pass for each worker. Where memory is wanting, the depot comes back.
+// A baton with a new desk, and a pass for each worker. Where memory runs out, the depot comes back.
 fn desk_at_baton<S: Origin, P: Policy, D: Depot>(
     alloc: Global,
     shape: &Shape,
@@ -84,7 +84,7 @@ fn desk_at_baton<S: Origin, P: Policy, D: Depot>(
     }
 }
 
-/// All that the workers work at, and a crew in which nobody has a station yet. Where memory is wanting, the depot comes
+/// All that the workers work at, and a crew in which nobody has a station yet. Where memory runs out, the depot comes
 /// back unread.
 pub(crate) fn open<'a, S: Origin, C: Content, P: Policy, D: Depot>(
     alloc: Global,

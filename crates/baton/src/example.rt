@@ -47,7 +47,7 @@ impl<S: Origin> Diary<S> {
         }
     }
 
-    /// Writes the entry behind the others. Where memory is wanting, nothing is written.
+    /// Writes the entry behind the others. Where memory runs out, nothing is written.
     pub fn write(&mut self, entry: Entry) -> Result<(), Memory>
         ensures wrote { OnOk result (self.new ≡ self.old ++ entry ∷ []) }
         ensures kept { OnErr result (self.new ≡ self.old) }

@@ -12,9 +12,9 @@ use table_core::Memory;
 /// Sets of queries: for each chunk below 1024 who needs it and to whom it is available, and who counts for what.
 #[derive(Drop)]
 pub struct Marks {
-    /// Queries that need the chunk. What stands here of a query that is over is of no account.
+    /// Queries that need the chunk. What stands here of a query that is over counts for nothing.
     pub needing: Vec<QuerySet>,
-    /// Queries to which the chunk is available. What stands here of a query that is over is of no account.
+    /// Queries to which the chunk is available. What stands here of a query that is over counts for nothing.
     pub having: Vec<QuerySet>,
     /// Active queries.
     pub active: QuerySet,

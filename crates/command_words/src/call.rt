@@ -14,7 +14,7 @@ pub enum Call {
 pub enum Refused {
     /// They are not among the accepted words.
     Usage,
-    /// Want of memory.
+    /// Out of memory.
     Memory,
 }
 

@@ -36,7 +36,7 @@ fn all_words(rt: &HostRuntime) -> io::Result<Vec<String>> {
     Ok(all)
 }
 
-// Runs the program with the four policies, and answers its status; or memory was wanting for a box.
+// Runs the program with the four policies, and answers its status; or memory ran out for a box.
 fn run_with_four<R: Threads + Wait + Sync>(
     handle: &R,
     rt: HostRuntime,

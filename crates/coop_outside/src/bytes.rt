@@ -47,7 +47,7 @@ impl Bytes {
         self.items.len()
     }
 
-    /// Puts more bytes behind them. After an `Err`, which is want of memory, they are as before.
+    /// Puts more bytes behind them. After an `Err`, which is out of memory, they are as before.
     pub fn append(&mut self, more: &[u8]) -> Result<(), AllocError>
         ensures ok { OnOk result (self.new ≡ self.old ++ more.now) }
         ensures err { OnErr result (self.new ≡ self.old) }

@@ -10,7 +10,7 @@ use crate::failed::Failed;
 pub enum DepotFault {
     /// A fault, which is counted. The piece may hold anything; the other pieces are as they were.
     Failed,
-    /// Want of memory. All pieces are as they were.
+    /// Out of memory. All pieces are as they were.
     Memory,
 }
 

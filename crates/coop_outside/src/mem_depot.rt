@@ -77,7 +77,7 @@ impl Depot for MemDepot {
             ≡ Some self.old.pieces.entries }
         ensures gets { self.new.gets ≡ self.old.gets }
         ensures later { self.old.faults ≤ self.new.faults }
-        // it fails where the call is listed, and nowhere else but for want of memory
+        // it fails where the call is listed, and nowhere else unless out of memory
         ensures listed { (result ≡ Err DepotFault.Failed) ↔ (is_listed self.old.fail_puts.items self.new.puts ≡ true) }
         ensures puts { self.new.puts ≡ counted self.old.puts }
         ensures faults { self.new.faults ≡ counted_if (is_listed self.old.fail_puts.items self.new.puts)

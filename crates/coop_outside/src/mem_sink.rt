@@ -8,7 +8,7 @@ use crate::bytes::Bytes;
 use crate::failed::Failed;
 use crate::sink::Sink;
 
-/// Takes bytes into memory, and tells them. Want of memory is one of its faults.
+/// Takes bytes into memory, and tells them. Out of memory is one of its faults.
 #[derive(Drop)]
 pub struct MemSink {
     /// The bytes taken so far.
@@ -24,7 +24,7 @@ pub struct MemSink {
 }
 
 impl MemSink {
-    // The front of a piece that this call takes, where it takes some.
+    // The prefix of a piece that this call takes, where it takes some.
     fn takes(&self, piece: &[u8]) -> Option<usize>
         ensures front { IfSome result (λ n. (n ≤ length piece.now) × (0 < length piece.now → 0 < n)) }
         ensures part { IfSome result (λ n. n ≡ min (length piece.now) self.now.per_call) }
@@ -49,7 +49,7 @@ impl Sink for MemSink {
         ensures cause { OnErr result (Rose self.old.faults self.new.faults) }
         // a call that is listed fails
         ensures listed { OnOk result (is_listed self.old.fail_writes.items self.new.calls ≡ false) }
-        // any other takes as much as one write takes; it fails for want of memory, or where that is nothing
+        // any other takes as much as one write takes; it fails when out of memory, or where that is nothing
         ensures part { IfOk result (λ n. n ≡ min (length piece.now) self.old.per_call) }
         ensures calls { self.new.calls ≡ counted self.old.calls }
         ensures faults { self.new.faults ≡ counted_if (is_err result) self.old.faults }

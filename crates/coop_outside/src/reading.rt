@@ -18,7 +18,7 @@ pub enum ReadFault {
         /// The limit of the call, in bytes.
         limit: u64,
     },
-    /// Want of memory.
+    /// Out of memory.
     Memory,
 }
 

@@ -13,7 +13,7 @@ pub trait Sink {
     /// How many faults there were; the count never falls, and stands still at 2^64 - 1.
     ghost faults: { Self → ℕ };
 
-    /// Takes the front of the piece and says how many bytes that was: at least one where the piece has
+    /// Takes a prefix of the piece and says how many bytes that was: at least one where the piece has
     /// one. After an `Err` it has taken nothing of it.
     fn write(&mut self, piece: &[u8]) -> Result<usize, Failed>
         ensures takes { Takes (taken self.old) piece.now result (taken self.new) }

@@ -65,7 +65,7 @@ impl Depot for SpoiltDepot {
         // the piece's bytes are kept as they are
         ensures kept { OnOk result (Some self.new.inner.pieces.entries
             ≡ with_piece (Some self.old.inner.pieces.entries) piece bytes.now) }
-        // it fails where the call is listed, and nowhere else but for want of memory
+        // it fails where the call is listed, and nowhere else unless out of memory
         ensures listed { (result ≡ Err DepotFault.Failed)
             ↔ (is_listed self.old.inner.fail_puts.items self.new.inner.puts ≡ true) }
     {

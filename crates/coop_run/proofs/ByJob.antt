@@ -57,7 +57,7 @@ small-ends : (o : Text) (status : ℕ) (sink : OverSink) → Prints (Ok o) statu
 small-ends o status sink (inl (e, all)) low = e
 small-ends o status sink (inr (six, cut)) low = let no : ⊥ = omega (arith, six, low) in absurd no
 
--- ---- where the work stops for the words, or for want of memory, before anything is read
+-- ---- where the work stops for the words, or when out of memory, before anything is read
 
 pub stops-job : (job : Job) (shelf : OverShelf) (old new : DepotAt) (runs : List PolicyRun) (s : Stop) → (s ≡ stop.Usage) ⊎ (s ≡ stop.Memory) → (s ≡ stop.Usage → job ≡ refused) → shelf.now ≡ shelf.before → new ≡ old → runs ≡ []
     → DecidesOn job shelf old new runs (Err s)
@@ -78,7 +78,7 @@ none-left (compared r ps) s status sink runs prints left = no-runs ps s status s
 
 -- ---- a comparison
 
--- with a policy to compare, want of memory at first ends the work before the first run
+-- with a policy to compare, out of memory at first ends the work before the first run
 memory-compares : (r : Request) (shelf : OverShelf) (p : PolicyAt) (ps : List PolicyAt) (old new : DepotAt) (runs : List PolicyRun) (d : Result Text Stop) → LacksMemoryAtFirst shelf old new runs d
     → Compares r shelf (p ∷ ps) old new runs d
 memory-compares r shelf p ps old new runs d lacks =
@@ -141,7 +141,7 @@ module _ (r : Request) (table batch : Option (List ℕ)) (shelf : OverShelf) (ps
   ]
   comes-behind (inr before) = stops-behind r table batch shelf before.stops
 
-  -- where nothing refuses the runs and no device counts a fault, memory was wanting
+  -- where nothing refuses the runs and no device counts a fault, memory ran out
   comes-excused : (s : Stop) → first_stop r table batch ≡ None → (Rose shelf.before shelf.now → ⊥) → (Rose old.faults new.faults → ⊥) → comparing.ComesTo r table batch shelf ps old new runs (Err s) → s ≡ stop.Memory
   comes-excused s none no_read no_put (inl (accepted, are)) = elim (runs-stop r table batch ps old new runs s are) [
     | inl memory ↦ memory
@@ -175,7 +175,7 @@ compares-faulty r shelf ps old new runs d is = record {
   };
 }
 
--- with no policy to compare, nothing is decided but want of memory
+-- with no policy to compare, nothing is decided but out of memory
 nothing-stops : (r : Request) (shelf : OverShelf) (old new : DepotAt) (runs : List PolicyRun) (s : Stop) → DecidesOn (compared r []) shelf old new runs (Err s) → s ≡ stop.Memory
 nothing-stops r shelf old new runs s (inl lacks) = cc lacks.stop_is
 nothing-stops r shelf old new runs s (inr is) = cc is.writes

@@ -100,7 +100,7 @@ module _ (r : Request) (table batch : Option (List ℕ)) where
       omega (arith, low, high)
   runs-later (p ∷ ps) old new (run ∷ runs) d (inr (none, e, over)) = worked-later over.given (work_in p old new run) over.comes.worked
 
-  -- a stop in a run is want of memory, or a piece that isn't stored, which counts a fault
+  -- a stop in a run is out of memory, or a piece that isn't stored, which counts a fault
   abbrev pub StopsIn : DepotAt → DepotAt → Stop → Type 0
   StopsIn old new s = (s ≡ stop.Memory) ⊎ ((piece : ℕ) × (s ≡ stop.NotStored piece) × Rose old.faults new.faults)
 

@@ -121,7 +121,7 @@ pub no-change : (old : Option (List ℕ)) → grown old [] ≡ old
 no-change None = refl
 no-change (Some t) = ap Some (append-nil t)
 
--- for want of memory nothing is written
+-- when out of memory nothing is written
 pub memory-writes : (status : ℕ) (sink : OverSink) → Prints (Err stop.Memory) status sink → sink.new ≡ sink.old
 memory-writes status sink (is, inl all) = all ∙ no-change sink.old
 memory-writes status sink (is, inr (k, less, part, rose)) = let no : ⊥ = omega (arith, less) in absurd no
@@ -247,7 +247,7 @@ stop-excused r table batch shelf w s none no_read no_put (inr (inl first, untouc
 stop-excused r table batch shelf w s none no_read no_put (inr (inr (inl memory), untouched)) = memory
 stop-excused r table batch shelf w s none no_read no_put (inr (inr (inr (fault, rose)), untouched)) = absurd (no_read rose)
 
--- a headline over a depot that counted no fault loses no query but for want of memory
+-- a headline over a depot that counted no fault loses no query unless out of memory
 pub only-for-memory : (r : Request) (files : List ℕ → Option (List ℕ)) (w : Work) (ends : ℕ) (text : List ℕ) (h : Headline r files w ends text) → Tells w.old.held → (Rose w.old.faults w.new.faults → ⊥)
     → AllByRecursion OnlyForMemory h.losses
 only-for-memory r files w ends text h tells none = only-memory w.old.held (past w.story) r.parts w.old.faults w.new.faults tells none h.worked.story.licensed 1 h.given.outcomes.items h.losses h.lost

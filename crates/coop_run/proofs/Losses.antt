@@ -1,4 +1,4 @@
--- Over a depot that tells what it holds and counted no fault, queries are lost for want of memory alone.
+-- Over a depot that tells what it holds and counted no fault, queries are lost only when out of memory.
 use Rattle.std.proofs.Common.{◌≤◌, ◌+◌, ◌==◌, ℕ, zero, suc, Bool, true, false, List, [], ◌∷◌, Option, Some, None, refl, sym, subst, arith, inl, inr}
 use Rattle.std.specs.Prelude.{is_some}
 use Rattle.std.specs.List.{AllByRecursion}

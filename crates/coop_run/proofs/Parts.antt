@@ -27,7 +27,7 @@ use Rattle.run_decision.specs.Work.{Work}
 use Rattle.run_decision.proofs.Losing.{tasks_within}
 use Rattle.coop_run.specs.Ending.{Headline, IsForAnyParts, values_of}
 
--- for some query memory was wanting, or none is lost
+-- for some query memory ran out, or none is lost
 some-or-none : (losses : List (Option Cause)) → AllByRecursion OnlyForMemory losses → SomeForMemory losses ⊎ (losses ≡ replicate (length losses) None)
 some-or-none [] only = inr refl
 some-or-none (None ∷ losses) only = elim (some-or-none losses only.1) [

@@ -1,4 +1,4 @@
--- Words that are refused, and want of memory for them.
+-- Words that are refused, and out of memory for them.
 use Rattle.std.proofs.Common.{◌≡◌, Option, Some, None, Err, refl, ap, inl, inr, ◌⊎◌}
 use Rattle.command_words.specs.Options.{Request}
 use Rattle.run_output.specs.declared.stop.Stop.{Stop}
@@ -9,7 +9,7 @@ use Rattle.run_decision.specs.Deciding.{IsDecided, IsDecision, IsUntouched}
 use Rattle.run_decision.specs.Devices.{OverShelf}
 use Rattle.run_decision.specs.Work.{Work}
 
--- want of memory may end any run before it reads
+-- out of memory may end any run before it reads
 pub memory-ends : (r : Request) (shelf : OverShelf) (w : Work) → IsUntouched w → IsDecided r shelf w (Err stop.Memory)
 memory-ends r shelf w untouched =
     let (table, table_is) = some-text shelf.held (table_source r.table) in

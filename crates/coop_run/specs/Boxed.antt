@@ -77,13 +77,13 @@ ComparesNothing (alone r p) over did = ⊤
 ComparesNothing (compared r []) over did = LeavesAll over did
 ComparesNothing (compared r (p ∷ ps)) over did = ⊤
 
--- nothing is done: the words are refused, or memory was wanting for them
+-- nothing is done: the words are refused, or memory ran out for them
 pub record IsUndone (old new : DepotAt) (runs : List PolicyRun) (d : Result Text Stop) : Type 0 where
   pub stop_is : (d ≡ Err stop.Usage) ⊎ (d ≡ Err stop.Memory)
   pub depot : new ≡ old
   pub none : runs ≡ []
 
--- memory was wanting for the words of a comparison
+-- memory ran out for the words of a comparison
 pub record LacksMemoryAtFirst (shelf : OverShelf) (old new : DepotAt) (runs : List PolicyRun) (d : Result Text Stop) : Type 0 where
   pub stop_is : d ≡ Err stop.Memory
   pub unread : shelf.now ≡ shelf.before
@@ -111,7 +111,7 @@ pub record KeepsPromisesOn (job : Job) (over : Devices) (did : DidRuns) : Type 0
   -- whole table; its scans took each chunk that it needs exactly once, from frames that nobody refilled meanwhile; and every recorded load,
   -- delivery and eviction was the policy's choice among those it allowed
   pub headline : KeepsHeadlineOn job over did
-  -- where nothing refuses the run and no device counts a fault, the answers are written, and no query is lost, but for want of memory
+  -- where nothing refuses the run and no device counts a fault, the answers are written, and no query is lost, unless out of memory
   pub complete : IsCompleteOn job over did
   -- the answers are those of any number of parts, and each chunk that a query needs was delivered to exactly one of its scans
   pub parts : IsForAllPartsOn job over did
@@ -125,10 +125,10 @@ pub record KeepsPromisesOn (job : Job) (over : Devices) (did : DidRuns) : Type 0
   pub no_file : MissesFile (asked_to_read job) over.shelf did.status
   -- 5: the depot failed while pieces were put
   pub put_fault : did.status ≡ 5 → Rose over.depot.old.faults over.depot.new.faults
-  -- 6: the sink failed, and has a front of the output
+  -- 6: the sink failed, and has a prefix of the output
   pub write_fault : did.status ≡ 6 → Rose over.sink.before over.sink.now
   pub cut : KeepsHeadlineCutOn job over did
-  -- 7: memory was wanting, and nothing is written
+  -- 7: memory ran out, and nothing is written
   pub no_memory : did.status ≡ 7 → over.sink.new ≡ over.sink.old
   -- 8: there are too few frames, or too many words in them; only a shelf that failed while the table was read excuses it
   pub frames : StopsExactly 8 FailsAtTable (asked_to_read job) over.shelf over.sink did.status
@@ -139,7 +139,7 @@ pub record KeepsPromisesOn (job : Job) (over : Devices) (did : DidRuns) : Type 0
   -- with 0, 1 and 6 there is one run, under the policy's name, or one for each policy, in their order; without a comparison no worker ran
   -- but with these and 7
   pub runs : LeavesRuns job did.status did.runs
-  -- of a comparison: a line for each run is written, with 6 a front of them; with no policy nothing is read and nothing written
+  -- of a comparison: a line for each run is written, with 6 a prefix of them; with no policy nothing is read and nothing written
   pub lines : WritesLines job over did
   -- of a comparison with 1, over every device: a statement is unanswered in some run, since its text is refused, or a sum is no number of 64
   -- bits, or its query was stopped, for the cause that the story tells of its scans or out of memory

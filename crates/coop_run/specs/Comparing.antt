@@ -64,24 +64,24 @@ abbrev pub KeepsHeadlines : Request → List PolicyAt → Devices → DidRuns �
 KeepsHeadlines r ps over did = did.status ≤ 1 → (files : List ℕ → Option (List ℕ)) → AreHonest over files
     → Headlines r files (nothing_more r files) ps over.depot.old over.depot.new did.runs did.status × IsWritten (lines_of did.runs) over.sink
 
--- with 6 over honest devices it holds too, and a front of the lines is written
+-- with 6 over honest devices it holds too, and a prefix of the lines is written
 abbrev pub KeepsHeadlinesCut : Request → List PolicyAt → Devices → DidRuns → Type 0
 KeepsHeadlinesCut r ps over did = did.status ≡ 6 → (files : List ℕ → Option (List ℕ)) → AreHonest over files
     → (ends : ℕ) × Headlines r files (nothing_more r files) ps over.depot.old over.depot.new did.runs ends × IsCutShort (lines_of did.runs) over.sink
 
 -- ---- completeness
 
--- no query is lost but for want of memory
+-- no query is lost unless out of memory
 abbrev pub lost_for_memory : (r : Request) (files : List ℕ → Option (List ℕ)) → Remark r files
 lost_for_memory r files w status text h = All OnlyForMemory h.losses
 
 -- COMPLETENESS: where nothing refuses the runs and no honest device counts a fault, the line of each policy is written, and no query is lost
--- in any run, but for want of memory
+-- in any run, unless out of memory
 abbrev pub AreComplete : Request → List PolicyAt → Devices → DidRuns → Type 0
 AreComplete r ps over did = (files : List ℕ → Option (List ℕ)) → AreHonest over files → stop_over r files ≡ None → AreFaultless over
     → (did.status ≡ 7) ⊎ (Headlines r files (lost_for_memory r files) ps over.depot.old over.depot.new did.runs did.status × IsWritten (lines_of did.runs) over.sink)
 
--- PARTS: with 0 and 1 over honest devices, where the depot counts no fault, each run is one for any number of parts; or memory was wanting
+-- PARTS: with 0 and 1 over honest devices, where the depot counts no fault, each run is one for any number of parts; or memory ran out
 -- for one of its queries
 abbrev pub for_any_parts : (r : Request) (files : List ℕ → Option (List ℕ)) → Remark r files
 for_any_parts r files w status text h = SomeForMemory h.losses ⊎ IsForAnyParts h.table h.batch h.given w status text
@@ -92,12 +92,12 @@ AreForAllParts r ps over did = did.status ≤ 1 → (files : List ℕ → Option
 
 -- ---- what is written
 
--- a line for each run, with 0 and 1; a front of them with 6
+-- a line for each run, with 0 and 1; a prefix of them with 6
 pub record AreLines (runs : List PolicyRun) (status : ℕ) (sink : OverSink) : Type 0 where
   pub all : status ≤ 1 → IsWritten (lines_of runs) sink
   pub cut : status ≡ 6 → IsCutShort (lines_of runs) sink
 
--- with no policy to compare nothing is read and nothing written; or memory was wanting for the words
+-- with no policy to compare nothing is read and nothing written; or memory ran out for the words
 pub record LeavesAll (over : Devices) (did : DidRuns) : Type 0 where
   pub status_is : (did.status ≡ 0) ⊎ (did.status ≡ 7)
   pub unread : over.shelf.now ≡ over.shelf.before

@@ -36,8 +36,8 @@ IsCutShort text sink = (k : ℕ) × (k < length text) × (sink.new ≡ grown sin
 abbrev pub IsLineWritten : Stop → OverSink → Type 0
 IsLineWritten s sink = IsWritten (line_of s) sink ⊎ IsCutShort (line_of s) sink
 
--- what a decision writes, and the status that is answered: the whole text and its status, or a front of it and 6;
--- the stop's line, or a front of it, and the stop's status
+-- what a decision writes, and the status that is answered: the whole text and its status, or a prefix of it and 6;
+-- the stop's line, or a prefix of it, and the stop's status
 abbrev pub Prints : Result Text Stop → ℕ → OverSink → Type 0
 Prints (Ok o) status sink = ((status ≡ o.0) × IsWritten o.1 sink) ⊎ ((status ≡ 6) × IsCutShort o.1 sink)
 Prints (Err s) status sink = (status ≡ status_of s) × IsLineWritten s sink
@@ -55,7 +55,7 @@ pub record Headline (r : Request) (files : List ℕ → Option (List ℕ)) (w : 
   pub batch_is : text_in (batch_source r.batch) files ≡ Some batch
   pub given : Inputs
   pub is_given : AreInputs r (Some table) (Some batch) given
-  -- each query not refused prints its SQL meaning over the whole table; why a query is lost is what the story says of its scans, or want of memory;
+  -- each query not refused prints its SQL meaning over the whole table; why a query is lost is what the story says of its scans, or out of memory;
   -- a statement that is refused for its text is no loss
   pub losses : List (Option Cause)
   pub lost : AreLostBy (past w.story) r.parts 1 given.outcomes.items losses
@@ -65,7 +65,7 @@ pub record Headline (r : Request) (files : List ℕ → Option (List ℕ)) (w : 
   -- eviction was of greatest relevance among those that the policy allowed
   pub worked : IsWorked given w
 
--- the answers are written, and no query is lost but for want of memory
+-- the answers are written, and no query is lost unless out of memory
 pub record WritesAll (r : Request) (files : List ℕ → Option (List ℕ)) (w : Work) (status : ℕ) (sink : OverSink) : Type 0 where
   pub text : List ℕ
   pub headline : Headline r files w status text
@@ -87,7 +87,7 @@ pub record IsForAnyParts (table batch : List ℕ) (i : Inputs) (w : Work) (statu
   pub answers : AreAnswersAlone table batch status alone
   pub once : All (λ (t : Task). IsPermutation (needed t.plan.cond (zones_in i)) (delivered_to w.story i.options.parts t.query i.options.parts)) (queries_in i)
 
--- the output is written; memory was wanting for a query, or the answers are those of any number of parts
+-- the output is written; memory ran out for a query, or the answers are those of any number of parts
 pub record WritesForAnyParts (r : Request) (files : List ℕ → Option (List ℕ)) (w : Work) (status : ℕ) (sink : OverSink) : Type 0 where
   pub text : List ℕ
   pub headline : Headline r files w status text

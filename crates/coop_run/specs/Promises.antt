@@ -24,18 +24,18 @@ KeepsHeadlineCut asked over did = did.status ≡ 6 → (files : List ℕ → Opt
     → (ends : ℕ) × (text : List ℕ) × Headline r files (work_of over did) ends text × IsCutShort text over.sink
 
 -- COMPLETENESS: where nothing refuses the run and no honest device counts a fault, all answers are written, and no query is lost, but
--- for want of memory
+-- when out of memory
 abbrev pub IsComplete : Option Request → Devices → Did → Type 0
 IsComplete asked over did = (files : List ℕ → Option (List ℕ)) → AreHonest over files → (r : Request) → asked ≡ Some r → stop_over r files ≡ None → AreFaultless over
     → (did.status ≡ 7) ⊎ WritesAll r files (work_of over did) did.status over.sink
 
 -- PARTS: with 0 and 1 over honest devices, where the depot counts no fault, the answers are those of any number of parts, and each chunk
--- that a query needs was delivered to exactly one of its scans; or memory was wanting for a query
+-- that a query needs was delivered to exactly one of its scans; or memory ran out for a query
 abbrev pub IsForAllParts : Option Request → Devices → Did → Type 0
 IsForAllParts asked over did = did.status ≤ 1 → (files : List ℕ → Option (List ℕ)) → AreHonest over files → (r : Request) → asked ≡ Some r → (Rose over.depot.old.faults over.depot.new.faults → ⊥)
     → WritesForAnyParts r files (work_of over did) did.status over.sink
 
--- 2 exactly where the words are refused, but for want of memory
+-- 2 exactly where the words are refused, unless out of memory
 pub record IsUsageExactly (asked : Option Request) (status : ℕ) : Type 0 where
   pub only : status ≡ 2 → asked ≡ None
   pub always : asked ≡ None → (status ≡ 2) ⊎ (status ≡ 7)
@@ -44,7 +44,7 @@ pub record IsUsageExactly (asked : Option Request) (status : ℕ) : Type 0 where
 abbrev pub Failing : Type 1
 Failing = Request → OverShelf → OverSink → ℕ → Type 0
 
--- over a shelf that tells what it holds, this status exactly where the first stop in the order of the work has it, but for want of memory
+-- over a shelf that tells what it holds, this status exactly where the first stop in the order of the work has it, unless out of memory
 -- and where the shelf failed so
 abbrev pub StopsExactly : ℕ → Failing → Option Request → OverShelf → OverSink → ℕ → Type 0
 StopsExactly due Fails asked shelf sink status = (files : List ℕ → Option (List ℕ)) → shelf.held ≡ Some files → (r : Request) → asked ≡ Some r
@@ -54,7 +54,7 @@ StopsExactly due Fails asked shelf sink status = (files : List ℕ → Option (L
 abbrev pub FailsToRead : Option Request → OverShelf → OverSink → ℕ → Type 0
 FailsToRead asked shelf sink status = status ≡ 4 → (r : Request) → asked ≡ Some r → FailsAtEither r shelf sink status
 
--- 4, or for want of memory 7, always where the shelf tells that it lacks the name, and nothing is refused before
+-- 4, or out of memory 7, always where the shelf tells that it lacks the name, and nothing is refused before
 abbrev pub MissesFile : Option Request → OverShelf → ℕ → Type 0
 MissesFile asked shelf status = (files : List ℕ → Option (List ℕ)) → shelf.held ≡ Some files → (r : Request) → asked ≡ Some r → HasStatus 4 (stop_over r files) → (status ≡ 4) ⊎ (status ≡ 7)
 
@@ -78,7 +78,7 @@ pub record KeepsPromises (asked : Option Request) (over : Devices) (did : Did) :
   -- exactly once, from frames that nobody refilled meanwhile; and every recorded load, delivery and eviction was of greatest relevance
   -- among those the policy allowed
   pub headline : KeepsHeadline asked over did
-  -- where nothing refuses the run and no device counts a fault, the answers are written, and no query is lost, but for want of memory
+  -- where nothing refuses the run and no device counts a fault, the answers are written, and no query is lost, unless out of memory
   pub complete : IsComplete asked over did
   -- the answers are those of any number of parts, and each chunk that a query needs was delivered to exactly one of its scans
   pub parts : IsForAllParts asked over did
@@ -92,10 +92,10 @@ pub record KeepsPromises (asked : Option Request) (over : Devices) (did : Did) :
   pub no_file : MissesFile asked over.shelf did.status
   -- 5: the depot failed while pieces were put
   pub put_fault : did.status ≡ 5 → Rose over.depot.old.faults over.depot.new.faults
-  -- 6: the sink failed, and has a front of the output
+  -- 6: the sink failed, and has a prefix of the output
   pub write_fault : did.status ≡ 6 → Rose over.sink.before over.sink.now
   pub cut : KeepsHeadlineCut asked over did
-  -- 7: memory was wanting, and nothing is written
+  -- 7: memory ran out, and nothing is written
   pub no_memory : did.status ≡ 7 → over.sink.new ≡ over.sink.old
   -- 8: there are too few frames, or too many words in them; only a shelf that failed while the table was read excuses it
   pub frames : StopsExactly 8 FailsAtTable asked over.shelf over.sink did.status

@@ -73,7 +73,7 @@ pub record AddsOne (e : Entry) (p r : PassView) : Type 0 where
 abbrev pub Releases : ℕ → ℕ → PassView → PassView → ℕ → Type 0
 Releases w q p r c = AddsOne (Release w q c) p r
 
--- the query was stopped for want of memory; else the story had stopped it, and nothing was added
+-- the query was stopped when out of memory; else the story had stopped it, and nothing was added
 abbrev pub IsStoppedBy : ℕ → ℕ → PassView → PassView → Cause → Type 0
 IsStoppedBy w q p r cause = (cause_of (past r.seen) q ≡ Some cause) × (Went p r [] ⊎ (AddsOne (Stop w q) p r × (cause ≡ Memory)))
 

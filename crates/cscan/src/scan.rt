@@ -109,7 +109,7 @@ impl<'a, S: Origin, C: Content, P: Policy, D: Depot> CScan<'a, S, C, P, D> {
         }
     }
 
-    /// Ends the scan before its end, for want of memory: it appends a Stop and answers `Memory`, or answers the earlier
+    /// Ends the scan before its end, when out of memory: it appends a Stop and answers `Memory`, or answers the earlier
     /// cause where the story had already stopped the query. No chunk is out.
     pub fn stop<R: Wait>(self, rt: &R) -> Cause
         requires scan { IsScan S.origin C.pieces self }

@@ -1,5 +1,5 @@
-// Want of memory, as an answer of its own.
+// Out of memory, as an answer of its own.
 
-/// Want of memory.
+/// Out of memory.
 #[derive(Clone, Copy, Debug, PartialEq, Eq)]
 pub struct Memory;

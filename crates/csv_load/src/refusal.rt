@@ -44,7 +44,7 @@ pub enum LoadRefusal {
     /// There are more than 2097152 data records, and the first 2097152 of them are as long as the header.
     #[error("too many rows")]
     TooManyRows,
-    /// Want of memory. It may come in place of any other answer.
+    /// Out of memory. It may come in place of any other answer.
     #[error("memory")]
     Memory,
 }

@@ -42,7 +42,7 @@ impl<'a> Rows<'a> {
     }
 
     /// Puts the next record into `row`, whose memory is used again, and says whether there was one. After
-    /// want of memory, and after the last record, none is left.
+    /// out of memory, and after the last record, none is left.
     pub fn next(&mut self, row: &mut ByteRecord) -> Result<bool, Memory>
         ensures found { result ≡ Ok true → self.old ≡ fields_of row.new ∷ self.new }
         ensures ended { result ≡ Ok false → self.old ≡ [] }

@@ -11,7 +11,7 @@ use crate::rule::Board;
 use std::alloc::Global;
 use std::marker::{Model, PhantomData};
 
-/// Want of memory. Nothing is left behind.
+/// Out of memory. Nothing is left behind.
 #[derive(Clone, Copy, PartialEq, Eq, Debug, Drop)]
 pub struct Memory;
 

@@ -23,7 +23,7 @@ use std::sync::Wait;
 pub enum Unfinished {
     /// The scan was stopped, and is over.
     Stopped(Cause),
-    /// Memory was wanting for a row. The scan is still under way and has no chunk out: `CScan::stop` ends it.
+    /// Memory ran out for a row. The scan is still under way and has no chunk out: `CScan::stop` ends it.
     Memory,
 }
 

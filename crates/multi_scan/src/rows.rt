@@ -18,7 +18,7 @@ use scan_story::Origin;
 use sql_bind::Plan;
 use table_core::{Cell, Memory};
 
-/// Adds the rows of the chunk that is out, by their numbers in the table, until memory is wanting.
+/// Adds the rows of the chunk that is out, by their numbers in the table, until memory runs out.
 ///
 /// A row is read into one place for all rows, the columns of the plan alone.
 pub(crate) fn add_rows<S: Origin, C: Content, P: Policy, D: Depot>(

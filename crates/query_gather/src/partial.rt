@@ -43,7 +43,7 @@ fn matches(cond: &Option<Cond>, row: &[Cell]) -> bool
     }
 }
 
-// Adds the rows of other groups behind. After want of memory the others are gone.
+// Adds the rows of other groups behind. Out of memory, the others are gone.
 fn join_groups(groups: &mut Groups, other: Groups) -> Result<(), Memory>
     requires items { other.items ≡ groups.old.items }
     requires keys { other.keys ≡ groups.old.keys }
@@ -60,7 +60,7 @@ fn join_groups(groups: &mut Groups, other: Groups) -> Result<(), Memory>
     }
 }
 
-// Adds the rows of other first rows. After want of memory the others are gone.
+// Adds the rows of other first rows. Out of memory, the others are gone.
 fn join_top(top: &mut TopRows, other: TopRows) -> Result<(), Memory>
     requires { other.plan ≡ top.old.plan }
     ensures ok { OnOk result ((rows more : List (Numbered Cell)) → first.Stands top.old rows → first.Stands other more
@@ -108,7 +108,7 @@ impl Partial {
 
     /// Adds a row, by its number, where the plan's condition is true of it, and else nothing.
     ///
-    /// A row of which it isn't true takes no memory. For want of memory what is gathered stays as it was.
+    /// A row of which it isn't true takes no memory. Out of memory, what is gathered stays as it was.
     pub fn add_row(&mut self, plan: &Plan, number: u32, row: &[Cell]) -> Result<(), Memory>
         requires cond { spec.FitsCond plan.now.cond row.now }
         requires width { spec.FitsWidth plan.now (length row.now) }
@@ -132,7 +132,7 @@ impl Partial {
     /// The answer: what the plan means over each list of rows that is gathered.
     ///
     /// A query without a limit is answered its result rows, or the first sum that overflows, and one with a limit its rows.
-    /// For want of memory it is stopped.
+    /// Out of memory, it is stopped.
     pub fn finish(self) -> Answer
         ensures answer { (p : Plan) (rows : List (Numbered Cell)) → spec.FitsPlan p self → spec.Stands self rows
             → IsAnswerOver p rows result }
@@ -151,7 +151,7 @@ impl Partial {
         }
     }
 
-    // Adds what another one gathered, behind its own. After want of memory the other is gone.
+    // Adds what another one gathered, behind its own. Out of memory, the other is gone.
     fn merge(&mut self, other: Partial) -> Result<(), Memory>
         requires alike { spec.IsAlike self.old other }
         requires few { spec.row_count self.old + spec.row_count other ≤ MOST_ROWS }
@@ -170,7 +170,7 @@ impl Partial {
 
 /// Joins what parts of a query gathered, in order.
 ///
-/// After want of memory all of them are gone.
+/// Out of memory, all of them are gone.
 pub fn join_parts(first: Partial, rest: Vec<Partial>) -> Result<Partial, Memory>
     requires alike { All (spec.IsAlike first) rest.items }
     requires few { spec.row_count first + spec.rows_of_all rest.items ≤ MOST_ROWS }

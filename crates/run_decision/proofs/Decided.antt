@@ -15,7 +15,7 @@ use Rattle.run_decision.specs.Work.{Work, work}
 err-same : {T U : Type 0} (e s : Stop) → ◌≡◌ {A = Result T Stop} (Err e) (Err s) → ◌≡◌ {A = Result U Stop} (Err e) (Err s)
 err-same e s h = let q : e ≡ s = cc h in ap (λ (x : Stop). Err x) q
 
--- a batch that runs stops for a piece or for want of memory alone
+-- a batch that runs stops for a piece or only when out of memory
 comes-stop : (i : Inputs) (w : Work) (d : Result Text Stop) (s : Stop) → ComesOf i w d → d ≡ Err s → (s ≡ stop.Memory) ⊎ ((piece : ℕ) × (s ≡ stop.NotStored piece))
 comes-stop i w (Ok o) s h e = cc e
 comes-stop i w (Err t) s (inl memory) e = inl (cc (e, memory.stop_is))

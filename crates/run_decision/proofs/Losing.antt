@@ -132,7 +132,7 @@ module _ (h : History) (zones : List ChunkZones) (workers parts : ℕ) (all : Li
   pub lost_by : (given : List Answer) → AllZip (λ (t : Task) (a : Answer). IsLostBy h parts t.query (stop_of a)) (tasks_in 1 all) given → AreLostBy h parts 1 all (losses all given)
   lost_by given lost = lost_from [] all 1 given refl (omega arith) lost
 
--- ---- what is lost for want of memory
+-- ---- what is lost when out of memory
 
 pub some_query : (h : History) (parts n : ℕ) (os : List Outcome) (ls : List (Option Cause)) → AreLostBy h parts n os ls → SomeForMemory ls → SomeQueryForMemory os ls
 some_query h parts n [] [] lost some = absurd some

@@ -26,7 +26,7 @@ abbrev pub taken_in : Option Ran → List Taken
 taken_in None = []
 taken_in (Some ran) = ran.taken.items
 
--- no worker ran: memory was wanting, or a piece wasn't stored
+-- no worker ran: memory ran out, or a piece wasn't stored
 abbrev pub IsUnanswered : Inputs → Work → Stop → Type 0
 IsUnanswered i w s = ((s ≡ stop.Memory) × IsIdle w) ⊎ IsNotStored i w s
 

@@ -31,18 +31,18 @@ pub record IsUntouched (w : Work) : Type 0 where
   pub story : w.story ≡ []
   pub taken : w.taken ≡ []
 
--- memory is wanting, before a worker ran or after they did
+-- memory runs out, before a worker ran or after they did
 pub record LacksMemory (i : Inputs) (w : Work) (s : Stop) : Type 0 where
   pub stop_is : s ≡ stop.Memory
   pub when : IsIdle w ⊎ IsWorked i w
 
--- what a batch comes to over what a run is given: a text, or memory is wanting, or a piece wasn't stored
+-- what a batch comes to over what a run is given: a text, or memory runs out, or a piece wasn't stored
 abbrev pub ComesOf : Inputs → Work → Result Text Stop → Type 0
 ComesOf i w (Ok o) = IsRunOf i w o
 ComesOf i w (Err s) = LacksMemory i w s ⊎ IsNotStored i w s
 
 -- why a run stops before its batch runs, by the texts of its table and its batch: the first refusal in the order of the work,
--- or memory was wanting, or the shelf failed in that order: while the batch was read only where the table is accepted
+-- or memory ran out, or the shelf failed in that order: while the batch was read only where the table is accepted
 abbrev pub StopsBefore : Request → Option (List ℕ) → Option (List ℕ) → OverShelf → Result Text Stop → Type 0
 StopsBefore r table batch shelf (Ok o) = ⊥
 StopsBefore r table batch shelf (Err s) = (first_stop r table batch ≡ Some s) ⊎ (s ≡ stop.Memory) ⊎ (IsReadFault r table s × Rose shelf.before shelf.now)

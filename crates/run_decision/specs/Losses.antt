@@ -7,7 +7,7 @@ use Rattle.batch_run.specs.Lost.{IsLostBy, cause_of_query}
 use Rattle.run_output.specs.declared.outcome.Outcome.{Outcome}
 use Rattle.run_output.specs.declared.outcome.Outcome.TheVariants as outcome
 
--- HOW A STATEMENT IS LOST: a query as the story says of its scans, or for want of memory; a statement that is refused for its text
+-- HOW A STATEMENT IS LOST: a query as the story says of its scans, or when out of memory; a statement that is refused for its text
 -- has no scan that the story stopped, and isn't lost
 abbrev pub IsLossOf : History → ℕ → ℕ → Outcome → Option Cause → Type 0
 IsLossOf h parts n (outcome.Planned p) lost = IsLostBy h parts n lost
@@ -19,11 +19,11 @@ AreLostBy h parts n [] [] = Unit {0}
 AreLostBy h parts n (o ∷ outcomes) (lost ∷ losses) = IsLossOf h parts n o lost × AreLostBy h parts (n + 1) outcomes losses
 AreLostBy h parts n _ _ = ⊥
 
--- a statement isn't lost but for want of memory
+-- a statement isn't lost unless out of memory
 abbrev pub OnlyForMemory : Option Cause → Type 0
 OnlyForMemory lost = lost ≢ None → lost ≡ Some cause.Memory
 
--- some query is lost for want of memory
+-- some query is lost when out of memory
 abbrev pub SomeForMemory : List (Option Cause) → Type 0
 SomeForMemory [] = ⊥
 SomeForMemory (lost ∷ losses) = (lost ≡ Some cause.Memory) ⊎ SomeForMemory losses

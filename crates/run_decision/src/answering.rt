@@ -29,7 +29,7 @@ fn stop_of(refusal: BatchRefusal) -> Stop
 }
 
 /// Runs a batch over what a run is given, and answers its queries; or says why no worker ran, and gives the depot back: a
-/// piece was not stored, or memory was wanting. Once the workers have run there are answers.
+/// piece was not stored, or memory ran out. Once the workers have run there are answers.
 pub fn answer<P: Policy, D: Depot + Send, T: Gate + Sync, R: Threads + Wait + Sync>(
     rt: &R,
     alloc: Global,

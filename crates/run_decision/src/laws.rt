@@ -5,7 +5,7 @@ ghost use Rattle.scan_story.specs.declared.cause.Cause.{Cause};
 ghost use Rattle.run_output.specs.declared.outcome.Outcome.{Outcome};
 ghost use Rattle.run_decision.specs.Losses.{AreLostBy, SomeForMemory, SomeQueryForMemory};
 
-/// What is lost for want of memory is a query, and no statement that is refused for its text: a law. It does nothing.
+/// What is lost when out of memory is a query, and no statement that is refused for its text: a law. It does nothing.
 pub fn lost_for_memory_are_queries()
     ensures { (h : History) (parts n : ℕ) (outcomes : List Outcome) (losses : List (Option Cause))
         → AreLostBy h parts n outcomes losses → SomeForMemory losses → SomeQueryForMemory outcomes losses }

@@ -19,7 +19,7 @@ use Rattle.run_inputs.specs.Sources.{Source, made, stored, batch_source, table_s
 use Rattle.run_inputs.proofs.Texts.{not-past, some-text, text-told}
 use Rattle.run_inputs.specs.declared.inputs.Inputs.{Inputs}
 
--- what refuses: a cause, want of memory, or a fault of the shelf
+-- what refuses: a cause, out of memory, or a fault of the shelf
 abbrev pub Refuses : Option Stop → Stop → ℕ → ℕ → Stop → Type 0
 Refuses why fault before now s = (why ≡ Some s) ⊎ (s ≡ stop.Memory) ⊎ ((s ≡ fault) × Rose before now)
 

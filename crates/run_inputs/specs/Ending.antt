@@ -20,7 +20,7 @@ use Rattle.run_inputs.specs.declared.inputs.ReadTexts.{ReadTexts}
 use Rattle.run_inputs.specs.declared.limits.TheConstants.{MOST_BATCH_BYTES}
 use Rattle.csv_load.specs.declared.loading.Loaded.{Loaded}
 
--- a call ends as it should: with such a value where nothing stops it, else with what stops it; or memory is wanting, or
+-- a call ends as it should: with such a value where nothing stops it, else with what stops it; or memory runs out, or
 -- the shelf failed
 abbrev pub Ends : {T : Type 0} → Option Stop → (T → Type 0) → (Stop → Type 0) → ℕ → ℕ → Result T Stop → Type 0
 Ends why Is IsFault before now (Ok x) = (why ≡ None) × Is x

@@ -76,7 +76,7 @@ pub(crate) fn statements_of(alloc: Global, parts: u32, text: &[u8]) -> Result<Ve
     Ok(spans)
 }
 
-// Whether a statement was refused for want of memory alone.
+// Whether a statement was refused only when out of memory.
 fn is_memory(refusal: &StatementRefusal) -> bool
     ensures { (text : List ℕ) (columns : List Column) → IsRefusedFor text columns refusal.now → result ≡ false
         → TextCause text columns (Some refusal.now) }
@@ -88,7 +88,7 @@ fn is_memory(refusal: &StatementRefusal) -> bool
     }
 }
 
-// What a statement comes to, unless memory is wanting.
+// What a statement comes to, unless memory runs out.
 fn outcome_of(alloc: Global, text: &[u8], schema: &Schema, dicts: &[Dict]) -> Result<Outcome, Stop>
     requires short { length text.now < 2 ^ 32 }
     requires few { length schema.now ≤ MOST_COLUMNS }

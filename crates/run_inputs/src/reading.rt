@@ -44,7 +44,7 @@ pub fn inputs_of<F: Shelf>(
     shelf: &mut F,
 ) -> Result<Inputs, Stop>
     requires limits { IsWithinLimits (request_view request.now) }
-    // where the shelf tells what it holds: what the request and the files give, but for faults and want of memory
+    // where the shelf tells what it holds: what the request and the files give, but for faults and memory that runs out
     ensures told { (files : List ℕ → Option (List ℕ)) → F.held shelf.old ≡ Some files
         → EndsOver (request_view request.now) files (F.faults shelf.old) (F.faults shelf.new) result }
     ensures no_usage { result ≢ Err stop.Usage }

@@ -13,7 +13,7 @@ use std::alloc::Global;
 ///
 /// # Errors
 ///
-/// `Usage` exactly where the words are refused, but for want of memory, and `Memory`.
+/// `Usage` exactly where the words are refused, unless out of memory, and `Memory`.
 pub fn request_in<'a>(alloc: Global, call: Call, words: &'a [String]) -> Result<Request<'a>, Stop>
     ensures asked { IfOk result (λ r. asked_of call words.now ≡ Some (request_view r)) }
     ensures limits { IfOk result (λ r. IsWithinLimits (request_view r)) }

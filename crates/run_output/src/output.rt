@@ -101,7 +101,7 @@ fn write_trace(alloc: Global, out: &mut Bytes, trace: Option<&[Entry]>) -> Resul
 /// then the summary, where its totals are given, then the trace, where its story is given: a line for each entry.
 ///
 /// There is an answer for each statement that has a plan, in the order of the statements. There are at most 4294967295
-/// statements, one dictionary for each column, and numbers with at most 9 places. For want of memory there is no text.
+/// statements, one dictionary for each column, and numbers with at most 9 places. Out of memory, there is no text.
 pub fn output_text(
     alloc: Global,
     schema: &Schema,

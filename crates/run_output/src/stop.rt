@@ -44,7 +44,7 @@ pub enum Stop {
     Statements { statements: u32 },
     /// The statements and parts make so many scans, which are more than 256.
     Scans { scans: u32 },
-    /// Want of memory.
+    /// Out of memory.
     Memory,
 }
 
@@ -96,7 +96,7 @@ impl Stop {
         }
     }
 
-    /// The line that says so, with its line end; the empty line for want of memory. It takes no memory.
+    /// The line that says so, with its line end; the empty line when out of memory. It takes no memory.
     pub fn line(self) -> StopLine
         ensures line { result ≡ line_of self }
     {

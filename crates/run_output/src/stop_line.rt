@@ -55,7 +55,7 @@ impl StopLine {
         self.len = end;
     }
 
-    /// The bytes of the line; none for want of memory.
+    /// The bytes of the line; none when out of memory.
     pub fn as_slice(&self) -> &[u8]
         ensures bytes { result.now ≡ self.now }
     {

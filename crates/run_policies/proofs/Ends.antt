@@ -24,7 +24,7 @@ use Rattle.run_policies.proofs.Joining.{Tells, runs_tell, runs_write}
 
 -- ---- why runs stop
 
--- a run stops for want of memory, or for a piece
+-- a run stops when out of memory, or for a piece
 StopsRun : Stop → Type 0
 StopsRun s = (s ≡ stop.Memory) ⊎ ((piece : ℕ) × (s ≡ stop.NotStored piece))
 

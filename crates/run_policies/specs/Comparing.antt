@@ -37,7 +37,7 @@ AreRuns r table batch (p ∷ ps) old new (run ∷ runs) d =
     ⊎ ((runs ≡ []) × (d ≡ Err stop.Memory) × Over r table batch (λ i. IsCutOff i p old new run))
 AreRuns _ _ _ _ _ _ _ _ = ⊥
 
--- the work ends before the first run, by the texts of the table and the batch, or since the shelf failed, or for want of memory
+-- the work ends before the first run, by the texts of the table and the batch, or since the shelf failed, or when out of memory
 pub record EndsBefore (r : Request) (table batch : Option (List ℕ)) (shelf : OverShelf) (old new : DepotAt) (runs : List PolicyRun) (d : Result Text Stop) : Type 0 where
   pub stops : StopsBefore r table batch shelf d
   pub depot : new ≡ old

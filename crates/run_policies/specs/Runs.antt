@@ -25,12 +25,12 @@ pub record IsMade (i : Inputs) (p : PolicyAt) (old new : DepotAt) (run : PolicyR
   pub text : List ℕ
   pub is_run : IsRunOf i (work_in p old new run) (status, text)
 
--- memory was wanting behind the workers of a run
+-- memory ran out behind the workers of a run
 pub record IsCutOff (i : Inputs) (p : PolicyAt) (old new : DepotAt) (run : PolicyRun) : Type 0 where
   pub name : run.name ≡ p.name
   pub worked : IsWorked i (work_in p old new run)
 
--- no worker of a run ran: memory was wanting, or a piece wasn't stored
+-- no worker of a run ran: memory ran out, or a piece wasn't stored
 abbrev pub IsHindered : Inputs → PolicyAt → DepotAt → DepotAt → Stop → Type 0
 IsHindered i p old new s = IsUnanswered i (no_work p old new) s
 

@@ -110,7 +110,7 @@ fn run_all<D: Depot + Send, T: Gate + Sync, R: Threads + Wait + Sync>(
 /// gets are at most 2^62.
 ///
 /// The first stop that comes in any run ends the work with it: those of a single run, as docs/COMMAND_LINE.md lists them,
-/// in the order of the work, in the first run; and in each run a piece that isn't stored, and want of memory.
+/// in the order of the work, in the first run; and in each run a piece that isn't stored, and out of memory.
 pub fn compare<F: Shelf, D: Depot + Send, T: Gate + Sync, R: Threads + Wait + Sync>(
     rt: &R,
     alloc: Global,

@@ -22,7 +22,7 @@ fn name_text(name: PolicyName) -> &'static str
 
 /// Puts the line of a policy's run at the end. The numbers of its scans are below 1024.
 ///
-/// For want of memory the bytes may have got a part of it.
+/// Out of memory, the bytes may have got a part of it.
 pub(crate) fn write_line(out: &mut Bytes, name: PolicyName, story: &[Entry]) -> Result<(), Memory>
     requires small { AreSmall (past story.now) }
     ensures line { OnOk result (out.new ≡ out.old ++ counted name (past story.now)) }

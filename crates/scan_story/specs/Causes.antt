@@ -23,7 +23,7 @@ cause_of (Stop w r ∷ h) q = or_else (cause_of h q) (r == q) causes.Memory
 cause_of (Failed w r p why ∷ h) q = or_else (cause_of h q) (r == q) (cause_by why p)
 cause_of (_ ∷ h) q = cause_of h q
 
--- a query that isn't stopped may be lost for want of memory all the same
+-- a query that isn't stopped may be lost when out of memory all the same
 abbrev pub IsLost : History → ℕ → Option Cause → Type 0
 IsLost h q lost = (lost ≡ cause_of h q) ⊎ ((cause_of h q ≡ None) × (lost ≡ Some causes.Memory))
 

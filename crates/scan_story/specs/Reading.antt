@@ -65,7 +65,7 @@ pub record IsFirstBad (bytes : List ℕ) (line : ℕ) : Type 0 where
   pub number : length entries + 1 ≡ line
   pub bad : BeginsBadly rest
 
--- a bad line is the first one; want of memory may always be answered
+-- a bad line is the first one; out of memory may always be answered
 abbrev pub IsRefusal : List ℕ → StoryRefusal → Type 0
 IsRefusal bytes (BadLine line) = IsFirstBad bytes line
 IsRefusal bytes Memory = Unit {0}

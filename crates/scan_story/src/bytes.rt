@@ -2,7 +2,7 @@ ghost use Rattle.std.specs.Prelude.{◌≡◌, ℕ, List};
 
 use std::marker::Model;
 
-/// Want of memory. What was lent to the call that answers it is as before.
+/// Out of memory. What was lent to the call that answers it is as before.
 #[derive(Clone, Copy, Debug, PartialEq, Eq)]
 pub struct Memory;
 

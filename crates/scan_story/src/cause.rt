@@ -5,6 +5,6 @@ pub enum Cause {
     Read { before: u64, after: u64 },
     /// A piece was read whose word, by its place, can't be one of the table's.
     Damage { piece: u32, word: u32 },
-    /// Want of memory.
+    /// Out of memory.
     Memory,
 }

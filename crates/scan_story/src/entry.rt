@@ -58,7 +58,7 @@ pub enum Entry {
         query: u32,
         chunk: u32,
     },
-    /// The query is given up for want of memory.
+    /// The query is given up when out of memory.
     Stop {
         worker: u32,
         query: u32,

@@ -17,7 +17,7 @@ use std::alloc::Global;
 pub enum StoryRefusal {
     /// This line, counted from 1, is the first that is no entry's text or doesn't end with LF.
     BadLine { line: u32 },
-    /// Want of memory.
+    /// Out of memory.
     Memory,
 }
 

@@ -15,7 +15,7 @@ use Rattle.sql_bind.specs.Reads.{ReadsItsColumns}
 use Rattle.sql_bind.specs.Meaning.{MeansQuery}
 
 -- THE CAUSE for which a text is refused over these columns, if there is one: why it is read as no query, or else why its
--- query isn't bound. Want of memory is none
+-- query isn't bound. Out of memory is none
 abbrev pub TextCause : List ℕ → List Column → Option StatementRefusal → Type 0
 TextCause bytes columns None = (q : QueryTree) × HasQuery bytes q × (refusal_of columns q ≡ None)
 TextCause bytes columns (Some (statement.Text text.Memory)) = ⊥

@@ -43,7 +43,7 @@ fn item_of(columns: &[Column], keys: &[u32], item: &QItem) -> Item
     }
 }
 
-/// The items over these key columns, of which at most 4294967295 can be numbered: more are answered as want of memory.
+/// The items over these key columns, of which at most 4294967295 can be numbered: more are answered as out of memory.
 pub fn items_of(
     alloc: Global,
     columns: &[Column],

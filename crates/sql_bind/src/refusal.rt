@@ -21,7 +21,7 @@ pub enum BindRefusal {
     WrongKind { name: Bytes },
     /// The first plain item whose column is no key column. It doesn't come for a query with a limit.
     NotGrouped { name: Bytes },
-    /// Want of memory.
+    /// Out of memory.
     Memory,
 }
 
@@ -31,7 +31,7 @@ fn copy(alloc: Global, name: &[u8]) -> Result<Bytes, AllocError>
     Ok(Bytes::new(name.to_vec(alloc)?))
 }
 
-// Each refusal with a copy of the name; or want of memory for it.
+// Each refusal with a copy of the name; or out of memory for it.
 impl BindRefusal {
     pub(crate) fn unknown_table(alloc: Global, name: &[u8]) -> BindRefusal
         ensures { IsCause result (Some (BindRefusal.UnknownTable name.now)) }

@@ -27,7 +27,7 @@ pub enum StatementRefusal {
 ///
 /// # Errors
 ///
-/// The first refusal of `read_query` and then of `bind`, exactly where it holds; want of memory may come at any time.
+/// The first refusal of `read_query` and then of `bind`, exactly where it holds; out of memory may come at any time.
 pub fn plan_of(
     alloc: Global,
     text: &[u8],

@@ -174,7 +174,7 @@ pub fn read_query(alloc: Global, bytes: &[u8]) -> Result<Query, TextRefusal>
     read_words(alloc, &words)
 }
 
-/// A text is one query at most, and a text that is a query is refused for want of memory alone.
+/// A text is one query at most, and a text that is a query is refused only when out of memory.
 pub fn one_query()
     ensures same { (bytes : List ℕ) (p q : QueryTree) → HasQuery bytes p → HasQuery bytes q → p ≡ q }
     ensures read { (bytes : List ℕ) (q : QueryTree) (e : TextRefusal) → HasQuery bytes q → IsRefused bytes e → e

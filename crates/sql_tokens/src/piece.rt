@@ -85,7 +85,7 @@ fn number(bytes: &[u8]) -> (Piece, usize)
     }
 }
 
-/// The length of the longest front, behind an opening quote, that ends at a closing one.
+/// The length of the longest prefix, behind an opening quote, that ends at a closing one.
 fn quoted_len(quote: u8, bytes: &[u8]) -> Option<usize>
     ensures { spec.ClosesLast quote true bytes.now result }
 {

@@ -72,7 +72,7 @@ impl Dict {
 
     /// Puts a text that isn't below the last one at the end, unless it is the last one, and answers its code.
     ///
-    /// For want of memory, or of codes, the texts stay as they were.
+    /// Out of memory, or of codes, the texts stay as they were.
     pub fn push(&mut self, text: &[u8]) -> Result<u32, AllocError>
         requires { 0 < length self.old → is_gt (text_cmp (slice_index_or self.old (length self.old - 1) []) text.now)
             ≡ false }

@@ -1,9 +1,9 @@
-// Want of memory.
+// Out of memory.
 ghost use Rattle.std.specs.Prelude.{◌≡◌};
 
 use std::alloc::{AllocError, AllocFailed};
 
-/// Want of memory: a growth was refused. The call that answers it says what it leaves behind.
+/// Out of memory: a growth was refused. The call that answers it says what it leaves behind.
 #[derive(Clone, Copy, Debug, PartialEq, Eq)]
 pub struct Memory;
 

@@ -116,7 +116,7 @@ fn add_to(
     Ok(())
 }
 
-// Adds the rows of a map, one after another. After want of memory some of them may have been added.
+// Adds the rows of a map, one after another. Out of memory, some of them may have been added.
 fn absorb(top: &mut TopRows, rows: &Ranked) -> Result<(), Memory>
     ensures ok { OnOk result ((before : List (Numbered Cell)) → Stands top.old before
         → AreDistinct (before ++ numbered rows.now.entries) → Stands top.new (before ++ numbered rows.now.entries)) }
@@ -170,7 +170,7 @@ impl TopRows {
     /// Adds a row by its number. A column behind the row's end counts as NULL, so a row may have any length.
     ///
     /// A row that can't be among the first ones costs one comparison and takes no memory, so it is never refused.
-    /// For want of memory the first rows stay as they were.
+    /// Out of memory, the first rows stay as they were.
     pub fn add(&mut self, number: u32, row: &[Cell]) -> Result<(), Memory>
         ensures ok { OnOk result ((rows : List (Numbered Cell)) → Stands self.old rows → has_number rows number
             ≡ false → Stands self.new (rows ++ (number, row.now) ∷ [])) }
@@ -220,7 +220,7 @@ impl TopRows {
 
     /// Adds the rows of other first rows, of the same plan, behind its own.
     ///
-    /// For want of memory the first rows stay as they were, and the others come back.
+    /// Out of memory, the first rows stay as they were, and the others come back.
     pub fn merge(&mut self, other: TopRows) -> Result<(), (TopRows, Memory)>
         requires { other.plan ≡ self.old.plan }
         ensures ok { OnOk result ((rows more : List (Numbered Cell)) → Stands self.old rows → Stands other more
@@ -240,7 +240,7 @@ impl TopRows {
 
     /// The answer: the meaning of each list of rows that the first rows stand for, in whatever order its rows came.
     ///
-    /// After want of memory the rows are gone.
+    /// Out of memory, the rows are gone.
     pub fn finish(self) -> Result<Picked, Memory>
         ensures { IfOk result (λ picked. (rows : List (Numbered Cell)) → StandsInSomeOrder self rows → picked
             ≡ rows_meaning codes self.plan rows) }

@@ -131,7 +131,7 @@ fn same_load(load: &Option<Load>, book: &Book) -> bool {
     }
 }
 
-/// Whether each number of the book is the one that the judge makes of the list. The error is want of memory.
+/// Whether each number of the book is the one that the judge makes of the list. The error is out of memory.
 pub fn agrees(alloc: Global, s: &Setting, entries: &[Entry], book: &Book) -> Result<bool, Memory>
     requires { IsSmall s.now }
 {

@@ -103,7 +103,7 @@ fn is_new(needs: &[Need], q: u32) -> bool
     true
 }
 
-/// The needs of the setting as a book takes them; `None` where no setting has them. The error is want of memory.
+/// The needs of the setting as a book takes them; `None` where no setting has them. The error is out of memory.
 pub fn book_needs(alloc: Global, s: &Setting) -> Result<Option<Vec<Need>>, Memory>
     requires chunks { s.now.chunks ≤ 1024 }
     requires groups { s.now.groups ≤ 16 }

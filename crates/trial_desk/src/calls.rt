@@ -61,7 +61,7 @@ fn answers_in<S: Origin, P: Policy>(
 }
 
 /// What a new desk answers to these calls. `None` where there can be no desk for the setting, or where a call may not
-/// come; the error is want of memory.
+/// come; the error is out of memory.
 pub fn answers<P: Policy>(
     alloc: Global,
     s: &Setting,

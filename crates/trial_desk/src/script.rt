@@ -64,7 +64,7 @@ fn play_in<S: Origin, P: Policy>(
 
 /// Makes the calls that the story asks for on a new desk, and gives what becomes of it: the desk's own story, the policy
 /// and the depot. A load that the story leaves underway is ended. `None` where there can be no desk for the setting;
-/// the error is want of memory.
+/// the error is out of memory.
 pub fn play<P: Policy>(
     alloc: Global,
     s: &Setting,

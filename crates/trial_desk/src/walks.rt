@@ -94,7 +94,7 @@ fn walk_in<S: Origin, P: Policy>(
 }
 
 /// Makes calls at random on a new desk, drawn from the seed in so many steps. `None` where there can be no desk for the
-/// setting, or where a load is left underway; the error is want of memory.
+/// setting, or where a load is left underway; the error is out of memory.
 pub fn walk<P: Policy>(
     alloc: Global,
     s: &Setting,

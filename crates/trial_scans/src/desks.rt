@@ -14,7 +14,7 @@ use scan_story::{Memory, Origin, Setting};
 use std::alloc::Global;
 use trial_book::{book_needs, has_numbers};
 
-/// A desk before its first entry; `None` where there can be none for the setting. The error is want of memory.
+/// A desk before its first entry; `None` where there can be none for the setting. The error is out of memory.
 pub(crate) fn desk_of<S: Origin, P: Policy>(
     alloc: Global,
     s: &Setting,

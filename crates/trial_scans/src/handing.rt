@@ -65,7 +65,7 @@ fn hand_on_in<S: Origin, P: Policy, R: Wait>(
 
 /// The second of two passes registers query 2 on worker 1, and then the first registers query 1 on worker 0.
 ///
-/// `None` where there can be no desk for the setting, or its needs name other workers. The error is want of memory.
+/// `None` where there can be no desk for the setting, or its needs name other workers. The error is out of memory.
 pub fn hand_on<P: Policy, R: Wait>(
     rt: &R,
     alloc: Global,

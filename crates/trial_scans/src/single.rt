@@ -151,7 +151,7 @@ fn alone_in<S: Origin, C: Content, P: Policy, R: Wait>(
 /// The scan of query 1 alone, on worker 0, with a pool of one berth and a baton of one pass: so many steps, of which each
 /// takes a chunk, or reads and releases it. What is still under way is then stopped.
 ///
-/// `None` where there can be no desk for the setting, or shape and setting don't fit each other. The error is want of
+/// `None` where there can be no desk for the setting, or shape and setting don't fit each other. The error is out of
 /// memory.
 pub fn alone<P: Policy, R: Wait>(
     rt: &R,

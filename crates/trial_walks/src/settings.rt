@@ -40,7 +40,7 @@ fn some_need(
 
 /// A setting of the policy with just the frames that so many workers must have. Each worker has a query, one worker
 /// alone has two, and at times there is one more. Each query needs most of the chunks and reads most of the groups.
-/// The error is want of memory.
+/// The error is out of memory.
 pub fn some_setting(
     alloc: Global,
     policy: PolicyName,

@@ -37,7 +37,7 @@ fn next(
 }
 
 /// A legal story of the setting, drawn from the seed in so many steps. Each step adds one entry, or none where what was
-/// drawn may not come. The error is want of memory.
+/// drawn may not come. The error is out of memory.
 #[tactic(auto, using(crate::proofs::Growth::legal_next))]
 pub fn walk(alloc: Global, s: &Setting, seed: u64, steps: u32) -> Result<Vec<Entry>, AllocError>
     requires { IsSmall s.now }

@@ -101,7 +101,7 @@ in_order-results-requires-clause-workers g c =
 pub in_order-results-requires-clause-counted : goal.in_order-results-requires-clause-counted
 in_order-results-requires-clause-counted g c = rw c.deref-in-Ok-seat-2.ensures.value (counted_now g (goal.at.in_order-results-requires-clause-counted g c).After-close-story)
 
--- where memory was wanting
+-- where memory ran out
 
 pub close-depot-requires-clause-rest : goal.close-depot-requires-clause-rest
 close-depot-requires-clause-rest g c κs within =
