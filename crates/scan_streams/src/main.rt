@@ -15,8 +15,6 @@ mod policies;
 mod range_query;
 mod report;
 mod slow_depot;
-#[cfg(test)]
-mod tests;
 mod times;
 mod timing_gate;
 mod watch;
