@@ -5,6 +5,8 @@
 
 mod depot;
 mod ending;
+#[cfg(test)]
+mod tests;
 mod words;
 
 ghost use Rattle.std.specs.Prelude.{◌≤◌, ◌^◌};
