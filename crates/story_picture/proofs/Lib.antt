@@ -1,0 +1,6 @@
+mod Back
+mod Begins
+mod Guided
+mod Sizes
+mod Stays
+mod Steps

@@ -1,0 +1,10 @@
+pub mod Marks
+pub mod Next
+pub mod Ahead
+pub mod Over
+pub mod Given
+pub mod Titles
+pub mod Scales
+pub mod Svg
+pub mod Trace
+pub mod Groups
