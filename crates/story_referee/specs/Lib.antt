@@ -1,0 +1,7 @@
+pub mod Terms
+pub mod Rules
+pub mod Ranks
+pub mod Counts
+pub mod Phases
+pub mod Ruling
+pub mod Seen

@@ -1,0 +1,39 @@
+//! The referee beside the plain judge.
+ghost use Rattle.story_views.specs.Small.{IsSmall};
+
+use crate::settings::terms_of;
+use scan_story::{Entry, Setting};
+use std::alloc::{AllocError, Global};
+use story_judge::{first_illegal, is_whole};
+use story_referee::{Memory, Ruling, judge};
+
+// What the plain judge says: the first entry that may not come, or else whether the story is whole.
+fn plainly(
+    alloc: Global,
+    s: &Setting,
+    entries: &[Entry],
+) -> Result<(Option<usize>, bool), AllocError>
+    requires { IsSmall s.now }
+{
+    let first = first_illegal(alloc, s, entries)?;
+    if first.is_some() {
+        return Ok((first, false));
+    }
+    let whole = is_whole(alloc, s, entries)?;
+    Ok((None, whole))
+}
+
+/// Whether both judges say the same of the story. The setting begins with the policy's first cursor.
+pub fn agree(alloc: Global, s: &Setting, entries: &[Entry]) -> Result<bool, Memory>
+    requires { IsSmall s.now }
+{
+    let Some(terms) = terms_of(alloc, s)? else {
+        return Ok(false);
+    };
+    let found = match judge(alloc, &terms, entries)? {
+        Ruling::Legal { whole, .. } => (None, whole),
+        Ruling::Illegal { place, .. } => (Some(place), false),
+    };
+    let plain = plainly(alloc, s, entries)?;
+    Ok(found == plain)
+}
