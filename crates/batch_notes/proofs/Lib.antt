@@ -1,0 +1,4 @@
+pub mod Demanded
+pub mod Found
+pub mod Zoned
+pub mod Lines

@@ -1,0 +1,6 @@
+pub mod Counted
+pub mod Ends
+pub mod Firsts
+pub mod Lines
+pub mod Written
+pub mod Pushed

@@ -1,0 +1,5 @@
+pub mod Values
+pub mod Reasons
+pub mod Profiles
+pub mod Text
+pub mod Written

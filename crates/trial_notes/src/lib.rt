@@ -1,0 +1,11 @@
+//! Trials of what is told of a table and of a batch before it runs: the lines of profiles, and those of notes.
+//!
+//! All of it is tests. docs/INSPECT.md tells the form of the lines.
+#![tactic(auto)]
+
+#[cfg(test)]
+mod loading;
+#[cfg(test)]
+mod notes;
+#[cfg(test)]
+mod profiles;
