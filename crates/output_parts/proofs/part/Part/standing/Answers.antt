@@ -1,0 +1,12 @@
+use Rattle.std.proofs.Common.{◌≡◌, ◌∙◌, ◌++◌, refl, sym, ap}
+use Rattle.std.specs.Prelude.{Some, None}
+use Rattle.output_parts.proofs.Texts.{cancelled}
+use Rattle.output_parts.proofs.part.Part.standing.Goals as goal
+
+pub returns-in-Some : goal.returns-in-Some
+returns-in-Some c None rest may is =
+    let text : c.args.text.now ≡ c.args.self.now.text ++ c.in-Some.rest.now = c.in-Some.ensures ∙ ap (λ l. l ++ c.in-Some.rest.now) c.as_slice.ensures in
+    (refl, cancelled c.args.self.now.text c.in-Some.rest.now rest (sym text ∙ is))
+returns-in-Some c (Some words) rest may is =
+    let text : c.args.text.now ≡ c.args.self.now.text ++ c.in-Some.rest.now = c.in-Some.ensures ∙ ap (λ l. l ++ c.in-Some.rest.now) c.as_slice.ensures in
+    absurd (may.apart c.in-Some.rest.now rest (sym text ∙ is))

@@ -1,0 +1,9 @@
+//! The terms of a run: what its story is judged by.
+//!
+//!     let terms = terms_of(alloc, &table, &dicts, &tasks, &options, PolicyName::Relevance)?;
+//!     let ruling = judge(alloc, &terms, &story)?;       // of the crate story_referee
+#![tactic(auto)]
+
+mod terms;
+
+pub use terms::terms_of;

@@ -1,0 +1,6 @@
+pub mod Plain
+pub mod Stops
+pub mod Reading
+pub mod Judged
+pub mod Told
+pub mod Verdict

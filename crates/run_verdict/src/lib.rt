@@ -1,0 +1,25 @@
+//! Whether a text is the output of a run: of its batch over its table, under a policy, in a setting of workers, frames,
+//! layout and parts. The text has the trace behind the answers, so each entry of the story is judged, and each answer
+//! is computed once more over the whole table. `story_referee` judges the story.
+//!
+//!     let inputs = inputs_of(alloc, keys, &request, &mut shelf)?;
+//!     match verdict_of(alloc, &inputs, PolicyName::Relevance, output)? {
+//!         Verdict::Legal { entries, reads, counts } => ..,    // it is one
+//!         Verdict::NotAnswered { query } => ..,               // neither its answer stands there nor a stop
+//!         other => ..,                                        // what stands in the way, as `Verdict` tells
+//!     }
+#![tactic(auto)]
+
+mod answers;
+mod causes;
+mod judging;
+mod laws;
+mod reading;
+mod stops;
+mod summary;
+mod tasks;
+mod verdict;
+mod writing;
+
+pub use laws::inputs_can_run;
+pub use verdict::{Verdict, verdict_of};

@@ -1,0 +1,98 @@
+// What an output tells.
+ghost use Rattle.std.specs.Prelude.{◌≡◌, ◌≤◌, ◌^◌, ◌++◌, All, IfErr, IfOk, List, MatchOption, Some, length, ℕ};
+ghost use Rattle.std.specs.List.{AllByRecursion, AllZip};
+ghost use Rattle.scan_story.specs.Reading.{Fits};
+ghost use Rattle.scan_story.specs.Text.{story_text};
+ghost use Rattle.scan_story.specs.declared.entry.Entry.{Entry as EntryOf};
+ghost use Rattle.table_core.specs.Value.{places_of};
+ghost use Rattle.query_gather.specs.Answer.{CanBeWritten};
+ghost use Rattle.query_gather.specs.declared.answer.Answer.{Answer as AnswerOf};
+ghost use Rattle.run_output.specs.Answers.{NamesColumns};
+ghost use Rattle.run_output.specs.Outcomes.{plans_of};
+ghost use Rattle.plain_answers.specs.Parts.{IsPlainOrStopped};
+ghost use Rattle.run_verdict.specs.Reading.{HasRead, IsSummaryLine, TellsStory};
+ghost use Rattle.run_verdict.specs.Verdict.{IsOfReading};
+
+use crate::verdict::Verdict;
+use output_parts::{Split, behind_line, numbers_fit, one_story, take_apart};
+use plain_answers::parts_of;
+use query_gather::Answer;
+use run_inputs::Inputs;
+use scan_story::{Entry, StoryRefusal, read_story};
+use std::alloc::Global;
+use table_core::Memory;
+
+/// What an output tells: whether a line stands for the answer to each statement, and the story behind them.
+#[derive(Drop)]
+pub(crate) struct Told {
+    pub(crate) lines: Vec<bool>,
+    pub(crate) story: Vec<Entry>,
+}
+
+// What stands behind the summary, where there is to be one.
+fn behind_summary(summary: bool, text: &[u8]) -> Option<&[u8]>
+    ensures { (line rest : List ℕ) → IsSummaryLine summary line → text.now ≡ line ++ rest
+        → MatchOption result ⊥ (λ r. r.now ≡ rest) }
+{
+    if summary {
+        return behind_line(text);
+    }
+    Some(text)
+}
+
+// The story of a text, or the first of its lines that is no entry's. Out of memory there is neither.
+fn story_in(alloc: Global, text: &[u8]) -> Result<Result<Vec<Entry>, u32>, Memory>
+    ensures fits { IfOk result (λ r. IfOk r (λ es. AllByRecursion Fits es.items)) }
+    ensures told { IfOk result (λ r. (story : List EntryOf) → AllByRecursion Fits story
+        → text.now ≡ story_text story → length text.now ≤ 2 ^ 30 → TellsStory story r) }
+{
+    one_story();
+    if text.len() > 1073741824 {
+        return Ok(Err(0));
+    }
+    match read_story(alloc, text) {
+        Ok(story) => {
+            numbers_fit(&story);
+            Ok(Ok(story))
+        }
+        Err(StoryRefusal::BadLine { line }) => Ok(Err(line)),
+        Err(StoryRefusal::Memory) => Err(Memory),
+    }
+}
+
+/// What an output tells, or what stands in the way of it: a statement for which neither its answer stands nor a line,
+/// no summary, or a line that is no entry's.
+pub(crate) fn read_output(
+    alloc: Global,
+    inputs: &Inputs,
+    plain: &[Answer],
+    output: &[u8],
+) -> Result<Result<Told, Verdict>, Memory>
+    requires few { length inputs.now.outcomes.items ≤ 256 }
+    requires dicts { length inputs.now.loaded.dicts.items ≡ length inputs.now.loaded.table.columns }
+    requires places { All (λ c. places_of c.kind ≤ 9) inputs.now.loaded.table.columns }
+    requires columns { AllByRecursion (NamesColumns (length inputs.now.loaded.table.columns))
+        (plans_of inputs.now.outcomes.items) }
+    requires cells { AllZip (CanBeWritten inputs.now.loaded.dicts.items) (plans_of inputs.now.outcomes.items)
+        plain.now }
+    ensures fits { IfOk result (λ r. IfOk r (λ t. AllByRecursion Fits t.story.items)) }
+    ensures read { IfOk result (λ r. (answers : List AnswerOf) (line : List ℕ) (story : List EntryOf)
+        → AllZip IsPlainOrStopped plain.now answers
+        → HasRead inputs.now answers line story output.now r) }
+    ensures none { IfOk result (λ r. IfErr r IsOfReading) }
+{
+    let schema = inputs.loaded.table.schema();
+    let parts = parts_of(alloc, schema, &inputs.loaded.dicts, &inputs.outcomes, plain)?;
+    let Split { lines, behind } = take_apart(alloc, &parts, output)?;
+    let Some(behind) = behind else {
+        let query = lines.len() + 1;
+        return Ok(Err(Verdict::NotAnswered { query }));
+    };
+    let Some(trace) = behind_summary(inputs.summary, behind) else {
+        return Ok(Err(Verdict::NoSummary));
+    };
+    match story_in(alloc, trace)? {
+        Ok(story) => Ok(Ok(Told { lines, story })),
+        Err(line) => Ok(Err(Verdict::NotStory { line })),
+    }
+}
