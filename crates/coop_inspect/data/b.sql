@@ -1,0 +1,1 @@
+SELECT dept, SUM(pay), COUNT(pay) FROM t GROUP BY dept;

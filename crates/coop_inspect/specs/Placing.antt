@@ -1,0 +1,26 @@
+-- Where a statement is refused.
+use Rattle.std.specs.Prelude.{◌≡◌, ◌+◌, ◌++◌, ℕ, List, length, min, take, codes, decimal}
+use Rattle.refusal_places.specs.Lines.{column_of, line_of}
+use Rattle.refusal_places.specs.Statements.{IsStatementPlace}
+use Rattle.refusal_places.specs.declared.place.Place.{Place}
+use Rattle.run_inputs.specs.Statements.{part}
+use Rattle.sql_bind.specs.declared.statement.StatementRefusal.{StatementRefusal}
+use Rattle.sql_tokens.specs.declared.span.Span.{Span}
+use Rattle.table_core.specs.declared.schema.Column.{Column}
+
+-- the line with the place of a byte of the batch, and a token
+abbrev pub spot_text : List ℕ → ℕ → List ℕ → List ℕ
+spot_text batch at token =
+    (((codes "  at " ++ (decimal (line_of (take at batch)) ++ codes ":")) ++ (decimal (column_of (take at batch)) ++ codes " ")) ++ token) ++ codes "\n"
+
+-- the lines of a place: where it is in the batch, with a token; behind it stands what could stand there
+pub record IsSpotTold (batch : List ℕ) (span : Span) (place : Place) (told : List ℕ) : Type 0 where
+  pub token : List ℕ
+  pub stands : List ℕ
+  pub lines : told ≡ spot_text batch (min (span.from + place.span.from) (length batch)) token ++ stands
+
+-- the place of the refusal is told
+pub record IsPlaceTold (batch : List ℕ) (span : Span) (columns : List Column) (why : StatementRefusal) (told : List ℕ) : Type 0 where
+  pub place : Place
+  pub is : IsStatementPlace (part batch span) columns why place
+  pub spot : IsSpotTold batch span place told

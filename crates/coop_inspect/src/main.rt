@@ -1,0 +1,51 @@
+//! `coop_inspect`: explains a batch of coop_cli, judges the output of a run, or draws it. docs/INSPECT.md is its manual.
+//! `main` hands `inspect` the words, the files of the system, standard output and standard error; the theorem is
+//! `inspect`'s.
+#![tactic(auto)]
+
+mod drawing;
+mod explaining;
+mod inspect;
+mod judging;
+mod lines;
+mod output;
+mod reasons;
+mod refusals;
+mod reply;
+mod statements;
+mod stderr_sink;
+#[cfg(test)]
+mod tests;
+mod verdicts;
+mod words;
+
+use crate::inspect::inspect;
+use crate::reply::say;
+use crate::stderr_sink::StderrSink;
+use crate::words::{all_words, behind_name, unread};
+use coop_outside::{DiskShelf, StdoutSink};
+use std::hash::RandomState;
+use std::io;
+use std::process::ExitCode;
+
+// Runs the program over the files of the system, and answers its status; or why the words could not be had.
+fn inspect_on(
+    rt: HostRuntime,
+    out: &mut StdoutSink<HostRuntime>,
+    err: &mut StderrSink,
+) -> io::Result<u8> {
+    let all = all_words(&rt)?;
+    let keys = RandomState::new(&rt)?;
+    let mut shelf = DiskShelf::new(rt);
+    Ok(inspect(rt.alloc(), keys, behind_name(&all), &mut shelf, out, err))
+}
+
+fn main(rt: HostRuntime) -> ExitCode {
+    let mut out = StdoutSink::new(rt);
+    let mut err = StderrSink::new(rt);
+    let status = match inspect_on(rt, &mut out, &mut err) {
+        Ok(status) => status,
+        Err(error) => say(&unread(rt.alloc(), &error), &mut out, &mut err),
+    };
+    ExitCode::from(status)
+}

@@ -1,0 +1,160 @@
+// The command, as clap has it.
+ghost use Rattle.std.specs.Prelude.{◌≡◌, IfOk};
+ghost use Rattle.clap.specs.Simple.{App, app_of};
+ghost use Rattle.inspect_words.specs.Command.{IsCommand, cut_rules, draw, explain, inspect, judge, output_place, side_rules, table_places, with_rules, work_rules};
+
+use crate::places::{flag, number, option, place};
+use clap::Command;
+use command_words::{MOST_FRAMES, MOST_PARTS, MOST_WORKERS};
+use std::alloc::{AllocError, Global};
+use table_core::MOST_CHUNK_ROWS;
+
+/// The command with its subcommands.
+pub(crate) fn command<'a>(alloc: Global) -> Result<Command<'a>, AllocError>
+    ensures { IfOk result (λ c. app_of c ≡ inspect) }
+{
+    let start = Command::new(alloc, "coop_inspect")
+        .no_binary_name(true)
+        .disable_help_subcommand(true)
+        .arg_required_else_help(true)
+        .subcommand_required(true)
+        .version("2026-11-28")
+        .about("Explains a batch of coop_cli, judges the output of a run, or draws it");
+    let first = explain(alloc)?;
+    let second = judge(alloc)?;
+    let third = draw(alloc)?;
+    let explained = start.subcommand(first)?;
+    let judged = explained.subcommand(second)?;
+    let drawn = judged.subcommand(third)?;
+    Ok(drawn)
+}
+
+// `explain [--rows R] [--layout L] TABLE BATCH`
+fn explain<'a>(alloc: Global) -> Result<Command<'a>, AllocError>
+    ensures { IfOk result (λ c. (a : App) × IsCommand a c × (a.top ≡ explain)) }
+{
+    let start = Command::new(alloc, "explain").about(
+        "Tells what a table holds and what becomes of each statement of a batch",
+    );
+    let cut = with_cut(alloc, start)?;
+    with_table(alloc, cut)
+}
+
+// `judge [the words of the run] TABLE BATCH OUTPUT`
+fn judge<'a>(alloc: Global) -> Result<Command<'a>, AllocError>
+    ensures { IfOk result (λ c. (a : App) × IsCommand a c × (a.top ≡ judge)) }
+{
+    let start = Command::new(alloc, "judge").about(
+        "Tells whether OUTPUT is what a legal run of coop_cli with these words and --trace prints",
+    );
+    let work = with_work(alloc, start)?;
+    let cut = with_cut(alloc, work)?;
+    let side = with_side(alloc, cut)?;
+    let table = with_table(alloc, side)?;
+    with_output(alloc, table)
+}
+
+// `draw OUTPUT`
+fn draw<'a>(alloc: Global) -> Result<Command<'a>, AllocError>
+    ensures { IfOk result (λ c. (a : App) × IsCommand a c × (a.top ≡ draw)) }
+{
+    let start = Command::new(alloc, "draw").about(
+        "Draws the trace at the end of OUTPUT as an SVG picture on standard output",
+    );
+    with_output(alloc, start)
+}
+
+// How the table is cut.
+fn with_cut<'a>(alloc: Global, command: Command<'a>) -> Result<Command<'a>, AllocError>
+    ensures { (a : App) → IsCommand a command.entry → IfOk result (IsCommand (with_rules a cut_rules)) }
+{
+    let rows = number(
+        alloc,
+        "rows",
+        MOST_CHUNK_ROWS,
+        "Rows of a chunk [default: 1024]",
+    );
+    let layout = option(
+        alloc,
+        "layout",
+        "LAYOUT",
+        "How rows become pieces: row or column [default: row]",
+    );
+    let first = command.arg(rows)?;
+    let second = first.arg(layout)?;
+    Ok(second)
+}
+
+// Who works on it, and how.
+fn with_work<'a>(alloc: Global, command: Command<'a>) -> Result<Command<'a>, AllocError>
+    ensures { (a : App) → IsCommand a command.entry → IfOk result (IsCommand (with_rules a work_rules)) }
+{
+    let threads = number(alloc, "threads", MOST_WORKERS, "Workers [default: 4]");
+    let frames = number(
+        alloc,
+        "frames",
+        MOST_FRAMES,
+        "Frames [default: the least number that is enough]",
+    );
+    let parts = number(
+        alloc,
+        "parts",
+        MOST_PARTS,
+        "Parts of each query [default: 1]",
+    );
+    let policy = option(
+        alloc,
+        "policy",
+        "POLICY",
+        "relevance, elevator, normal or attach [default: relevance]",
+    );
+    let first = command.arg(threads)?;
+    let second = first.arg(frames)?;
+    let third = second.arg(parts)?;
+    let fourth = third.arg(policy)?;
+    Ok(fourth)
+}
+
+// What changes no answer and no entry.
+fn with_side<'a>(alloc: Global, command: Command<'a>) -> Result<Command<'a>, AllocError>
+    ensures { (a : App) → IsCommand a command.entry → IfOk result (IsCommand (with_rules a side_rules)) }
+{
+    let scratch = option(
+        alloc,
+        "scratch",
+        "FILE",
+        "The scratch file of the run; it changes nothing here",
+    );
+    let summary = flag(
+        alloc,
+        "summary",
+        "OUTPUT has the summary behind the answers",
+    );
+    let trace = flag(
+        alloc,
+        "trace",
+        "OUTPUT has the trace, as it must; the word may stand here",
+    );
+    let first = command.arg(scratch)?;
+    let second = first.arg(summary)?;
+    let third = second.arg(trace)?;
+    Ok(third)
+}
+
+fn with_table<'a>(alloc: Global, command: Command<'a>) -> Result<Command<'a>, AllocError>
+    ensures { (a : App) → IsCommand a command.entry → IfOk result (IsCommand (with_rules a table_places)) }
+{
+    let table = place(alloc, "TABLE", "A CSV file, or gen:SEED:ROWS");
+    let batch = place(alloc, "BATCH", "A file of SQL statements, or gen");
+    let first = command.arg(table)?;
+    let second = first.arg(batch)?;
+    Ok(second)
+}
+
+fn with_output<'a>(alloc: Global, command: Command<'a>) -> Result<Command<'a>, AllocError>
+    ensures { (a : App) → IsCommand a command.entry → IfOk result (IsCommand (with_rules a output_place)) }
+{
+    let output = place(alloc, "OUTPUT", "A file with what coop_cli --trace printed");
+    let first = command.arg(output)?;
+    Ok(first)
+}

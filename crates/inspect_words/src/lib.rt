@@ -1,0 +1,23 @@
+//! The words of `coop_inspect`: which of its subcommands they name, and what that is to work on; or why they are refused.
+//!
+//! `clap` reads the words by a command with subcommands, and says help, the version and what is wrong with them. The words
+//! of a run mean what they mean to `coop_cli`, since `command_words` reads them. docs/INSPECT.md is the manual.
+//!
+//!     let words = ["judge", "--threads", "8", "orders.csv", "report.sql", "answers.txt"];
+//!     let asked = asked_of(alloc, &words)?;             // Asked::Judge { run, output: "answers.txt" }, or a Refused
+//!     let status = refused.status();                    // 0 for help and the version, 2 for faulty words
+//!     let text = refused.text(alloc)?;                  // what is to be printed of it
+#![tactic(auto)]
+
+mod asked;
+mod command;
+mod places;
+mod reading;
+mod refused;
+#[cfg(test)]
+mod tests;
+
+pub use asked::Asked;
+pub use command_words::Request;
+pub use reading::asked_of;
+pub use refused::{Culprit, Refused};

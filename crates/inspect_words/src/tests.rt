@@ -1,0 +1,103 @@
+// The words of the manual, and words on the edges of its rules.
+use crate::{Asked, asked_of};
+use command_words::{Layout, PolicyName, Request};
+use std::alloc::Global;
+use std::test::Fail;
+
+const USUAL: Request<'static> = Request {
+    workers: 4,
+    frames: None,
+    per: 1024,
+    layout: Layout::Row,
+    parts: 1,
+    scratch: None,
+    policy: PolicyName::Relevance,
+    summary: false,
+    trace: false,
+    compare: false,
+    table: "a",
+    batch: "b",
+};
+
+// Words, and what they ask for.
+const GIVEN: &[(&str, Asked<'static>)] = &[
+    ("explain|a|b", Asked::Explain { run: USUAL }),
+    (
+        "explain|--layout=column|a|--rows|2|b",
+        Asked::Explain {
+            run: Request {
+                per: 2,
+                layout: Layout::Column,
+                ..USUAL
+            },
+        },
+    ),
+    (
+        "judge|--threads|8|a|--policy=attach|b|--trace|--summary|out",
+        Asked::Judge {
+            run: Request {
+                workers: 8,
+                policy: PolicyName::Attach,
+                summary: true,
+                trace: true,
+                ..USUAL
+            },
+            output: "out",
+        },
+    ),
+    ("draw|out", Asked::Draw { output: "out" }),
+    ("draw|--|-out", Asked::Draw { output: "-out" }),
+];
+
+// Words that are refused, the status, and a piece of the text, in which the word stands.
+const REFUSED: &[(&str, u8, &str)] = &[
+    ("--version", 0, "coop_inspect 2026-11-28"),
+    ("judge|--help", 0, "--threads <N>"),
+    ("explode|a|b", 2, "'explode'"),
+    ("explain|--threads|2|a|b", 2, "'--threads'"),
+    ("explain|a", 2, "<BATCH>"),
+    ("judge|--threads|33|a|b|out", 2, "'33'"),
+    ("judge|a|b|out|extra", 2, "'extra'"),
+    ("judge|--policy|best|a|b|out", 2, "'best'"),
+    ("judge|--compare|a|b|out", 2, "'--compare'"),
+    ("explain|gen:x|b", 2, "'gen:x'"),
+    ("draw", 2, "<OUTPUT>"),
+];
+
+// The words of a line, which stand between bars.
+fn words_of(alloc: Global, line: &str) -> Result<Vec<String>, Fail> {
+    let mut words = Vec::new(alloc);
+    for word in line.split('|') {
+        words.push(String::from_str(alloc, word)?)?;
+    }
+    Ok(words)
+}
+
+#[test]
+fn words_ask_for_what_the_manual_says(rt: HostRuntime) -> Result<(), Fail> {
+    for (line, asked) in GIVEN {
+        let words = words_of(rt.alloc(), line)?;
+        let is_same = match asked_of(rt.alloc(), &words) {
+            Ok(found) => found == *asked,
+            Err(_) => false,
+        };
+        assert!(rt; is_same, "{line}");
+    }
+    Ok(())
+}
+
+#[test]
+fn faulty_words_are_named(rt: HostRuntime) -> Result<(), Fail> {
+    for (line, status, piece) in REFUSED {
+        let words = words_of(rt.alloc(), line)?;
+        let Err(refused) = asked_of(rt.alloc(), &words) else {
+            panic!(rt; "{line}");
+        };
+        let text = format!(in rt.alloc(); "{refused}")?;
+        assert!(rt;
+            refused.status() == *status && text.as_str().contains(*piece),
+            "{line}: {text}"
+        );
+    }
+    Ok(())
+}
