@@ -1,5 +1,5 @@
 -- What is left of a text that is taken apart.
-use Rattle.std.proofs.Common.{◌≡◌, ◌∙◌, ◌∷◌, [], ◌++◌, ℕ, Bool, List, append_assoc, refl, ap}
+use Rattle.std.proofs.Common.{◌≡◌, ◌∙◌, ◌∷◌, [], ◌++◌, ℕ, Bool, List, append_assoc, refl, sym, ap, subst}
 use Rattle.std.specs.Prelude.{Option, is_some, map}
 use Rattle.std.specs.List.{AllZip}
 use Rattle.output_parts.specs.declared.part.Part.{Part}
@@ -40,3 +40,11 @@ still_more p left rest behind line lines words tail finds still = by still.more 
           text = found.1;
           joined = append_assoc lines (line ∷ []) (map is_some more) ∙ (ap (λ b. lines ++ b ∷ map is_some more) found.0 ∙ same);
         }
+
+-- so what stands for one part more is taken off
+pub keeps_more : (parts left more : List Part) (p : Part) (text rest behind : List ℕ) (line : Bool) (lines now : List Bool) → left ≡ p ∷ more → now ≡ lines ++ line ∷ []
+    → Finds p rest line behind → Keeps parts text left rest lines → Keeps parts text more behind now
+keeps_more parts left more p text rest behind line lines now is grown finds keeps words tail may whole =
+    let Left = λ (ps : List Part). Still ps rest lines words tail in
+    let Lines = λ (ls : List Bool). Still more behind ls words tail in
+    subst Lines (sym grown) (still_more p more rest behind line lines words tail finds (subst Left is (keeps words tail may whole)))

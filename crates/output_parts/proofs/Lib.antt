@@ -1,3 +1,4 @@
 pub mod Texts
 pub mod Left
 pub mod OneStory
+pub mod Lines

@@ -8,11 +8,13 @@
 #![tactic(auto)]
 
 mod causes;
+mod ends;
 mod part;
 mod splitting;
 mod stories;
 
 pub use causes::{cause_of, numbers_fit};
+pub use ends::line_of_end;
 pub use part::{Part, behind_line};
 pub use splitting::{Split, take_apart};
 pub use stories::one_story;

@@ -1,6 +1,7 @@
 // An output in its parts.
-ghost use Rattle.std.specs.Prelude.{◌≡◌, ◌++◌, ℕ, List, IfOk, Option};
+ghost use Rattle.std.specs.Prelude.{◌≡◌, ◌++◌, ℕ, List, IfOk, IfSome, Option};
 ghost use Rattle.std.specs.List.{AllZip};
+ghost use Rattle.output_parts.specs.Ends.{EndsWith};
 ghost use Rattle.output_parts.specs.Parts as spec;
 
 use crate::part::Part;
@@ -23,14 +24,14 @@ pub fn take_apart<'a>(
     parts: &[Part],
     text: &'a [u8],
 ) -> Result<Split<'a>, AllocError>
-    ensures { IfOk result (λ split. (words : List (Option (List ℕ))) (rest : List ℕ)
+    ensures end { IfOk result (λ split. IfSome split.behind (λ b. EndsWith text.now b.now)) }
+    ensures split { IfOk result (λ split. (words : List (Option (List ℕ))) (rest : List ℕ)
         → AllZip spec.MayStand parts.now words → text.now ≡ spec.texts_of parts.now words ++ rest
         → spec.IsSplit words rest split) }
 {
     let mut lines = Vec::new(alloc);
-    let mut left = parts;
     let mut rest = text;
-    while let [part, more @ ..] = left {
+    for part in parts {
         let Some((line, behind)) = part.standing(rest) else {
             return Ok(Split {
                 lines,
@@ -38,7 +39,6 @@ pub fn take_apart<'a>(
             });
         };
         lines.push(line)?;
-        left = more;
         rest = behind;
     }
     Ok(Split {

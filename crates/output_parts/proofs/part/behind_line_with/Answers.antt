@@ -1,6 +1,10 @@
+use Rattle.output_parts.proofs.Lines.{end_of_line}
 use Rattle.output_parts.proofs.Texts.{line_rest}
 use Rattle.output_parts.proofs.part.behind_line_with.Goals as goal
 
-pub returns-in-Some : goal.returns-in-Some
-returns-in-Some c words rest clean is =
-    c.behind_line.ensures words rest clean (line_rest c.args.text.now c.args.head.now words rest c.in-Some.words.now c.in-Some.ensures is)
+pub returns-in-Some-clause-end : goal.returns-in-Some-clause-end
+returns-in-Some-clause-end c = end_of_line c.args.text.now c.args.head.now c.in-Some.words.now c.behind_line.result c.in-Some.ensures c.behind_line.ensures.end
+
+pub returns-in-Some-clause-rest : goal.returns-in-Some-clause-rest
+returns-in-Some-clause-rest c words rest clean is =
+    c.behind_line.ensures.rest words rest clean (line_rest c.args.text.now c.args.head.now words rest c.in-Some.words.now c.in-Some.ensures is)
