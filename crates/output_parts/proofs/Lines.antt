@@ -1,5 +1,5 @@
 -- Ends of texts, and the lines at which they begin.
-use Rattle.std.proofs.Common.{◌≡◌, ◌∙◌, ◌<◌, ◌+◌, ◌==◌, ◌&&◌, not, ◌∷◌, [], ◌++◌, ℕ, Bool, true, false, List, append_assoc, length, length-append, take, get_or, refl, sym, ap, arith}
+use Rattle.std.proofs.Common.{◌≡◌, ◌∙◌, ◌<◌, ◌≤◌, ◌+◌, ◌==◌, ◌&&◌, not, ◌∷◌, [], ◌++◌, ℕ, Bool, true, false, List, append_assoc, length, length-append, take, get_or, refl, sym, ap, arith}
 use Rattle.std.specs.Prelude.{Option, Some, None, IfSome, if◌then◌else◌}
 use Rattle.std.specs.Borrow.{Bor}
 use Rattle.std.specs.List.{AllByRecursion}
@@ -29,8 +29,8 @@ end_of_line text head middle (Some r) is end = end_of_end text middle r.now (rec
 pub cut_end : (mark : ℕ) (text word rest : List ℕ) → IsCut mark text word rest → EndsWith text rest
 cut_end mark text word rest cut = record { before = word ++ mark ∷ []; joined = cut.joined ∙ sym (append_assoc word (mark ∷ []) rest) }
 
-pub end_within : (text end : List ℕ) → EndsWith text end → (n : ℕ) → length text < n → length end < n
-end_within text end p n low = let a = ap length p.joined in let b = length-append p.before end in omega (arith, low, a, b)
+pub end_within : (text end : List ℕ) → EndsWith text end → length end ≤ length text
+end_within text end p = let a = ap length p.joined in let b = length-append p.before end in omega (arith, a, b)
 
 pub line_ends_joined : (a b : List ℕ) → line_ends (a ++ b) ≡ line_ends a + line_ends b
 line_ends_joined [] b = omega arith
@@ -84,3 +84,17 @@ lines_down text es rest line fit at = record {
   joined = at.joined ∙ sym (append_assoc at.before (story_text es) rest);
   counted = (let a = at.counted in let b = line_ends_joined at.before (story_text es) in let c = story_lines es fit in omega (arith, a, b, c));
 }
+
+few_ended : (text : List ℕ) → line_ends text ≤ length text
+few_ended [] = omega arith
+few_ended (b ∷ text) = let k = few_ended text in let one = at_most_one (b == 10) in omega (arith, k, one)
+  where
+    at_most_one : (t : Bool) → (if t then 1 else 0) ≤ 1
+    at_most_one true = omega arith
+    at_most_one false = omega arith
+
+pub line_within : (text end : List ℕ) (line : ℕ) → BeginsAtLine text end line → line ≤ length text + 1
+line_within text end line at =
+    let whole = ap length at.joined in
+    let both = length-append at.before end in
+    omega (arith, at.counted, few_ended at.before, whole, both)

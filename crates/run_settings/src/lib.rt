@@ -4,6 +4,8 @@
 //!     let ruling = judge(alloc, &terms, &story)?;       // of the crate story_referee
 #![tactic(auto)]
 
+mod apart;
 mod terms;
 
+pub use apart::reads_apart;
 pub use terms::terms_of;

@@ -1,0 +1,13 @@
+-- What separate scans would read.
+use Rattle.std.specs.Prelude.{◌*◌, ◌==◌, ℕ, length, if◌then◌else◌}
+use Rattle.scan_story.specs.declared.setting.Need.{Need}
+use Rattle.scan_story.specs.declared.setting.Setting.{Setting}
+use Rattle.story_laws.specs.Lists.{sum_among}
+
+-- a query reads of each chunk that it needs the one piece that a chunk has, or one for each of its columns
+abbrev pub pieces_of : ℕ → Need → ℕ
+pieces_of groups n = length n.chunks * (if groups == 1 then 1 else length n.columns)
+
+-- WHAT SEPARATE SCANS READ: each query for itself
+abbrev pub reads_apart : Setting → ℕ
+reads_apart s = sum_among (pieces_of s.groups) s.needs
