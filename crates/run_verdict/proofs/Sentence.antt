@@ -26,6 +26,7 @@ use Rattle.run_decision.specs.Tasks.{tasks_in}
 use Rattle.run_decision.proofs.Asked.{only_asked}
 use Rattle.run_decision.proofs.Losing.{lost_by}
 use Rattle.plain_answers.specs.Parts.{IsPlainOrStopped}
+use Rattle.run_settings.specs.Apart.{reads_apart}
 use Rattle.story_referee.specs.Ruling.{IsFirstIllegal, IsRuling, finds_legal, place_of}
 use Rattle.story_referee.specs.declared.counts.Counts.{Counts}
 use Rattle.story_referee.specs.declared.ruling.Ruling.{Ruling}
@@ -45,26 +46,26 @@ use Rattle.run_verdict.proofs.Stopping.{given_answers, given_lost, stops_same}
 use Rattle.run_verdict.proofs.Telling.{given, is_read, text_is}
 
 -- what stands in the way of reading is right where no run is told
-pub none_told : (i : Inputs) (name : PolicyName) (out : List ℕ) (v : Verdict) → IsOfReading v → TellsNoRun i name out → IsVerdict i name out v
-none_told i name out (verdict.Legal entries reads counts) is none = absurd is
+pub none_told : (i : Inputs) (name : PolicyName) (out : List ℕ) (v : Verdict) → IsOfReading out v → TellsNoRun i name out → IsVerdict i name out v
+none_told i name out (verdict.Legal entries reads apart counts) is none = absurd is
 none_told i name out (verdict.NotAnswered query) is none = none
 none_told i name out verdict.NoSummary is none = none
-none_told i name out (verdict.NotStory line) is none = none
-none_told i name out (verdict.Illegal place reason) is none = absurd is
+none_told i name out (verdict.NotStory line) is none = record { none = none; bad = is }
+none_told i name out (verdict.Illegal line place reason) is none = absurd is
 none_told i name out verdict.NotWhole is none = absurd is
 none_told i name out verdict.Differs is none = absurd is
 
 -- a ruling, as it is said of the story of a run
-pub judged_is : (s : Setting) (es : List Entry) (r : Ruling) → IsRuling s es r → IsFirstIllegal s es (place_of r) → (HasRoom s → IsTrue (finds_legal r) → Undisturbed s (past es)) → HasRoom s → IsJudged s es (judged_by r)
-judged_is s es (rulings.Legal true counts) is first calm room = (is.0, is.1.0 refl, calm room refl, is.2)
-judged_is s es (rulings.Legal false counts) is first calm room = λ whole. let k = is.1.1 whole in absurd cc
-judged_is s es (rulings.Illegal place reason) is first calm room = record { refused = is; first = first }
+pub judged_is : (s : Setting) (es : List Entry) (r : Ruling) → IsRuling s es r → IsFirstIllegal s es (place_of r) → (HasRoom s → IsTrue (finds_legal r) → Undisturbed s (past es)) → HasRoom s → (apart : ℕ) → apart ≡ reads_apart s → IsJudged s es (judged_by r apart)
+judged_is s es (rulings.Legal true counts) is first calm room apart are = (is.0, is.1.0 refl, calm room refl, is.2, are)
+judged_is s es (rulings.Legal false counts) is first calm room apart are = (is.0, λ whole. let k = is.1.1 whole in absurd cc)
+judged_is s es (rulings.Illegal place reason) is first calm room apart are = record { refused = is; first = first }
 
 -- a story that is legal, whole and undisturbed isn't judged otherwise
-pub other_judged : (s : Setting) (es : List Entry) (j : Judged) → IsJudged s es j → ((n : Counts) → j ≡ judged.Legal n → ⊥) → Legal s (past es) → IsWhole s (past es) → ⊥
-other_judged s es (judged.Legal n) is not legal whole = not n refl
+pub other_judged : (s : Setting) (es : List Entry) (j : Judged) → IsJudged s es j → ((n : Counts) (a : ℕ) → j ≡ judged.Legal n a → ⊥) → Legal s (past es) → IsWhole s (past es) → ⊥
+other_judged s es (judged.Legal n a) is not legal whole = not n a refl
 other_judged s es (judged.Illegal place reason) is not legal whole = is.first.2 (begin_legal s es (take (place + 1) es) (drop (place + 1) es, sym (take-append-drop (place + 1) es)) legal)
-other_judged s es judged.NotWhole is not legal whole = is whole
+other_judged s es judged.NotWhole is not legal whole = is.1 whole
 
 -- the answers that the stops make, by what each call was given
 pub given_is : (parts : ℕ) (story d6 : List Entry) (lines d8 : List Bool) (os : List Outcome) (d7 : List Task) (stops d9 : List (Option Cause)) (plain d3 made_of d10 : List Answer) → d6 ≡ story → d8 ≡ lines
@@ -85,7 +86,7 @@ module _ (i : Inputs) (can : CanRun i) (name : PolicyName) (out : List ℕ) (sho
     told_by : (story : List Entry) (run : IsRunTold i name out story) → IsToldBy i (given i can name out short plain are story run) story (Ok t)
     told_by story run = let Told = λ (x : Result Told Verdict). IsToldBy i (given i can name out short plain are story run) story x in subst Told ok (is_read i can name out short plain are story run r reads)
 
-    pub judged_none : (j : Judged) → IsJudged (run_setting i name) t.story.items j → ((n : Counts) → j ≡ judged.Legal n → ⊥) → TellsNoRun i name out
+    pub judged_none : (j : Judged) → IsJudged (run_setting i name) t.story.items j → ((n : Counts) (a : ℕ) → j ≡ judged.Legal n a → ⊥) → TellsNoRun i name out
     judged_none j is not story run =
         let Judges = λ (es : List Entry). IsJudged (run_setting i name) es j in
         other_judged (run_setting i name) story j (subst Judges (told_by story run).1 is) not run.legal run.whole
@@ -103,8 +104,8 @@ module _ (i : Inputs) (can : CanRun i) (name : PolicyName) (out : List ℕ) (sho
         other (text_is i can name out short plain are story run ∙ (ap (λ (gs : List Answer). text_with i gs story) (sym same) ∙ ap (λ (es : List Entry). text_with i answers_now es) (sym told.1)))
 
     -- where nothing differs a run is told
-    pub run_told : AllByRecursion Fits t.story.items → (n : Counts) → IsJudged (run_setting i name) t.story.items (judged.Legal n) → out ≡ text_with i answers_now t.story.items → IsRunTold i name out t.story.items
-    run_told fit n is same =
+    pub run_told : AllByRecursion Fits t.story.items → (n : Counts) (a : ℕ) → IsJudged (run_setting i name) t.story.items (judged.Legal n a) → out ≡ text_with i answers_now t.story.items → IsRunTold i name out t.story.items
+    run_told fit n a is same =
         let s = run_setting i name in
         let h = past t.story.items in
         let rows = i.loaded.table.rows in

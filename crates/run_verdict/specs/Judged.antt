@@ -1,10 +1,11 @@
 -- What is said of the story of a run.
-use Rattle.std.specs.Prelude.{ℕ, true, false, List, Some}
+use Rattle.std.specs.Prelude.{◌≡◌, ℕ, true, false, List, Some}
 use Rattle.scan_story.specs.declared.entry.Entry.{Entry}
 use Rattle.scan_story.specs.declared.setting.Setting.{Setting}
 use Rattle.scan_story.specs.Views.{past}
 use Rattle.scan_story.specs.Legal.{Legal}
 use Rattle.scan_story.specs.Whole.{IsWhole, Undisturbed}
+use Rattle.run_settings.specs.Apart.{reads_apart}
 use Rattle.story_referee.specs.Counts.{AreCounts}
 use Rattle.story_referee.specs.Ruling.{IsFirstIllegal, IsRefused}
 use Rattle.story_referee.specs.declared.ruling.Reason.{Reason}
@@ -13,19 +14,20 @@ use Rattle.story_referee.specs.declared.ruling.Ruling.TheVariants as rulings
 use Rattle.run_verdict.specs.declared.judging.Judged.{Judged}
 use Rattle.run_verdict.specs.declared.judging.Judged.TheVariants as judged
 
--- what a ruling says of the story of a run
-abbrev pub judged_by : Ruling → Judged
-judged_by (rulings.Legal true counts) = judged.Legal counts
-judged_by (rulings.Legal false counts) = judged.NotWhole
-judged_by (rulings.Illegal place reason) = judged.Illegal place reason
+-- what a ruling says of the story of a run for which separate scans would read so many pieces
+abbrev pub judged_by : Ruling → ℕ → Judged
+judged_by (rulings.Legal true counts) apart = judged.Legal counts apart
+judged_by (rulings.Legal false counts) apart = judged.NotWhole
+judged_by (rulings.Illegal place reason) apart = judged.Illegal place reason
 
 -- the entry at the place is the first that may not come where it stands, for this reason
 pub record IsIllegal (s : Setting) (es : List Entry) (place : ℕ) (reason : Reason) : Type 0 where
   pub refused : IsRefused s es place reason
   pub first : IsFirstIllegal s es (Some place)
 
--- legal, whole and undisturbed; or the first entry that may not come, and why; or not whole
+-- legal, whole and undisturbed, and separate scans would read so many pieces; or the first entry that may not come, and why;
+-- or legal, and not whole
 abbrev pub IsJudged : Setting → List Entry → Judged → Type 0
-IsJudged s es (judged.Legal counts) = Legal s (past es) × IsWhole s (past es) × Undisturbed s (past es) × AreCounts es counts
+IsJudged s es (judged.Legal counts apart) = Legal s (past es) × IsWhole s (past es) × Undisturbed s (past es) × AreCounts es counts × (apart ≡ reads_apart s)
 IsJudged s es (judged.Illegal place reason) = IsIllegal s es place reason
-IsJudged s es judged.NotWhole = IsWhole s (past es) → ⊥
+IsJudged s es judged.NotWhole = Legal s (past es) × (IsWhole s (past es) → ⊥)

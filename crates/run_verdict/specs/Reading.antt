@@ -34,10 +34,14 @@ abbrev pub text_with : Inputs → List Answer → List Entry → List ℕ
 text_with i answers story =
     output (printed i.loaded.table.columns i.loaded.dicts.items 1 i.outcomes.items answers) (totals_of i.summary story (length i.loaded.table.rows)) (Some story)
 
+-- these are the lines, and this is the story
+abbrev pub IsToldIn : List Bool → List Entry → Result Told Verdict → Type 0
+IsToldIn lines story (Ok t) = (t.lines.items ≡ lines) × (t.story.items ≡ story)
+IsToldIn lines story (Err v) = ⊥
+
 -- these lines stand for answers, and this is the story
 abbrev pub IsToldBy : Inputs → List Answer → List Entry → Result Told Verdict → Type 0
-IsToldBy i answers story (Ok t) = (t.lines.items ≡ map is_some (words_of i.outcomes.items answers)) × (t.story.items ≡ story)
-IsToldBy i answers story (Err v) = ⊥
+IsToldBy i answers story r = IsToldIn (map is_some (words_of i.outcomes.items answers)) story r
 
 -- where a text is what the statements print, a summary line and a story, that is what is read of it
 abbrev pub HasRead : Inputs → List Answer → List ℕ → List Entry → List ℕ → Result Told Verdict → Type 0

@@ -1,9 +1,16 @@
 -- THE VERDICT on an output.
-use Rattle.std.specs.Prelude.{◌≡◌, ℕ, List, length}
+use Rattle.std.specs.Prelude.{◌≡◌, ◌++◌, ℕ, List, drop, length}
+use Rattle.std.specs.List.{AllByRecursion}
 use Rattle.scan_story.specs.declared.entry.Entry.{Entry}
 use Rattle.scan_story.specs.declared.setting.PolicyName.{PolicyName}
+use Rattle.scan_story.specs.Legal.{Legal}
+use Rattle.scan_story.specs.Reading.{BeginsBadly, Fits}
 use Rattle.scan_story.specs.Spent.{reads}
+use Rattle.scan_story.specs.Text.{story_text}
 use Rattle.scan_story.specs.Views.{past}
+use Rattle.scan_story.specs.Whole.{IsWhole}
+use Rattle.output_parts.specs.Ends.{BeginsAtLine, EndsWith}
+use Rattle.run_settings.specs.Apart.{reads_apart}
 use Rattle.run_inputs.specs.declared.inputs.Inputs.{Inputs}
 use Rattle.story_referee.specs.Counts.{AreCounts}
 use Rattle.story_referee.specs.Ruling.{IsRefused}
@@ -17,29 +24,57 @@ use Rattle.run_verdict.specs.declared.verdict.Verdict.TheVariants as verdict
 abbrev pub TellsNoRun : Inputs → PolicyName → List ℕ → Type 0
 TellsNoRun i name out = (story : List Entry) → IsRunTold i name out story → ⊥
 
--- a run is told by the text, with so many entries, reads, and entries of each kind
-pub record TellsRun (i : Inputs) (name : PolicyName) (out : List ℕ) (entries reads_made : ℕ) (counts : Counts) : Type 0 where
+-- a run is told by the text, with so many entries, reads, and entries of each kind; separate scans would read so many pieces
+pub record TellsRun (i : Inputs) (name : PolicyName) (out : List ℕ) (entries reads_made apart : ℕ) (counts : Counts) : Type 0 where
   pub story : List Entry
   pub told : IsRunTold i name out story
   pub entries_are : entries ≡ length story
   pub reads_are : reads_made ≡ reads (past story)
+  pub apart_are : apart ≡ reads_apart (run_setting i name)
   pub counts_are : AreCounts story counts
 
--- no run is told, since the story that was read has an entry that may not come at this place, for this reason
-pub record RefusesEntry (i : Inputs) (name : PolicyName) (out : List ℕ) (place : ℕ) (reason : Reason) : Type 0 where
+-- no run is told: the text ends with a story whose entry at this place may not come, for this reason, and which goes on from
+-- there at the line of this number
+pub record RefusesEntry (i : Inputs) (name : PolicyName) (out : List ℕ) (line place : ℕ) (reason : Reason) : Type 0 where
   pub none : TellsNoRun i name out
   pub story : List Entry
+  pub ends : EndsWith out (story_text story)
   pub refused : IsRefused (run_setting i name) story place reason
+  pub at_line : BeginsAtLine out (story_text (drop place story)) line
+
+-- the text ends with the lines of some entries and then, from the line of this number on, what begins with no entry's line
+pub record HasNoEntryAt (out : List ℕ) (line : ℕ) : Type 0 where
+  pub entries : List Entry
+  pub rest : List ℕ
+  pub fit : AllByRecursion Fits entries
+  pub ends : EndsWith out (story_text entries ++ rest)
+  pub bad : BeginsBadly rest
+  pub at_line : BeginsAtLine out rest line
+
+-- no run is told, since this line is no entry's
+pub record RefusesLine (i : Inputs) (name : PolicyName) (out : List ℕ) (line : ℕ) : Type 0 where
+  pub none : TellsNoRun i name out
+  pub bad : HasNoEntryAt out line
+
+-- no run is told: the text ends with a story that is legal, but not whole
+pub record LeavesOpen (i : Inputs) (name : PolicyName) (out : List ℕ) : Type 0 where
+  pub none : TellsNoRun i name out
+  pub story : List Entry
+  pub ends : EndsWith out (story_text story)
+  pub legal : Legal (run_setting i name) (past story)
+  pub unfinished : IsWhole (run_setting i name) (past story) → ⊥
 
 -- LEGAL exactly where the text tells a run
 abbrev pub IsVerdict : Inputs → PolicyName → List ℕ → Verdict → Type 0
-IsVerdict i name out (verdict.Legal entries reads_made counts) = TellsRun i name out entries reads_made counts
-IsVerdict i name out (verdict.Illegal place reason) = RefusesEntry i name out place reason
+IsVerdict i name out (verdict.Legal entries reads_made apart counts) = TellsRun i name out entries reads_made apart counts
+IsVerdict i name out (verdict.Illegal line place reason) = RefusesEntry i name out line place reason
+IsVerdict i name out (verdict.NotStory line) = RefusesLine i name out line
+IsVerdict i name out verdict.NotWhole = LeavesOpen i name out
 IsVerdict i name out _ = TellsNoRun i name out
 
 -- what stands in the way of reading a story
-abbrev pub IsOfReading : Verdict → Type 0
-IsOfReading (verdict.NotAnswered query) = Unit {0}
-IsOfReading verdict.NoSummary = Unit {0}
-IsOfReading (verdict.NotStory line) = Unit {0}
-IsOfReading _ = ⊥
+abbrev pub IsOfReading : List ℕ → Verdict → Type 0
+IsOfReading out (verdict.NotAnswered query) = Unit {0}
+IsOfReading out verdict.NoSummary = Unit {0}
+IsOfReading out (verdict.NotStory line) = HasNoEntryAt out line
+IsOfReading out _ = ⊥

@@ -7,7 +7,7 @@ ghost use Rattle.run_verdict.specs.Told.{run_setting};
 
 use batch_plan::Task;
 use run_inputs::Inputs;
-use run_settings::terms_of;
+use run_settings::{reads_apart, terms_of};
 use scan_story::{Entry, PolicyName};
 use std::alloc::Global;
 use story_referee::{Counts, Reason, Ruling, judge};
@@ -16,23 +16,24 @@ use table_core::Memory;
 /// What is said of the story of a run.
 #[derive(Clone, Copy, Debug, PartialEq, Eq)]
 pub(crate) enum Judged {
-    /// It is legal and whole, no chunk was disturbed while it was held, and it has so many entries of each kind.
-    Legal { counts: Counts },
+    /// It is legal and whole, no chunk was disturbed while it was held, and it has so many entries of each kind. Separate
+    /// scans would read so many pieces.
+    Legal { counts: Counts, apart: u64 },
     /// The entry at this place, from 0, is the first that may not come where it stands, for this reason.
     Illegal { place: usize, reason: Reason },
-    /// A query isn't over, or something is left open.
+    /// It is legal, but a query isn't over, or something is left open.
     NotWhole,
 }
 
-// What a ruling says of the story of a run.
-fn judged_by(ruling: Ruling) -> Judged
-    ensures { result ≡ spec.judged_by ruling }
+// What a ruling says of the story of a run for which separate scans would read so many pieces.
+fn judged_by(ruling: Ruling, apart: u64) -> Judged
+    ensures { result ≡ spec.judged_by ruling apart }
 {
     match ruling {
         Ruling::Illegal { place, reason } => Judged::Illegal { place, reason },
         Ruling::Legal { whole, counts } => {
             if whole {
-                return Judged::Legal { counts };
+                return Judged::Legal { counts, apart };
             }
             Judged::NotWhole
         }
@@ -62,5 +63,5 @@ pub(crate) fn judge_run(
         policy,
     )?;
     let ruling = judge(alloc, &terms, story)?;
-    Ok(judged_by(ruling))
+    Ok(judged_by(ruling, reads_apart(&terms)))
 }

@@ -4,9 +4,9 @@
 //!
 //!     let inputs = inputs_of(alloc, keys, &request, &mut shelf)?;
 //!     match verdict_of(alloc, &inputs, PolicyName::Relevance, output)? {
-//!         Verdict::Legal { entries, reads, counts } => ..,    // it is one
-//!         Verdict::NotAnswered { query } => ..,               // neither its answer stands there nor a stop
-//!         other => ..,                                        // what stands in the way, as `Verdict` tells
+//!         Verdict::Legal { entries, reads, .. } => ..,        // it is one
+//!         Verdict::Illegal { line, reason, .. } => ..,        // this line of the output may not come
+//!         other => ..,                                        // what else stands in the way, as `Verdict` tells
 //!     }
 #![tactic(auto)]
 

@@ -1,7 +1,7 @@
 // What an output tells.
-ghost use Rattle.std.specs.Prelude.{◌≡◌, ◌≤◌, ◌^◌, ◌++◌, All, IfErr, IfOk, List, MatchOption, Some, length, ℕ};
+ghost use Rattle.std.specs.Prelude.{◌≡◌, ◌≤◌, ◌^◌, ◌++◌, All, IfErr, IfOk, List, IfSome, MatchOption, Some, length, ℕ};
 ghost use Rattle.std.specs.List.{AllByRecursion, AllZip};
-ghost use Rattle.scan_story.specs.Reading.{Fits};
+ghost use Rattle.scan_story.specs.Reading.{Fits, IsFirstBad};
 ghost use Rattle.scan_story.specs.Text.{story_text};
 ghost use Rattle.scan_story.specs.declared.entry.Entry.{Entry as EntryOf};
 ghost use Rattle.table_core.specs.Value.{places_of};
@@ -9,12 +9,13 @@ ghost use Rattle.query_gather.specs.Answer.{CanBeWritten};
 ghost use Rattle.query_gather.specs.declared.answer.Answer.{Answer as AnswerOf};
 ghost use Rattle.run_output.specs.Answers.{NamesColumns};
 ghost use Rattle.run_output.specs.Outcomes.{plans_of};
+ghost use Rattle.output_parts.specs.Ends.{BeginsAtLine, EndsWith};
 ghost use Rattle.plain_answers.specs.Parts.{IsPlainOrStopped};
-ghost use Rattle.run_verdict.specs.Reading.{HasRead, IsSummaryLine, TellsStory};
+ghost use Rattle.run_verdict.specs.Reading.{HasRead, IsSummaryLine, IsToldIn, TellsStory};
 ghost use Rattle.run_verdict.specs.Verdict.{IsOfReading};
 
 use crate::verdict::Verdict;
-use output_parts::{Split, behind_line, numbers_fit, one_story, take_apart};
+use output_parts::{Split, behind_line, line_of_end, numbers_fit, one_story, take_apart};
 use plain_answers::parts_of;
 use query_gather::Answer;
 use run_inputs::Inputs;
@@ -22,16 +23,19 @@ use scan_story::{Entry, StoryRefusal, read_story};
 use std::alloc::Global;
 use table_core::Memory;
 
-/// What an output tells: whether a line stands for the answer to each statement, and the story behind them.
+/// What an output tells: whether a line stands for the answer to each statement, and the story behind them, which begins
+/// at the line of this number, from 1.
 #[derive(Drop)]
 pub(crate) struct Told {
     pub(crate) lines: Vec<bool>,
     pub(crate) story: Vec<Entry>,
+    pub(crate) first: u64,
 }
 
 // What stands behind the summary, where there is to be one.
 fn behind_summary(summary: bool, text: &[u8]) -> Option<&[u8]>
-    ensures { (line rest : List ℕ) → IsSummaryLine summary line → text.now ≡ line ++ rest
+    ensures end { IfSome result (λ r. EndsWith text.now r.now) }
+    ensures rest { (line rest : List ℕ) → IsSummaryLine summary line → text.now ≡ line ++ rest
         → MatchOption result ⊥ (λ r. r.now ≡ rest) }
 {
     if summary {
@@ -42,14 +46,14 @@ fn behind_summary(summary: bool, text: &[u8]) -> Option<&[u8]>
 
 // The story of a text, or the first of its lines that is no entry's. Out of memory there is neither.
 fn story_in(alloc: Global, text: &[u8]) -> Result<Result<Vec<Entry>, u32>, Memory>
+    requires short { length text.now ≤ 2 ^ 30 }
     ensures fits { IfOk result (λ r. IfOk r (λ es. AllByRecursion Fits es.items)) }
+    ensures text { IfOk result (λ r. IfOk r (λ es. text.now ≡ story_text es.items)) }
+    ensures bad { IfOk result (λ r. IfErr r (IsFirstBad text.now)) }
     ensures told { IfOk result (λ r. (story : List EntryOf) → AllByRecursion Fits story
-        → text.now ≡ story_text story → length text.now ≤ 2 ^ 30 → TellsStory story r) }
+        → text.now ≡ story_text story → TellsStory story r) }
 {
     one_story();
-    if text.len() > 1073741824 {
-        return Ok(Err(0));
-    }
     match read_story(alloc, text) {
         Ok(story) => {
             numbers_fit(&story);
@@ -57,6 +61,35 @@ fn story_in(alloc: Global, text: &[u8]) -> Result<Result<Vec<Entry>, u32>, Memor
         }
         Err(StoryRefusal::BadLine { line }) => Ok(Err(line)),
         Err(StoryRefusal::Memory) => Err(Memory),
+    }
+}
+
+// What an output tells whose trace is this end of it, behind answers with these lines.
+fn told_at_end(
+    alloc: Global,
+    lines: Vec<bool>,
+    output: &[u8],
+    trace: &[u8],
+) -> Result<Result<Told, Verdict>, Memory>
+    requires end { EndsWith output.now trace.now }
+    requires short { length output.now ≤ 2 ^ 30 }
+    ensures fits { IfOk result (λ r. IfOk r (λ t. AllByRecursion Fits t.story.items)) }
+    ensures end { IfOk result (λ r. IfOk r (λ t. BeginsAtLine output.now (story_text t.story.items) t.first)) }
+    ensures bad { IfOk result (λ r. IfErr r (IsOfReading output.now)) }
+    ensures told { IfOk result (λ r. (story : List EntryOf) → AllByRecursion Fits story
+        → trace.now ≡ story_text story → IsToldIn lines.items story r) }
+{
+    let first = line_of_end(output, trace);
+    match story_in(alloc, trace)? {
+        Ok(story) => Ok(Ok(Told {
+            lines,
+            story,
+            first,
+        })),
+        Err(line) => {
+            let line = first + line as u64 - 1;
+            Ok(Err(Verdict::NotStory { line }))
+        }
     }
 }
 
@@ -68,6 +101,7 @@ pub(crate) fn read_output(
     plain: &[Answer],
     output: &[u8],
 ) -> Result<Result<Told, Verdict>, Memory>
+    requires short { length output.now ≤ 2 ^ 30 }
     requires few { length inputs.now.outcomes.items ≤ 256 }
     requires dicts { length inputs.now.loaded.dicts.items ≡ length inputs.now.loaded.table.columns }
     requires places { All (λ c. places_of c.kind ≤ 9) inputs.now.loaded.table.columns }
@@ -79,7 +113,8 @@ pub(crate) fn read_output(
     ensures read { IfOk result (λ r. (answers : List AnswerOf) (line : List ℕ) (story : List EntryOf)
         → AllZip IsPlainOrStopped plain.now answers
         → HasRead inputs.now answers line story output.now r) }
-    ensures none { IfOk result (λ r. IfErr r IsOfReading) }
+    ensures end { IfOk result (λ r. IfOk r (λ t. BeginsAtLine output.now (story_text t.story.items) t.first)) }
+    ensures none { IfOk result (λ r. IfErr r (IsOfReading output.now)) }
 {
     let schema = inputs.loaded.table.schema();
     let parts = parts_of(alloc, schema, &inputs.loaded.dicts, &inputs.outcomes, plain)?;
@@ -91,8 +126,5 @@ pub(crate) fn read_output(
     let Some(trace) = behind_summary(inputs.summary, behind) else {
         return Ok(Err(Verdict::NoSummary));
     };
-    match story_in(alloc, trace)? {
-        Ok(story) => Ok(Ok(Told { lines, story })),
-        Err(line) => Ok(Err(Verdict::NotStory { line })),
-    }
+    told_at_end(alloc, lines, output, trace)
 }

@@ -20,10 +20,11 @@ use table_core::Memory;
 #[derive(Clone, Copy, Debug, PartialEq, Eq)]
 pub enum Verdict {
     /// It is the output of a run: its story has so many entries, read so many pieces, and has so many entries of each
-    /// kind.
+    /// kind. Where each query reads for itself, so many pieces are read `apart`.
     Legal {
         entries: usize,
         reads: u64,
+        apart: u64,
         counts: Counts,
     },
     /// For the statement of this number neither its answer stands, nor the line of a query that was stopped.
@@ -32,18 +33,19 @@ pub enum Verdict {
     },
     /// Behind the statements there is no summary, though one was asked for.
     NoSummary,
-    /// This line of the trace, counted from 1, is the first that is no entry's; 0 where the trace is longer than 2^30
-    /// bytes.
+    /// This line of the output, counted from 1, is the first of the trace that is no entry's.
     NotStory {
-        line: u32,
+        line: u64,
     },
-    /// The entry at this place, from 0, is the first that may not come where it stands: it breaks this rule, or there
-    /// was this better choice.
+    /// The entry at this line of the output, from 1, and this place of the story, from 0, is the first that may not come
+    /// where it stands: it breaks this rule, or there was this better choice.
     Illegal {
+        line: u64,
         place: usize,
         reason: Reason,
     },
-    /// A query isn't over, so a chunk that it needs was not delivered exactly once, or something is left open.
+    /// The story is legal, but a query isn't over, so a chunk that it needs was not delivered exactly once, or something
+    /// is left open.
     NotWhole,
     /// A line of a query that was stopped, or the summary, isn't that of the story.
     Differs,
@@ -67,13 +69,24 @@ pub fn verdict_of(
 {
     let tasks = tasks_of(alloc, &inputs.outcomes)?;
     let plain = answers_of(alloc, &inputs.outcomes, &inputs.loaded.table)?;
-    let Told { lines, story } = match read_output(alloc, inputs, &plain, output)? {
+    let Told {
+        lines,
+        story,
+        first,
+    } = match read_output(alloc, inputs, &plain, output)? {
         Ok(told) => told,
         Err(verdict) => return Ok(verdict),
     };
-    let counts = match judge_run(alloc, inputs, &tasks, policy, &story)? {
-        Judged::Legal { counts } => counts,
-        Judged::Illegal { place, reason } => return Ok(Verdict::Illegal { place, reason }),
+    let (counts, apart) = match judge_run(alloc, inputs, &tasks, policy, &story)? {
+        Judged::Legal { counts, apart } => (counts, apart),
+        Judged::Illegal { place, reason } => {
+            let line = first + place as u64;
+            return Ok(Verdict::Illegal {
+                line,
+                place,
+                reason,
+            });
+        }
         Judged::NotWhole => return Ok(Verdict::NotWhole),
     };
     let stops = stops_of(alloc, &story, inputs.options.parts, &tasks, &lines)?;
@@ -84,6 +97,7 @@ pub fn verdict_of(
     Ok(Verdict::Legal {
         entries: story.len(),
         reads: Spent::of(&story).reads,
+        apart,
         counts,
     })
 }

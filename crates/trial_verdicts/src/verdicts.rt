@@ -135,6 +135,7 @@ const VERDICTS: &[(&[u8], &[u8], Verdict)] = &[
         Verdict::Legal {
             entries: 7,
             reads: 1,
+            apart: 1,
             counts: COUNTS,
         },
     ),
@@ -145,6 +146,7 @@ const VERDICTS: &[(&[u8], &[u8], Verdict)] = &[
         Verdict::Legal {
             entries: 7,
             reads: 1,
+            apart: 1,
             counts: COUNTS,
         },
     ),
@@ -154,15 +156,25 @@ const VERDICTS: &[(&[u8], &[u8], Verdict)] = &[
     (
         b"query 1\n2\n",
         b"register 0 1\nplan 0 1 00\n",
-        Verdict::NotStory { line: 2 },
+        Verdict::NotStory { line: 4 },
     ),
     (b"query 1\n2\n", NO_END, Verdict::NotWhole),
     (
         b"query 1\n2\n",
         NO_REGISTER,
         Verdict::Illegal {
+            line: 3,
             place: 0,
             reason: Reason::Broken(Rule::Starved),
+        },
+    ),
+    (
+        b"query 1\n2\n",
+        b"register 0 1\nend 0 1\n",
+        Verdict::Illegal {
+            line: 4,
+            place: 1,
+            reason: Reason::Broken(Rule::NeedsNothing),
         },
     ),
 ];

@@ -47,7 +47,8 @@ returns c =
     let made = c.in_ok-terms.ensures in
     let same : setting_of terms ≡ run_setting i c.args.policy = search rules in
     let ruled = c.in_ok-ruling.ensures in
-    let Is = λ (s : Setting). IsJudged s c.args.story.now (judged_by c.in_ok-ruling.ruling) in
-    let is = subst Is same (judged_is (setting_of terms) c.args.story.now c.in_ok-ruling.ruling ruled.ruling ruled.first ruled.calm made.room) in
+    let apart = c.reads_apart.result in
+    let Is = λ (s : Setting). IsJudged s c.args.story.now (judged_by c.in_ok-ruling.ruling apart) in
+    let is = subst Is same (judged_is (setting_of terms) c.args.story.now c.in_ok-ruling.ruling ruled.ruling ruled.first ruled.calm made.room apart c.reads_apart.ensures) in
     let By = λ (j : Judged). IsJudged (run_setting i c.args.policy) c.args.story.now j in
     subst By (sym c.judged_by.ensures) is

@@ -5,12 +5,14 @@ use Rattle.std.proofs.lemmas.List.{length-map}
 use Rattle.std.proofs.lemmas.List.Elements.{All-from_recursion}
 use Rattle.scan_story.specs.Reading.{Fits}
 use Rattle.scan_story.specs.Spent.{reads}
+use Rattle.scan_story.specs.Text.{story_text}
 use Rattle.scan_story.specs.Views.{past}
 use Rattle.scan_story.specs.declared.entry.Entry.{Entry}
 use Rattle.query_gather.specs.Answer.{CanBeWritten}
 use Rattle.query_gather.specs.declared.answer.Answer.{Answer}
 use Rattle.batch_plan.specs.declared.task.Task.{Task}
 use Rattle.batch_run.specs.Tasks.{IsPlanOfTable}
+use Rattle.output_parts.specs.Ends.{BeginsAtLine}
 use Rattle.run_output.specs.Outcomes.{plans_of}
 use Rattle.run_output.specs.declared.outcome.Outcome.{Outcome}
 use Rattle.run_decision.specs.Tasks.{tasks_in}
@@ -26,6 +28,7 @@ use Rattle.run_verdict.specs.declared.judging.Judged.TheVariants as judged
 use Rattle.run_verdict.specs.declared.reading.Told.{Told}
 use Rattle.run_verdict.specs.declared.verdict.Verdict.{Verdict}
 use Rattle.run_verdict.proofs.Given.{names_are, plans_are, tasks_count, tasks_some, written}
+use Rattle.run_verdict.proofs.Placed.{entry_at, line_low}
 use Rattle.run_verdict.proofs.Sentence.{answers_now, differs_none, given_is, judged_none, none_told, refused_none, run_told}
 use Rattle.run_verdict.proofs.Stopping.{given_written}
 use Rattle.run_verdict.proofs.verdict.verdict_of.Goals as goal
@@ -69,11 +72,20 @@ returns-in-Err c =
     let r = c.in_ok-told.field-0 in
     let reads_all = c.in_ok-told.ensures.read in
     let v = c.in-Err.verdict in
-    let Not = λ (x : Result Told Verdict). IfErr x IsOfReading in
+    let Not = λ (x : Result Told Verdict). IfErr x (IsOfReading c.args.output.now) in
     record {
       verdict = none_told i c.args.policy c.args.output.now v (subst Not c.in-Err.is c.in_ok-told.ensures.none)
           (refused_none i can c.args.policy c.args.output.now c.requires.short d3 are3 r reads_all v c.in-Err.is);
     }
+
+pub overflow_add-line : goal.overflow_add-line
+overflow_add-line c =
+    let Judges = λ (es : List Entry). IsJudged (run_setting c.args.inputs.now c.args.policy) es c.in_ok-counts.field-0 in
+    let is = subst Judges c.deref-5.ensures.value c.in_ok-counts.ensures in
+    let Refused = λ (k : Judged). IsJudged (run_setting c.args.inputs.now c.args.policy) c.in-Ok.told.story.items k in
+    let Begins = λ (x : Result Told Verdict). IfOk x (λ (k : Told). BeginsAtLine c.args.output.now (story_text k.story.items) k.first) in
+    let low = line_low c.args.output.now c.in-Ok.told.story.items c.in-Ok.told.first c.in-Illegal.place (subst Begins c.in-Ok.is c.in_ok-told.ensures.end) (subst Refused c.in-Illegal.is is).first.0 in
+    omega (arith, low, c.requires.short)
 
 pub returns-in-Illegal : goal.returns-in-Illegal
 returns-in-Illegal c =
@@ -93,12 +105,19 @@ returns-in-Illegal c =
     let Judges = λ (es : List Entry). IsJudged (run_setting i c.args.policy) es j in
     let is = subst Judges c.deref-5.ensures.value c.in_ok-counts.ensures in
     let Refused = λ (k : Judged). IsJudged (run_setting i c.args.policy) t.story.items k in
+    let refused = subst Refused c.in-Illegal.is is in
+    let Begins = λ (x : Result Told Verdict). IfOk x (λ (k : Told). BeginsAtLine c.args.output.now (story_text k.story.items) k.first) in
+    let begins = subst Begins c.in-Ok.is c.in_ok-told.ensures.end in
+    let Fit = λ (x : Result Told Verdict). IfOk x (λ (k : Told). AllByRecursion Fits k.story.items) in
+    let fit = subst Fit c.in-Ok.is c.in_ok-told.ensures.fits in
     record {
       verdict = record {
         none = judged_none i can c.args.policy c.args.output.now c.requires.short d3 are3 r reads_all t c.in-Ok.is j is
-            (λ n e. let k : judged.Illegal c.in-Illegal.place c.in-Illegal.reason ≡ judged.Legal n = sym c.in-Illegal.is ∙ e in absurd cc);
+            (λ n a e. let k : judged.Illegal c.in-Illegal.place c.in-Illegal.reason ≡ judged.Legal n a = sym c.in-Illegal.is ∙ e in absurd cc);
         story = t.story.items;
-        refused = (subst Refused c.in-Illegal.is is).refused;
+        ends = record { before = begins.before; joined = begins.joined };
+        refused = refused.refused;
+        at_line = entry_at c.args.output.now t.story.items t.first c.in-Illegal.place fit refused.first.0 begins;
       };
     }
 
@@ -119,9 +138,19 @@ returns-in-NotWhole c =
     let j = c.in_ok-counts.field-0 in
     let Judges = λ (es : List Entry). IsJudged (run_setting i c.args.policy) es j in
     let is = subst Judges c.deref-5.ensures.value c.in_ok-counts.ensures in
+    let Left = λ (k : Judged). IsJudged (run_setting i c.args.policy) t.story.items k in
+    let left = subst Left c.in-NotWhole.is is in
+    let Begins = λ (x : Result Told Verdict). IfOk x (λ (k : Told). BeginsAtLine c.args.output.now (story_text k.story.items) k.first) in
+    let begins = subst Begins c.in-Ok.is c.in_ok-told.ensures.end in
     record {
-      verdict = judged_none i can c.args.policy c.args.output.now c.requires.short d3 are3 r reads_all t c.in-Ok.is j is
-          (λ n e. let k : judged.NotWhole ≡ judged.Legal n = sym c.in-NotWhole.is ∙ e in absurd cc);
+      verdict = record {
+        none = judged_none i can c.args.policy c.args.output.now c.requires.short d3 are3 r reads_all t c.in-Ok.is j is
+            (λ n a e. let k : judged.NotWhole ≡ judged.Legal n a = sym c.in-NotWhole.is ∙ e in absurd cc);
+        story = t.story.items;
+        ends = record { before = begins.before; joined = begins.joined };
+        legal = left.0;
+        unfinished = left.1;
+      };
     }
 
 pub stops_of-requires-clause-queries : goal.stops_of-requires-clause-queries
@@ -232,9 +261,10 @@ returns c =
     record {
       verdict = record {
         story = t.story.items;
-        told = run_told i can c.args.policy c.args.output.now c.requires.short d3 are3 r reads_all t c.in-Ok.is (subst Fit c.in-Ok.is c.in_ok-told.ensures.fits) c.in-Legal.counts (subst Legal c.in-Legal.is is) whole;
+        told = run_told i can c.args.policy c.args.output.now c.requires.short d3 are3 r reads_all t c.in-Ok.is (subst Fit c.in-Ok.is c.in_ok-told.ensures.fits) c.in-Legal.counts c.in-Legal.apart (subst Legal c.in-Legal.is is) whole;
         entries_are = search rules;
         counts_are = (subst Legal c.in-Legal.is is).3;
+        apart_are = (subst Legal c.in-Legal.is is).4;
         reads_are = c.of.ensures.counts.reads ∙ ap (λ (es : List Entry). reads (past es)) c.deref-12.ensures.value;
       };
     }

@@ -1,0 +1,19 @@
+use Rattle.std.proofs.Common.{ℕ, refl, subst, arith}
+use Rattle.std.specs.Prelude.{IfErr, Result}
+use Rattle.std.specs.declared.alloc.Global.{Global}
+use Rattle.std.specs.declared.vec.Vec.{Vec}
+use Rattle.scan_story.specs.Reading.{IsFirstBad}
+use Rattle.scan_story.specs.declared.entry.Entry.{Entry}
+use Rattle.output_parts.proofs.Lines.{line_within}
+use Rattle.run_verdict.proofs.Placed.{no_entry_at}
+use Rattle.run_verdict.proofs.reading.told_at_end.Goals as goal
+
+pub overflow_add-line : goal.overflow_add-line
+overflow_add-line c =
+    let low = line_within c.args.output.now c.args.trace.now c.line_of_end-first.result c.line_of_end-first.ensures in
+    omega (arith, low, c.requires.short)
+
+pub returns-in-Err-clause-bad : goal.returns-in-Err-clause-bad
+returns-in-Err-clause-bad c =
+    let Bad = λ (r : Result (Vec Entry Global) ℕ). IfErr r (IsFirstBad c.args.trace.now) in
+    no_entry_at c.args.output.now c.args.trace.now c.line_of_end-first.result c.in-Err.line _ c.requires.end c.line_of_end-first.ensures (subst Bad c.in-Err.is c.in_ok-story.ensures.bad) refl
