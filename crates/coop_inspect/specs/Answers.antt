@@ -1,5 +1,5 @@
 -- What is said to words.
-use Rattle.std.specs.Prelude.{◌≡◌, ◌⊎◌, ℕ, List, Option, Some, None}
+use Rattle.std.specs.Prelude.{◌≡◌, ◌⊎◌, ℕ, List, Some}
 use Rattle.clap.specs.Walk.{Text}
 use Rattle.coop_outside.specs.Held.{Held}
 use Rattle.inspect_words.specs.Asked.{AskedIs, IsRefusedFor, asked_of, draw_is, explain_is, judge_is}

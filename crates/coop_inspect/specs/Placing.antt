@@ -1,5 +1,5 @@
 -- Where a statement is refused.
-use Rattle.std.specs.Prelude.{◌≡◌, ◌+◌, ◌++◌, ℕ, List, length, min, take, codes, decimal}
+use Rattle.std.specs.Prelude.{◌≡◌, ◌+◌, ◌++◌, ◌&&◌, ℕ, List, [], length, min, nat_le, take, codes, decimal, if◌then◌else◌}
 use Rattle.refusal_places.specs.Lines.{column_of, line_of}
 use Rattle.refusal_places.specs.Statements.{IsStatementPlace}
 use Rattle.refusal_places.specs.declared.place.Place.{Place}
@@ -13,11 +13,14 @@ abbrev pub spot_text : List ℕ → ℕ → List ℕ → List ℕ
 spot_text batch at token =
     (((codes "  at " ++ (decimal (line_of (take at batch)) ++ codes ":")) ++ (decimal (column_of (take at batch)) ++ codes " ")) ++ token) ++ codes "\n"
 
--- the lines of a place: where it is in the batch, with a token; behind it stands what could stand there
+-- the bytes of the span, or none where the text ends before
+abbrev pub bytes_at : List ℕ → Span → List ℕ
+bytes_at text span = if nat_le span.from span.to && nat_le span.to (length text) then part text span else []
+
+-- the lines of a place in a statement: where it is in the batch, with the token there; behind it stands what could stand there
 pub record IsSpotTold (batch : List ℕ) (span : Span) (place : Place) (told : List ℕ) : Type 0 where
-  pub token : List ℕ
   pub stands : List ℕ
-  pub lines : told ≡ spot_text batch (min (span.from + place.span.from) (length batch)) token ++ stands
+  pub lines : told ≡ spot_text batch (min (span.from + place.span.from) (length batch)) (bytes_at (part batch span) place.span) ++ stands
 
 -- the place of the refusal is told
 pub record IsPlaceTold (batch : List ℕ) (span : Span) (columns : List Column) (why : StatementRefusal) (told : List ℕ) : Type 0 where

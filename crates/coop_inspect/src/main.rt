@@ -9,9 +9,12 @@ mod inspect;
 mod judging;
 mod lines;
 mod output;
+mod ranks;
 mod reasons;
 mod refusals;
 mod reply;
+#[cfg(test)]
+mod smallest_picture;
 mod statements;
 mod stderr_sink;
 #[cfg(test)]

@@ -1,22 +1,15 @@
 // Why an entry may not come, in words.
-use std::alloc::{AllocError, Global};
-use std::fmt;
-use story_referee::{Better, Choice, Rank, Reason, Rule};
+ghost use Rattle.std.specs.Prelude.{◌≡◌, Some};
+ghost use Rattle.coop_inspect.specs.Reasons as spec;
 
-/// The end of the line that says why an entry may not come.
-pub(crate) fn reason_told(alloc: Global, reason: &Reason) -> Result<Vec<u8>, AllocError> {
-    let line = match reason {
-        Reason::Broken(rule) => format!(in alloc; "may not come: {}\n", rule_words(*rule)),
-        Reason::Outdone(better) => format!(in alloc; "{}\n", Told(*better)),
-    };
-    match line {
-        Ok(line) => Ok(line.into_bytes()),
-        Err(_) => Err(AllocError),
-    }
-}
+use crate::ranks::ShownRank;
+use std::fmt;
+use story_referee::{Choice, Reason, Rule};
 
 // The rule that is broken.
-fn rule_words(rule: Rule) -> &'static str {
+fn rule_words(rule: Rule) -> &'static str
+    ensures { result.now ≡ spec.rule_words rule }
+{
     match rule {
         Rule::First => "the query has registered before",
         Rule::OnWorker => "the query is another worker's",
@@ -48,34 +41,42 @@ fn rule_words(rule: Rule) -> &'static str {
     }
 }
 
-// A better choice, with both ranks.
-#[derive(Clone, Copy)]
-struct Told(Better);
-
-impl fmt::Display for Told {
-    fn fmt<W: fmt::Write>(&self, f: &mut fmt::Formatter<W>) -> fmt::Result {
-        let Told(better) = self;
-        let number = better.number;
-        match better.choice {
-            Choice::Trigger => write!(f, "loads for another query than {number}")?,
-            Choice::Load => write!(f, "loads another chunk than {number}")?,
-            Choice::Delivery => write!(f, "delivers another chunk than {number}")?,
-            Choice::Victim => write!(f, "evicts another chunk than {number}")?,
-        }
-        f.write_str(", which was better: ")?;
-        write_rank(f, better.rank)?;
-        f.write_str(" before ")?;
-        write_rank(f, better.taken)
+// What the entry chooses.
+fn choice_words(choice: Choice) -> &'static str
+    ensures { result.now ≡ spec.choice_words choice }
+{
+    match choice {
+        Choice::Trigger => "loads for another query than",
+        Choice::Load => "loads another chunk than",
+        Choice::Delivery => "delivers another chunk than",
+        Choice::Victim => "evicts another chunk than",
     }
 }
 
-fn write_rank<W: fmt::Write>(f: &mut fmt::Formatter<W>, rank: Rank) -> fmt::Result {
-    match rank {
-        Rank::Urgency(urgency) => write!(f, "urgency {urgency}"),
-        Rank::Waited(entries) => write!(f, "{entries} entries waited"),
-        Rank::Gain(ratio) => write!(f, "gain {}/{}", ratio.num, ratio.den),
-        Rank::Loss(ratio) => write!(f, "loss {}/{}", ratio.num, ratio.den),
-        Rank::Steps(steps) => write!(f, "{steps} steps"),
-        Rank::Fitness { close, key } => write!(f, "close to {close}, key {key}"),
+/// Why an entry may not come, as a line tells it behind the number of the entry's line.
+#[derive(Clone, Copy)]
+pub(crate) struct ShownReason {
+    pub(crate) reason: Reason,
+}
+
+impl fmt::Display for ShownReason {
+    ghost output = { λ s. Some (spec.reason_text s.reason) };
+
+    fn fmt<W: fmt::Write>(&self, f: &mut fmt::Formatter<W>) -> fmt::Result {
+        match self.reason {
+            Reason::Broken(rule) => {
+                let words = rule_words(rule);
+                write!(f, "may not come: {words}")
+            }
+            Reason::Outdone(better) => {
+                let (choice, number) = (choice_words(better.choice), better.number);
+                let rank = ShownRank { rank: better.rank };
+                let taken = ShownRank { rank: better.taken };
+                write!(
+                    f,
+                    "{choice} {number}, which was better: {rank} before {taken}"
+                )
+            }
+        }
     }
 }

@@ -1,7 +1,7 @@
 // Where a statement is refused.
 ghost use Rattle.std.specs.Prelude.{◌≡◌, ◌≤◌, ◌+◌, IfOk, length, min};
 ghost use Rattle.run_inputs.specs.Statements.{IsSpanIn, part};
-ghost use Rattle.coop_inspect.specs.Placing.{IsPlaceTold, IsSpotTold, spot_text};
+ghost use Rattle.coop_inspect.specs.Placing.{IsPlaceTold, IsSpotTold, bytes_at, spot_text};
 
 use crate::lines::numbered;
 use refusal_places::{LineColumn, Place, line_and_column, statement_place};
@@ -37,19 +37,22 @@ fn spot_told(
     text: &[u8],
     place: &Place,
 ) -> Result<Vec<u8>, Memory>
+    requires { text.now ≡ part batch.now span }
     ensures { IfOk result (λ told. IsSpotTold batch.now span place.now told.items) }
 {
     let at = span.from as usize + place.span.from as usize;
-    let mut told = spot(alloc, batch, at, token_of(text, place))?;
+    let mut told = spot(alloc, batch, at, bytes_at(text, place.span))?;
     let stands = stands_told(alloc, place)?;
     told.extend_from_slice(&stands)?;
     Ok(told)
 }
 
-// The token at the place; nothing at the end of the text.
-fn token_of<'a>(text: &'a [u8], place: &Place) -> &'a [u8] {
-    match text.get(place.span.from as usize..place.span.to as usize) {
-        Some(token) => token,
+// The bytes of the span; none where the text ends before.
+fn bytes_at(text: &[u8], span: Span) -> &[u8]
+    ensures { result.now ≡ bytes_at text.now span }
+{
+    match text.get(span.from as usize..span.to as usize) {
+        Some(bytes) => bytes,
         None => b"".as_slice(),
     }
 }

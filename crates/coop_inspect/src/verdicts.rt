@@ -1,12 +1,12 @@
 // The text of a verdict.
 ghost use Rattle.std.specs.Prelude.{◌≡◌, ◌++◌, IfOk, OnOk, decimal};
-ghost use Rattle.coop_inspect.specs.Verdicts.{IsVerdictText, counts_text, legal_text, verdict_status};
+ghost use Rattle.coop_inspect.specs.Verdicts.{IsVerdictText, counts_text, illegal_text, legal_text, verdict_status};
 
 use crate::lines::{numbered, push_number};
-use crate::reasons::reason_told;
+use crate::reasons::ShownReason;
 use run_verdict::Verdict;
 use std::alloc::{AllocError, Global};
-use story_referee::Counts;
+use story_referee::{Counts, Reason};
 
 /// 0 where the output is that of a legal run, else 1.
 pub(crate) fn status_of(verdict: &Verdict) -> u8
@@ -26,8 +26,9 @@ pub(crate) fn text_of(alloc: Global, verdict: &Verdict) -> Result<Vec<u8>, Alloc
         Verdict::Legal {
             entries,
             reads,
+            apart,
             counts,
-        } => legal_text(alloc, *entries as u64, *reads, counts),
+        } => legal_text(alloc, *entries as u64, *reads, *apart, counts),
         Verdict::NotAnswered { query } => numbered(
             alloc,
             b"not legal: query ",
@@ -41,20 +42,10 @@ pub(crate) fn text_of(alloc: Global, verdict: &Verdict) -> Result<Vec<u8>, Alloc
         Verdict::NotStory { line } => numbered(
             alloc,
             b"not legal: line ",
-            *line as u64,
-            b" of the trace is no entry\n",
+            *line,
+            b" is no entry\n",
         ),
-        Verdict::Illegal { place, reason } => {
-            let mut text = numbered(
-                alloc,
-                b"not legal: the entry behind ",
-                *place as u64,
-                b" others ",
-            )?;
-            let told = reason_told(alloc, reason)?;
-            text.extend_from_slice(&told)?;
-            Ok(text)
-        }
+        Verdict::Illegal { line, reason, .. } => illegal_text(alloc, *line, *reason),
         Verdict::NotWhole => {
             Vec::from_slice(
                 alloc,
@@ -68,16 +59,30 @@ pub(crate) fn text_of(alloc: Global, verdict: &Verdict) -> Result<Vec<u8>, Alloc
     }
 }
 
+// The line of an entry that may not come.
+fn illegal_text(alloc: Global, line: u64, reason: Reason) -> Result<Vec<u8>, AllocError>
+    ensures { IfOk result (λ text. text.items ≡ illegal_text line reason) }
+{
+    let why = ShownReason { reason };
+    match format!(in alloc; "not legal: line {line} {why}\n") {
+        Ok(text) => Ok(text.into_bytes()),
+        Err(_) => Err(AllocError),
+    }
+}
+
+// The lines of a legal run.
 fn legal_text(
     alloc: Global,
     entries: u64,
     reads: u64,
+    apart: u64,
     counts: &Counts,
 ) -> Result<Vec<u8>, AllocError>
-    ensures { IfOk result (λ text. text.items ≡ legal_text entries reads counts.now) }
+    ensures { IfOk result (λ text. text.items ≡ legal_text entries reads apart counts.now) }
 {
     let mut text = numbered(alloc, b"legal: ", entries, b" entries")?;
     push_number(&mut text, b", ", reads)?;
+    push_number(&mut text, b" reads, at most ", apart)?;
     push_counts(&mut text, counts)?;
     text.extend_from_slice(b"\n")?;
     Ok(text)
@@ -87,7 +92,7 @@ fn legal_text(
 fn push_counts(text: &mut Vec<u8>, counts: &Counts) -> Result<(), AllocError>
     ensures { OnOk result (text.new.items ≡ counts_text counts.now text.old.items) }
 {
-    push_number(text, b" reads\nregister ", counts.registers as u64)?;
+    push_number(text, b"\nregister ", counts.registers as u64)?;
     push_number(text, b", plan ", counts.plans as u64)?;
     push_number(text, b", evict ", counts.evicts as u64)?;
     push_number(text, b", fill ", counts.fills as u64)?;
