@@ -9,7 +9,7 @@ use Rattle.scan_story.specs.declared.setting.PolicyName.{PolicyName}
 use Rattle.scan_story.specs.declared.setting.Setting.{Setting}
 use Rattle.scan_story.specs.Legal.{Legal}
 use Rattle.scan_story.specs.Reading.{Fits}
-use Rattle.scan_story.specs.Setting.{HasRoom}
+use Rattle.scan_story.specs.Setting.{HasRoom, IsSetting}
 use Rattle.scan_story.specs.Views.{past}
 use Rattle.scan_story.specs.Whole.{IsWhole, Undisturbed}
 use Rattle.scan_story.proofs.Prefixes.{begin_legal}
@@ -27,6 +27,7 @@ use Rattle.run_decision.proofs.Asked.{only_asked}
 use Rattle.run_decision.proofs.Losing.{lost_by}
 use Rattle.plain_answers.specs.Parts.{IsPlainOrStopped}
 use Rattle.run_settings.specs.Apart.{reads_apart}
+use Rattle.run_settings.proofs.Rows.{whole_read_little}
 use Rattle.story_referee.specs.Ruling.{IsFirstIllegal, IsRuling, finds_legal, place_of}
 use Rattle.story_referee.specs.declared.counts.Counts.{Counts}
 use Rattle.story_referee.specs.declared.ruling.Ruling.{Ruling}
@@ -56,10 +57,10 @@ none_told i name out verdict.NotWhole is none = absurd is
 none_told i name out verdict.Differs is none = absurd is
 
 -- a ruling, as it is said of the story of a run
-pub judged_is : (s : Setting) (es : List Entry) (r : Ruling) → IsRuling s es r → IsFirstIllegal s es (place_of r) → (HasRoom s → IsTrue (finds_legal r) → Undisturbed s (past es)) → HasRoom s → (apart : ℕ) → apart ≡ reads_apart s → IsJudged s es (judged_by r apart)
-judged_is s es (rulings.Legal true counts) is first calm room apart are = (is.0, is.1.0 refl, calm room refl, is.2, are)
-judged_is s es (rulings.Legal false counts) is first calm room apart are = (is.0, λ whole. let k = is.1.1 whole in absurd cc)
-judged_is s es (rulings.Illegal place reason) is first calm room apart are = record { refused = is; first = first }
+pub judged_is : (s : Setting) (es : List Entry) (r : Ruling) → IsRuling s es r → IsFirstIllegal s es (place_of r) → (HasRoom s → IsTrue (finds_legal r) → Undisturbed s (past es)) → IsSetting s → HasRoom s → (apart : ℕ) → apart ≡ reads_apart s → IsJudged s es (judged_by r apart)
+judged_is s es (rulings.Legal true counts) is first calm may room apart are = (is.0, is.1.0 refl, calm room refl, is.2, are, whole_read_little s (past es) may room is.0)
+judged_is s es (rulings.Legal false counts) is first calm may room apart are = (is.0, λ whole. let k = is.1.1 whole in absurd cc)
+judged_is s es (rulings.Illegal place reason) is first calm may room apart are = record { refused = is; first = first }
 
 -- a story that is legal, whole and undisturbed isn't judged otherwise
 pub other_judged : (s : Setting) (es : List Entry) (j : Judged) → IsJudged s es j → ((n : Counts) (a : ℕ) → j ≡ judged.Legal n a → ⊥) → Legal s (past es) → IsWhole s (past es) → ⊥

@@ -5,7 +5,7 @@ use Rattle.scan_story.specs.declared.setting.Setting.{Setting}
 use Rattle.scan_story.specs.Views.{past}
 use Rattle.scan_story.specs.Legal.{Legal}
 use Rattle.scan_story.specs.Whole.{IsWhole, Undisturbed}
-use Rattle.run_settings.specs.Apart.{reads_apart}
+use Rattle.run_settings.specs.Apart.{WholeReadLittle, reads_apart}
 use Rattle.story_referee.specs.Counts.{AreCounts}
 use Rattle.story_referee.specs.Ruling.{IsFirstIllegal, IsRefused}
 use Rattle.story_referee.specs.declared.ruling.Reason.{Reason}
@@ -28,6 +28,6 @@ pub record IsIllegal (s : Setting) (es : List Entry) (place : ℕ) (reason : Rea
 -- legal, whole and undisturbed, and separate scans would read so many pieces; or the first entry that may not come, and why;
 -- or legal, and not whole
 abbrev pub IsJudged : Setting → List Entry → Judged → Type 0
-IsJudged s es (judged.Legal counts apart) = Legal s (past es) × IsWhole s (past es) × Undisturbed s (past es) × AreCounts es counts × (apart ≡ reads_apart s)
+IsJudged s es (judged.Legal counts apart) = Legal s (past es) × IsWhole s (past es) × Undisturbed s (past es) × AreCounts es counts × (apart ≡ reads_apart s) × WholeReadLittle s (past es)
 IsJudged s es (judged.Illegal place reason) = IsIllegal s es place reason
 IsJudged s es judged.NotWhole = Legal s (past es) × (IsWhole s (past es) → ⊥)

@@ -1,11 +1,11 @@
 -- THE VERDICT on an output.
-use Rattle.std.specs.Prelude.{◌≡◌, ◌++◌, ℕ, List, drop, length}
+use Rattle.std.specs.Prelude.{◌≡◌, ◌≤◌, ◌++◌, ℕ, List, drop, length}
 use Rattle.std.specs.List.{AllByRecursion}
 use Rattle.scan_story.specs.declared.entry.Entry.{Entry}
 use Rattle.scan_story.specs.declared.setting.PolicyName.{PolicyName}
 use Rattle.scan_story.specs.Legal.{Legal}
 use Rattle.scan_story.specs.Reading.{BeginsBadly, Fits}
-use Rattle.scan_story.specs.Spent.{reads}
+use Rattle.scan_story.specs.Spent.{reads, stopped_queries}
 use Rattle.scan_story.specs.Text.{story_text}
 use Rattle.scan_story.specs.Views.{past}
 use Rattle.scan_story.specs.Whole.{IsWhole}
@@ -31,6 +31,8 @@ pub record TellsRun (i : Inputs) (name : PolicyName) (out : List ℕ) (entries r
   pub entries_are : entries ≡ length story
   pub reads_are : reads_made ≡ reads (past story)
   pub apart_are : apart ≡ reads_apart (run_setting i name)
+  -- where a chunk has one piece and no query was stopped, it read no more than that
+  pub little : (run_setting i name).groups ≡ 1 → stopped_queries (run_setting i name) (past story) ≡ 0 → reads_made ≤ apart
   pub counts_are : AreCounts story counts
 
 -- no run is told: the text ends with a story whose entry at this place may not come, for this reason, and which goes on from

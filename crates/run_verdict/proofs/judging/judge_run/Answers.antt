@@ -49,6 +49,6 @@ returns c =
     let ruled = c.in_ok-ruling.ensures in
     let apart = c.reads_apart.result in
     let Is = λ (s : Setting). IsJudged s c.args.story.now (judged_by c.in_ok-ruling.ruling apart) in
-    let is = subst Is same (judged_is (setting_of terms) c.args.story.now c.in_ok-ruling.ruling ruled.ruling ruled.first ruled.calm made.room apart c.reads_apart.ensures) in
+    let is = subst Is same (judged_is (setting_of terms) c.args.story.now c.in_ok-ruling.ruling ruled.ruling ruled.first ruled.calm made.may made.room apart c.reads_apart.ensures) in
     let By = λ (j : Judged). IsJudged (run_setting i c.args.policy) c.args.story.now j in
     subst By (sym c.judged_by.ensures) is

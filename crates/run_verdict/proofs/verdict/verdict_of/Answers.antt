@@ -258,13 +258,16 @@ returns c =
     let whole : c.args.output.now ≡ text_with i now t.story.items = c.in_ok-is_output.ensures.yes (search rules) ∙ sym text in
     let Fit = λ (x : Result Told Verdict). IfOk x (λ (k : Told). AllByRecursion Fits k.story.items) in
     let Legal = λ (k : Judged). IsJudged (run_setting i c.args.policy) t.story.items k in
+    let legal = subst Legal c.in-Legal.is is in
+    let reads_same = c.of.ensures.counts.reads ∙ ap (λ (es : List Entry). reads (past es)) c.deref-12.ensures.value in
     record {
       verdict = record {
         story = t.story.items;
-        told = run_told i can c.args.policy c.args.output.now c.requires.short d3 are3 r reads_all t c.in-Ok.is (subst Fit c.in-Ok.is c.in_ok-told.ensures.fits) c.in-Legal.counts c.in-Legal.apart (subst Legal c.in-Legal.is is) whole;
+        told = run_told i can c.args.policy c.args.output.now c.requires.short d3 are3 r reads_all t c.in-Ok.is (subst Fit c.in-Ok.is c.in_ok-told.ensures.fits) c.in-Legal.counts c.in-Legal.apart legal whole;
         entries_are = search rules;
-        counts_are = (subst Legal c.in-Legal.is is).3;
-        apart_are = (subst Legal c.in-Legal.is is).4;
-        reads_are = c.of.ensures.counts.reads ∙ ap (λ (es : List Entry). reads (past es)) c.deref-12.ensures.value;
+        counts_are = legal.3;
+        apart_are = legal.4;
+        little = λ one none. omega (arith, legal.5 one legal.1 none, legal.4, reads_same);
+        reads_are = reads_same;
       };
     }
