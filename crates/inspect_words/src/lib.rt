@@ -14,8 +14,6 @@ mod command;
 mod places;
 mod reading;
 mod refused;
-#[cfg(test)]
-mod tests;
 
 pub use asked::Asked;
 pub use command_words::Request;

@@ -1,6 +1,7 @@
-// The words of the manual, and words on the edges of its rules.
-use crate::{Asked, asked_of};
+// The words of coop_inspect: those of its manual, and words on the edges of its rules.
+use crate::words::words_of;
 use command_words::{Layout, PolicyName, Request};
+use inspect_words::{Asked, asked_of};
 use std::alloc::Global;
 use std::test::Fail;
 
@@ -63,15 +64,6 @@ const REFUSED: &[(&str, u8, &str)] = &[
     ("explain|gen:x|b", 2, "'gen:x'"),
     ("draw", 2, "<OUTPUT>"),
 ];
-
-// The words of a line, which stand between bars.
-fn words_of(alloc: Global, line: &str) -> Result<Vec<String>, Fail> {
-    let mut words = Vec::new(alloc);
-    for word in line.split('|') {
-        words.push(String::from_str(alloc, word)?)?;
-    }
-    Ok(words)
-}
 
 #[test]
 fn words_ask_for_what_the_manual_says(rt: HostRuntime) -> Result<(), Fail> {
