@@ -25,10 +25,6 @@ mod marks;
 mod rect;
 mod scale;
 mod shape;
-#[cfg(test)]
-mod smallest_picture;
-#[cfg(test)]
-mod tests;
 mod trace;
 
 pub use bar::{Bar, Ended};

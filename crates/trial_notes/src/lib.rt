@@ -1,4 +1,5 @@
-//! Trials of what is told of a table and of a batch before it runs: the lines of profiles, and those of notes.
+//! Trials of what is told of a table and of a batch before it runs, the lines of profiles and those of notes; and of the
+//! picture of a story.
 //!
 //! All of it is tests. docs/INSPECT.md tells the form of the lines.
 #![tactic(auto)]
@@ -8,4 +9,8 @@ mod loading;
 #[cfg(test)]
 mod notes;
 #[cfg(test)]
+mod pictures;
+#[cfg(test)]
 mod profiles;
+#[cfg(test)]
+mod smallest_picture;
