@@ -1,28 +1,29 @@
 //! Trials of the desk: its calls made as a story asks, and at random, with everything that it answers written down.
 //!
-//! `docs/MANAGER.md` tells the rules.
+//! All of it is tests. `docs/MANAGER.md` tells the rules.
 #![tactic(auto)]
-
-mod calls;
-mod next;
-mod out;
-mod reading;
-mod rig;
-mod said;
-mod script;
-mod seat;
-mod walks;
-
-pub use calls::{Call, answers};
-pub use said::Said;
-pub use script::play;
-pub use walks::{Walked, walk};
 
 #[cfg(test)]
 mod bound;
 #[cfg(test)]
+mod calls;
+#[cfg(test)]
 mod expected;
 #[cfg(test)]
+mod next;
+mod out;
+#[cfg(test)]
+mod reading;
+#[cfg(test)]
+mod rig;
+#[cfg(test)]
+mod said;
+#[cfg(test)]
+mod script;
+mod seat;
+#[cfg(test)]
 mod tests;
+#[cfg(test)]
+mod walks;
 #[cfg(test)]
 mod worked;
