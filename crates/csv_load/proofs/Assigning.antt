@@ -2,15 +2,17 @@
 use Rattle.std.proofs.Common.{◌≡◌, ◌≢◌, ◌∙◌, ◌+◌, ◌-◌, ◌<◌, ℕ, List, [], ◌∷◌, arith, refl, sym, ap, length, get_or, inl, inr, map, true, false, get_or-set_other, get_or-set_same, length-set, set}
 use Rattle.std.specs.Prelude.{All, Contains, Option, Some, None, IfSome, is_some, replicate}
 use Rattle.std.specs.List.Sorted.{IsSorted}
-use Rattle.std.specs.Ordering.{nat_cmp, ordering_then, is_gt}
+use Rattle.std.specs.Ordering.{is_gt}
 use Rattle.std.proofs.lemmas.Grind.{get_or_default_zero}
 use Rattle.std.proofs.lemmas.Bool.{cases_lt, cases_eq}
 use Rattle.std.proofs.lemmas.List.{get_or-map, get_or_append_left, ext_get_or, get_or-replicate, length-replicate, get_or_past, length-map, length-append}
-use Rattle.std.proofs.lemmas.List.Elements.{All-nil, All-push, Contains-get_or, All-from_get_or}
+use Rattle.std.proofs.lemmas.List.Elements.{All-nil, All-push, Contains-get_or, All-from_get_or, All-get_or}
 use Rattle.table_core.specs.Dict.{text_cmp, Rises, Added}
-use Rattle.csv_load.specs.Ranks.{stands_for, IsRanked, Keyed}
-use Rattle.table_core.proofs.Rising.{not_above, rises-none}
-use Rattle.csv_load.proofs.Keys.{Key}
+use Rattle.csv_load.specs.Fronts.{IsFront}
+use Rattle.csv_load.specs.Ranks.{stands_for, IsRanked, Key, Keyed, key_cmp}
+use Rattle.table_core.proofs.Rising.{rises-none}
+use Rattle.csv_load.proofs.Fronts.{not-above}
+use Rattle.csv_load.proofs.Keys.{HasFront}
 
 abbrev pub HasCode : List (List ℕ) → List ℕ → ℕ → Type 0
 HasCode dict t c = (c < length dict) × (get_or dict c [] ≡ t)
@@ -89,7 +91,7 @@ stands dict (x ∷ t) None has some = let no : false ≡ true = some (λ (e : x 
 stands dict t (Some c) has some = has.1
 
 pub assigned-end : (names : List (List ℕ)) (order : List Key) (dict : List (List ℕ)) (codes : List (Option ℕ))
-    → Assigned names (map (λ p. p.0.now) order) (map (λ p. p.1) order) (length order) dict codes → Keyed names (length names) order → IsRanked names dict codes
+    → Assigned names (map (λ p. p.1.now) order) (map (λ p. p.2) order) (length order) dict codes → Keyed names (length names) order → IsRanked names dict codes
 assigned-end names order dict codes is keyed = record {
   rises = is.rises;
   codes_stand = ext_get_or [] (map (stands_for dict) codes) names (length-map codes (stands_for dict) ∙ is.room) (λ k low.
@@ -98,8 +100,8 @@ assigned-end names order dict codes is keyed = record {
       get_or-map (stands_for dict) codes k None [] inside ∙ stands dict (get_or names k []) (get_or codes k None) (is.good k below)
       (λ (some : get_or names k [] ≢ []).
       (let found = keyed.all k below some in
-      let there : found.0 < length order = omega (arith, found.1, length-map order (λ (p : Key). p.1)) in
-      let row : get_or (map (λ (p : Key). p.1) order) found.0 0 ≡ k = sym (get_or_default_zero (map (λ (p : Key). p.1) order) found.0 k found.1) ∙ found.2 in
+      let there : found.0 < length order = omega (arith, found.1, length-map order (λ (p : Key). p.2)) in
+      let row : get_or (map (λ (p : Key). p.2) order) found.0 0 ≡ k = sym (get_or_default_zero (map (λ (p : Key). p.2) order) found.0 k found.1) ∙ found.2 in
       rw row at (is.done found.0 there))));
   in_range = All-from_get_or (λ (o : Option ℕ). IfSome o (λ c. c < length dict)) codes None (λ i low.
       lift (get_or codes i None) (λ (c : ℕ) (h : HasCode dict (get_or names i []) c). h.0) (is.good i (omega (arith, is.room))));
@@ -107,15 +109,15 @@ assigned-end names order dict codes is keyed = record {
   named = is.named;
 }
 
-pub may_add : (order : List Key) (place : ℕ) (d : Key) (dict : List (List ℕ)) → IsSorted (λ p q. ordering_then (text_cmp p.0.now q.0.now) (nat_cmp p.1 q.1)) order
-    → place < length order → (0 < place) × (get_or dict (length dict - 1) [] ≡ get_or (map (λ p. p.0.now) order) (place - 1) [])
-    → is_gt (text_cmp (get_or dict (length dict - 1) []) (get_or order place d).0.now) ≡ false
-may_add order place d dict sorted inside last =
+pub may_add : (order : List Key) (place : ℕ) (d : Key) (dict : List (List ℕ)) → IsSorted key_cmp order → All (λ p. IsFront p.1.now p.0) order
+    → place < length order → (0 < place) × (get_or dict (length dict - 1) [] ≡ get_or (map (λ p. p.1.now) order) (place - 1) [])
+    → is_gt (text_cmp (get_or dict (length dict - 1) []) (get_or order place d).1.now) ≡ false
+may_add order place d dict sorted fronts inside last =
     let next : place - 1 + 1 ≡ place = omega (arith, last.0) in
     let before : place - 1 < length order = omega (arith, last.0) in
     let h = rw next at (sorted (place - 1) d (omega arith) (omega (arith, last.0))) in
-    rw (last.1, get_or-map (λ (p : Key). p.0.now) order (place - 1) d [] before)
-    (not_above (get_or order (place - 1) d).0.now (get_or order place d).0.now (nat_cmp (get_or order place d).1 (get_or order (place - 1) d).1) h)
+    rw (last.1, get_or-map (λ (p : Key). p.1.now) order (place - 1) d [] before)
+    (not-above (get_or order (place - 1) d) (get_or order place d) (All-get_or HasFront order (place - 1) d before fronts) (All-get_or HasFront order place d inside fronts) h)
 
 pub no_code : (n k : ℕ) → get_or {A = Option ℕ} (replicate n None) k None ≡ None
 no_code n k = elim (cases_lt k n) [

@@ -5,6 +5,7 @@ pub mod Sounds
 pub mod Left
 pub mod Judging
 pub mod Few
+pub mod Fronts
 pub mod Holding
 pub mod Numerals
 pub mod Assigning

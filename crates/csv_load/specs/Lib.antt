@@ -1,4 +1,5 @@
 pub mod Finished
+pub mod Fronts
 pub mod Gathered
 pub mod Loaded
 pub mod Meaning

@@ -1,7 +1,10 @@
 -- The dictionary of a list of names, and the code of each name in it.
 use Rattle.std.specs.Prelude.{◌≡◌, ◌≢◌, ◌<◌, ℕ, List, [], length, map, slice_index_or, All, Contains, Option, Some, None, IfSome}
 use Rattle.std.specs.Borrow.{Bor}
-use Rattle.table_core.specs.Dict.{Rises}
+use Rattle.std.specs.Ordering.{nat_cmp, ordering_then}
+use Rattle.std.specs.declared.cmp.Ordering.{Ordering}
+use Rattle.csv_load.specs.Fronts.{IsFront}
+use Rattle.table_core.specs.Dict.{Rises, text_cmp}
 
 -- the text that a code stands for; no code stands for the empty text
 abbrev pub stands_for : List (List ℕ) → Option ℕ → List ℕ
@@ -16,7 +19,16 @@ pub record IsRanked (names : List (List ℕ)) (dict : List (List ℕ)) (codes : 
   pub filled : All (λ t. t ≢ []) dict
   pub named : All (Contains names) dict
 
--- the names up to a place that aren't empty, each with its place
-pub record Keyed (names : List (List ℕ)) (end : ℕ) (order : List (Bor (List ℕ) × ℕ)) : Type 0 where
-  pub true_name : All (λ p. (p.1 < length names) × (p.0.now ≡ slice_index_or names p.1 []) × (p.0.now ≢ [])) order
-  pub all : (k : ℕ) → k < end → slice_index_or names k [] ≢ [] → Contains (map (λ p. p.1) order) k
+-- a name that isn't empty, with its front and its place
+abbrev pub Key : Type 0
+Key = ℕ × Bor (List ℕ) × ℕ
+
+-- how two names stand, by their fronts first, and two equal ones by their places
+abbrev pub key_cmp : Key → Key → Ordering
+key_cmp p q = ordering_then (ordering_then (nat_cmp p.0 q.0) (text_cmp p.1.now q.1.now)) (nat_cmp p.2 q.2)
+
+-- the names up to a place that aren't empty, each with its front and its place
+pub record Keyed (names : List (List ℕ)) (end : ℕ) (order : List Key) : Type 0 where
+  pub fronts : All (λ p. IsFront p.1.now p.0) order
+  pub true_name : All (λ p. (p.2 < length names) × (p.1.now ≡ slice_index_or names p.2 []) × (p.1.now ≢ [])) order
+  pub all : (k : ℕ) → k < end → slice_index_or names k [] ≢ [] → Contains (map (λ p. p.2) order) k

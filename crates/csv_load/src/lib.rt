@@ -14,6 +14,7 @@
 
 mod data_row;
 mod fields;
+mod front;
 mod gathered;
 mod header;
 mod kind;

@@ -1,10 +1,9 @@
 // The dictionary of a list of names, and the code of each name, by a sort.
 ghost use Rattle.std.specs.Prelude.{◌≡◌, IfOk, None, length, replicate};
 ghost use Rattle.std.specs.List.Sorted.{IsSorted};
-ghost use Rattle.std.specs.Ordering.{nat_cmp, ordering_then};
-ghost use Rattle.table_core.specs.Dict.{text_cmp};
-ghost use Rattle.csv_load.specs.Ranks.{IsRanked, Keyed};
+ghost use Rattle.csv_load.specs.Ranks.{IsRanked, Keyed, key_cmp};
 
+use crate::front::front;
 use std::alloc::{AllocError, Global};
 use table_core::{Dict, Texts};
 
@@ -15,8 +14,11 @@ pub struct Ranked {
     pub codes: Vec<Option<u32>>,
 }
 
-// The names that aren't empty, each with its place.
-fn keyed<'a>(alloc: Global, names: &'a Texts) -> Result<Vec<(&'a [u8], u32)>, AllocError>
+// A name with its front and its place. The fronts decide the order of most names without a look at their bytes.
+type Key<'a> = (u128, &'a [u8], u32);
+
+// The names that aren't empty, each with its front and its place.
+fn keyed<'a>(alloc: Global, names: &'a Texts) -> Result<Vec<Key<'a>>, AllocError>
     ensures { IfOk result (λ v. Keyed names.now (length names.now) v.items) }
 {
     let mut order = Vec::with_capacity(alloc, names.len())?;
@@ -28,7 +30,7 @@ fn keyed<'a>(alloc: Global, names: &'a Texts) -> Result<Vec<(&'a [u8], u32)>, Al
         if place > u32::MAX as usize {
             return Err(AllocError);
         }
-        order.push((text, place as u32))?;
+        order.push((front(text), text, place as u32))?;
     }
     Ok(order)
 }
@@ -40,15 +42,15 @@ fn no_codes(alloc: Global, count: usize) -> Result<Vec<Option<u32>>, AllocError>
 }
 
 // The texts in order, each once, and the code of each name.
-fn assigned(alloc: Global, names: &Texts, order: &[(&[u8], u32)]) -> Result<Ranked, AllocError>
+fn assigned(alloc: Global, names: &Texts, order: &[Key<'_>]) -> Result<Ranked, AllocError>
     requires keyed { Keyed names.now (length names.now) order.now }
-    requires sorted { IsSorted (λ p q. ordering_then (text_cmp p.0.now q.0.now) (nat_cmp p.1 q.1)) order.now }
+    requires sorted { IsSorted key_cmp order.now }
     ensures { IfOk result (λ r. IsRanked names.now r.dict r.codes.items) }
 {
     let mut dict = Dict::new(alloc);
     let mut codes = no_codes(alloc, names.len())?;
     for place in 0..order.len() {
-        let (text, row) = order[place];
+        let (_front, text, row) = order[place];
         let code = dict.push(text)?;
         codes[row as usize] = Some(code);
     }

@@ -8,5 +8,5 @@ loop-place-init c = rw c.in_ok-order.ensures.items (keyed-none c.args.names.now)
 pub loop-place-preserved : goal.loop-place-preserved
 loop-place-preserved c =
     rw c.in_ok-push.ensures.items
-    (keyed-push c.args.names.now c.loop-place.place c.loop-place.order.items (c.get-text.result, c.loop-place.place) c.loop-place.invariant
+    (keyed-push c.args.names.now c.loop-place.place c.loop-place.order.items (c.front.result, c.get-text.result, c.loop-place.place) c.loop-place.invariant c.front.ensures
     (omega (arith, c.len-place-end.ensures)) c.get-text.ensures (λ e. omega (arith, e)) refl)
