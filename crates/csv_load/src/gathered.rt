@@ -4,6 +4,7 @@ ghost use Rattle.csv_load.specs.Gathered.{IsPut};
 ghost use Rattle.csv_load.specs.Seen.{AreSound};
 ghost use Rattle.csv_load.specs.Judged.{Fields};
 
+use crate::recent::{Recent, mark_of};
 use crate::seeded::Seeded;
 use std::alloc::{AllocError, Global};
 use std::collections::HashMap;
@@ -13,6 +14,19 @@ use table_core::{Cell, Texts};
 // How many texts of a column are looked up. Once there are more, each is kept as it comes, and a sort finds the equal
 // ones.
 const MOST_SEEN: usize = 32768;
+
+// The place of a text among these, where it is the one that was guessed.
+fn place_guessed(texts: &Texts, guess: usize, field: &[u8]) -> Option<u32>
+    ensures { IfSome result (λ c. (c < length texts.now) × (slice_index_or texts.now c [] ≡ field.now)) }
+{
+    if guess >= texts.len() || guess > u32::MAX as usize {
+        return None;
+    }
+    if texts.get(guess) == field {
+        return Some(guess as u32);
+    }
+    None
+}
 
 // The place of a text among the first `count` texts, where it was remembered and they aren't too many.
 fn place_seen(seen: &HashMap<Vec<u8>, u32, Seeded>, field: &[u8], count: usize) -> Option<u32>
@@ -54,6 +68,7 @@ pub(crate) struct Gathered {
     alloc: Global,
     texts: Texts,
     seen: HashMap<Vec<u8>, u32, Seeded>,
+    recent: Recent,
 }
 
 impl Model for Gathered {
@@ -66,14 +81,24 @@ impl Model for Gathered {
 
 impl Gathered {
     // Without texts. The hash is the look-up's.
-    pub(crate) fn new(alloc: Global, hash: Seeded) -> Self
-        ensures { result ≡ [] }
+    pub(crate) fn new(alloc: Global, hash: Seeded) -> Result<Self, AllocError>
+        ensures { IfOk result (λ column. column ≡ []) }
     {
-        Gathered {
+        Ok(Gathered {
             alloc,
             texts: Texts::new(alloc),
             seen: HashMap::with_hasher(alloc, hash),
+            recent: Recent::new(alloc)?,
+        })
+    }
+
+    // Where a text of this mark may stand. Among many texts only the last one is worth a look.
+    fn guess(&self, mark: usize) -> usize {
+        let count = self.texts.len();
+        if count > MOST_SEEN {
+            return count - 1;
         }
+        self.recent.guess(mark) as usize
     }
 
     // The texts themselves. The look-up is let go.
@@ -91,8 +116,13 @@ impl Gathered {
         if field.len() == 0 {
             return Ok(Cell::Null);
         }
+        let mark = mark_of(field);
+        if let Some(known) = place_guessed(&self.texts, self.guess(mark), field) {
+            return Ok(Cell::Code(known));
+        }
         let place = self.texts.len();
         if let Some(known) = place_seen(&self.seen, field, place) {
+            self.recent.note(mark, known);
             return Ok(Cell::Code(known));
         }
         if place >= u32::MAX as usize {
@@ -100,6 +130,7 @@ impl Gathered {
         }
         self.texts.push(field)?;
         remember(self.alloc, &mut self.seen, field, place as u32)?;
+        self.recent.note(mark, place as u32);
         Ok(Cell::Code(place as u32))
     }
 }

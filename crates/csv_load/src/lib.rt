@@ -24,6 +24,7 @@ mod memory;
 mod number;
 mod rank;
 mod reading;
+mod recent;
 mod refusal;
 mod rows;
 mod seeded;

@@ -44,7 +44,7 @@ fn no_columns(alloc: Global, hash: Seeded, width: usize) -> Result<Vec<Gathered>
 {
     let mut columns = Vec::new(alloc);
     for _place in 0..width {
-        columns.push(Gathered::new(alloc, hash))?;
+        columns.push(Gathered::new(alloc, hash)?)?;
     }
     Ok(columns)
 }
