@@ -23,6 +23,8 @@ mod pieces;
 #[cfg(test)]
 mod putting;
 #[cfg(test)]
+mod ranking;
+#[cfg(test)]
 mod reading_back;
 #[cfg(test)]
 mod shapes;

@@ -11,7 +11,7 @@ use table_core::{Cell, Kind, MOST_ROWS, Table};
 const MOST_TEXT_BYTES: usize = 268435456;
 
 // A text and the cells of its table, row by row.
-type Read<'a> = (&'a [u8], &'a [Cell]);
+pub(crate) type Read<'a> = (&'a [u8], &'a [Cell]);
 
 const CELLS: &[Read<'static>] = &[
     (
@@ -80,7 +80,7 @@ fn has_cells(rt: &(impl Abort + RandomSource), alloc: Global, text: &[u8], cells
     }
 }
 
-fn expect_cells(rt: &(impl Abort + RandomSource), alloc: Global, rows: &[Read<'_>]) {
+pub(crate) fn expect_cells(rt: &(impl Abort + RandomSource), alloc: Global, rows: &[Read<'_>]) {
     for (text, cells) in rows {
         assert!(rt; has_cells(rt, alloc, text, cells), "{text:?}");
     }
