@@ -9,13 +9,13 @@ use Rattle.std.proofs.Math.Nat.{mul-div_left, mul-le-mul_right}
 use Rattle.std.proofs.lemmas.List.{get_or-map, length-map, ext_get_or, length-take-le, length-drop, get_or-take, get_or-drop}
 use Rattle.std.proofs.lemmas.List.Elements.{All-nil, All-cons, All-head, All-tail, All-from_get_or, All-get_or}
 use Rattle.csv_load.specs.Kinds.{is_of, kind_of, value_as}
-use Rattle.csv_load.proofs.Holding.{same-kind, holds}
+use Rattle.csv_load.proofs.Holding.{holds}
 use Rattle.csv_load.specs.Judged.{Fields, refusal_of}
 use Rattle.table_core.specs.Fitting.{FitsRow, kind_at}
 use Rattle.table_core.specs.declared.limits.TheConstants.{MOST_COLUMNS, MOST_ROWS}
-use Rattle.csv_load.proofs.Finishing.{column-dict, column-same, get_or-column_at, get_or-columns_from, get_or-zip_with, length-column_at, length-columns_from, length-zip_with, zip-get, zip-length}
+use Rattle.csv_load.proofs.Finishing.{column-dict, column-kind, column-same, settled-at, get_or-column_at, get_or-columns_from, get_or-zip_with, length-column_at, length-columns_from, length-zip_with, zip-get, zip-length}
 use Rattle.csv_load.specs.Finished.{column_with, columns_with}
-use Rattle.csv_load.specs.Gathered.{AreRead, IsCell}
+use Rattle.csv_load.specs.Gathered.{AreSettled, IsCell}
 use Rattle.csv_load.specs.Loaded.{IsLoaded}
 use Rattle.csv_load.specs.Meaning.{IsColumnDict, column_at, columns_from, row_of}
 use Rattle.csv_load.specs.Reading.{IsRead}
@@ -77,14 +77,14 @@ columns-few names columns typed schema table all s t = rw (t, s) (with-few names
 
 -- the kind that was found is that of the column's fields
 found-kind : (rows : List Fields) (width : ℕ) (columns : List Fields) (old : List Cell) (typed : List Typed) (d : Typed) (k : ℕ)
-    → AreRead rows width columns old → AllZip IsTyped columns typed → k < width → (get_or typed k d).kind ≡ kind_of (column_at k rows)
+    → AreSettled rows width columns old → AllZip IsTyped columns typed → k < width → (get_or typed k d).kind ≡ kind_of (column_at k rows)
 found-kind rows width columns old typed d k read all inside =
-    let here : k < length columns = omega (arith, inside, read.width_is) in
-    (zip-get IsTyped columns typed k [] d all here).kind_is ∙ sym (same-kind (column_at k rows) (get_or columns k []) (column-same rows width columns old k read inside))
+    let here : k < length columns = omega (arith, inside, read.read.width_is) in
+    (zip-get IsTyped columns typed k [] d all here).kind_is ∙ sym (column-kind rows width columns old k read inside)
 
 -- each field is what its column holds
 field-held : (rows : List Fields) (width : ℕ) (columns : List Fields) (old : List Cell) (typed : List Typed) (d : Typed) (r k : ℕ)
-    → AreRead rows width columns old → AllZip IsTyped columns typed → r < length rows → k < width
+    → AreSettled rows width columns old → AllZip IsTyped columns typed → r < length rows → k < width
     → is_of (get_or typed k d).kind (get_or (get_or rows r []) k []) ≡ true
 field-held rows width columns old typed d r k read all low inside =
     let fields = column_at k rows in
@@ -94,15 +94,15 @@ field-held rows width columns old typed d r k read all low inside =
 
 -- each cell is what its field is worth
 cell-is : (rows : List Fields) (width : ℕ) (columns : List Fields) (old cells : List Cell) (typed : List Typed) (d : Typed) (r k : ℕ)
-    → AreRead rows width columns old → AllZip IsTyped columns typed → AreFinished typed old cells → r < length rows → k < width
+    → AreSettled rows width columns old → AllZip IsTyped columns typed → AreFinished typed old cells → r < length rows → k < width
     → IsCell (get_or typed k d).kind (get_or typed k d).dict (get_or (get_or rows r []) k []) (get_or cells (r * width + k) Null)
 cell-is rows width columns old cells typed d r k read all finished low inside =
-    let here : k < length columns = omega (arith, inside, read.width_is) in
-    let n : length typed ≡ width = zip-length IsTyped columns typed all ∙ read.width_is in
-    let place : r * width + k < length old = omega (arith, mul-add-lt r width k (length rows) low inside, read.size) in
+    let here : k < length columns = omega (arith, inside, read.read.width_is) in
+    let n : length typed ≡ width = zip-length IsTyped columns typed all ∙ read.read.width_is in
+    let place : r * width + k < length old = omega (arith, mul-add-lt r width k (length rows) low inside, read.read.size) in
     let column : (r * width + k) % length typed ≡ k = rw n (mod-mul-add r width k inside) in
     let done : IsFinished (get_or typed k d) (get_or old (r * width + k) Null) (get_or cells (r * width + k) Null) = rw column at (finished (r * width + k) d place) in
-    done (get_or columns k []) (get_or (get_or rows r []) k []) (zip-get IsTyped columns typed k [] d all here) (read.stands r k low inside)
+    done (get_or columns k []) (get_or (get_or rows r []) k []) (zip-get IsTyped columns typed k [] d all here) (settled-at rows width columns old r k read low inside) (read.read.stands r k low inside)
     (field-held rows width columns old typed d r k read all low inside)
 
 -- the columns
@@ -117,9 +117,9 @@ no_column : Column
 no_column = record { name = []; kind = kinds.Int }
 
 columns-are : (names : Fields) (rows columns : List Fields) (old : List Cell) (typed : List Typed) (d : Typed)
-    → AreRead rows (length names) columns old → AllZip IsTyped columns typed → columns_with names typed ≡ columns_from 0 names rows
+    → AreSettled rows (length names) columns old → AllZip IsTyped columns typed → columns_with names typed ≡ columns_from 0 names rows
 columns-are names rows columns old typed d read all =
-    let n : length names ≡ length typed = omega (arith, read.width_is, zip-length IsTyped columns typed all) in
+    let n : length names ≡ length typed = omega (arith, read.read.width_is, zip-length IsTyped columns typed all) in
     let wide = length-with names typed n in
     ext_get_or no_column (columns_with names typed) (columns_from 0 names rows) (wide ∙ sym (length-columns_from 0 names rows)) (λ k low.
     let inside : k < length names = omega (arith, low, wide) in
@@ -136,16 +136,16 @@ dict-at typed k d low = get_or-map (λ (column : Typed). column.dict) typed k d 
 
 -- a row stands for the row's values
 values-are : (names : Fields) (rows columns : List Fields) (old cells : List Cell) (typed : List Typed) (d : Typed) (r : ℕ) (row : List Cell)
-    → AreRead rows (length names) columns old → AllZip IsTyped columns typed → AreFinished typed old cells → r < length rows → length row ≡ length names
+    → AreSettled rows (length names) columns old → AllZip IsTyped columns typed → AreFinished typed old cells → r < length rows → length row ≡ length names
     → ((k : ℕ) → k < length names → get_or row k Null ≡ get_or cells (r * length names + k) Null)
     → row_values (map (λ column. column.dict) typed) row ≡ row_of (columns_with names typed) (get_or rows r [])
 values-are names rows columns old cells typed d r row read all finished low wide same =
     let dicts = map (λ (column : Typed). column.dict) typed in
     let fields = get_or rows r [] in
-    let n : length names ≡ length typed = omega (arith, read.width_is, zip-length IsTyped columns typed all) in
+    let n : length names ≡ length typed = omega (arith, read.read.width_is, zip-length IsTyped columns typed all) in
     let dict_count : length dicts ≡ length names = length-map typed (λ (column : Typed). column.dict) ∙ sym n in
     let columns_count = length-with names typed n in
-    let fields_count : length fields ≡ length names = All-get_or (λ (f : Fields). length f ≡ length names) rows r [] low read.widths in
+    let fields_count : length fields ≡ length names = All-get_or (λ (f : Fields). length f ≡ length names) rows r [] low read.read.widths in
     let left_count : length (row_values dicts row) ≡ length names = length-zip_with value_in dicts row (dict_count ∙ sym wide) ∙ dict_count in
     let worth = λ (column : Column) (field : List ℕ). value_as column.kind field in
     let right_count : length (row_of (columns_with names typed) fields) ≡ length names =
@@ -162,11 +162,11 @@ values-are names rows columns old cells typed d r row read all finished low wide
 
 -- a row has the cells that its columns may have
 row-fits : (names : Fields) (rows columns : List Fields) (old cells : List Cell) (typed : List Typed) (d : Typed) (r : ℕ) (row : List Cell)
-    → AreRead rows (length names) columns old → AllZip IsTyped columns typed → AreFinished typed old cells → r < length rows → length row ≡ length names
+    → AreSettled rows (length names) columns old → AllZip IsTyped columns typed → AreFinished typed old cells → r < length rows → length row ≡ length names
     → ((k : ℕ) → k < length names → get_or row k Null ≡ get_or cells (r * length names + k) Null)
     → FitsRow (columns_with names typed) (map (λ column. column.dict) typed) row
 row-fits names rows columns old cells typed d r row read all finished low wide same =
-    let n : length names ≡ length typed = omega (arith, read.width_is, zip-length IsTyped columns typed all) in
+    let n : length names ≡ length typed = omega (arith, read.read.width_is, zip-length IsTyped columns typed all) in
     let columns_count = length-with names typed n in
     record {
       width = wide ∙ sym columns_count;
@@ -177,13 +177,13 @@ row-fits names rows columns old cells typed d r row read all finished low wide s
     }
 
 dict-is : (names : Fields) (rows columns : List Fields) (old : List Cell) (typed : List Typed) (d : Typed) (k : ℕ)
-    → AreRead rows (length names) columns old → AllZip IsTyped columns typed → k < length names
+    → AreSettled rows (length names) columns old → AllZip IsTyped columns typed → k < length names
     → IsColumnDict (kind_at (columns_with names typed) k) (column_at k rows) (get_or (map (λ column. column.dict) typed) k [])
 dict-is names rows columns old typed d k read all inside =
-    let n : length names ≡ length typed = omega (arith, read.width_is, zip-length IsTyped columns typed all) in
-    let here : k < length columns = omega (arith, inside, read.width_is) in
+    let n : length names ≡ length typed = omega (arith, read.read.width_is, zip-length IsTyped columns typed all) in
+    let here : k < length columns = omega (arith, inside, read.read.width_is) in
     rw (kind-found names typed k d n inside, dict-at typed k d (omega (arith, inside, n)))
-    (column-dict (column_at k rows) (get_or columns k []) (get_or typed k d) (column-same rows (length names) columns old k read inside) (read.named k inside)
+    (column-dict (column_at k rows) (get_or columns k []) (get_or typed k d) (λ some. column-same rows (length names) columns old k read some inside) (read.read.named k inside)
     (zip-get IsTyped columns typed k [] d all here))
 
 -- a header that isn't refused has few names
@@ -195,14 +195,14 @@ few-names names rows accepted = elim (cases_Bool (nat_lt MOST_COLUMNS (length na
 
 loaded-with : (names : Fields) (rows columns : List Fields) (old cells : List Cell) (typed : List Typed) (d : Typed)
     → refusal_of (names ∷ rows) ≡ None → 0 < length names → length rows ≤ MOST_ROWS
-    → AreRead rows (length names) columns old → AllZip IsTyped columns typed → length cells ≡ length old → AreFinished typed old cells
+    → AreSettled rows (length names) columns old → AllZip IsTyped columns typed → length cells ≡ length old → AreFinished typed old cells
     → IsLoaded (names ∷ rows) (record { columns = columns_with names typed; rows = rows_of (length (columns_with names typed)) cells }) (map (λ column. column.dict) typed)
 loaded-with names rows columns old cells typed d accepted some few read all same_size finished =
     let dicts = map (λ (column : Typed). column.dict) typed in
     let width = length names in
-    let n : width ≡ length typed = omega (arith, read.width_is, zip-length IsTyped columns typed all) in
+    let n : width ≡ length typed = omega (arith, read.read.width_is, zip-length IsTyped columns typed all) in
     let columns_count = length-with names typed n in
-    let size : length cells ≡ length rows * width = same_size ∙ read.size in
+    let size : length cells ≡ length rows * width = same_size ∙ read.read.size in
     let count = row-count width (length rows) cells some size in
     let equal = columns-are names rows columns old typed d read all in
     record {
@@ -228,9 +228,9 @@ loaded-with names rows columns old cells typed d accepted some few read all same
 
 loaded-some : (names : Fields) (rows columns : List Fields) (old cells : List Cell) (typed : List Typed)
     → refusal_of (names ∷ rows) ≡ None → 0 < length names → length rows ≤ MOST_ROWS
-    → AreRead rows (length names) columns old → AllZip IsTyped columns typed → length cells ≡ length old → AreFinished typed old cells
+    → AreSettled rows (length names) columns old → AllZip IsTyped columns typed → length cells ≡ length old → AreFinished typed old cells
     → IsLoaded (names ∷ rows) (record { columns = columns_with names typed; rows = rows_of (length (columns_with names typed)) cells }) (map (λ column. column.dict) typed)
-loaded-some names rows columns old cells [] accepted some few read all size finished = absurd (omega (arith, some, read.width_is, zip-length IsTyped columns [] all))
+loaded-some names rows columns old cells [] accepted some few read all size finished = absurd (omega (arith, some, read.read.width_is, zip-length IsTyped columns [] all))
 loaded-some names rows columns old cells (d ∷ ds) accepted some few read all size finished =
     loaded-with names rows columns old cells (d ∷ ds) d accepted some few read all size finished
 
@@ -252,11 +252,11 @@ loaded records names columns old cells typed schema table dicts read all size fi
 -- there is a typed column for each name
 pub typed-count : (records : List Fields) (names : Fields) (columns : List Fields) (old : List Cell) (typed : List Typed)
     → IsRead records names columns old → AllZip IsTyped columns typed → length typed ≡ length names
-typed-count records names columns old typed read all = zip-length IsTyped columns typed all ∙ read.read.width_is
+typed-count records names columns old typed read all = zip-length IsTyped columns typed all ∙ read.read.read.width_is
 
 -- the finished cells are whole rows
 pub table-whole : (records : List Fields) (names : Fields) (columns : List Fields) (old cells : List Cell) (typed : List Typed) (schema : List Column)
     → IsRead records names columns old → AllZip IsTyped columns typed → length cells ≡ length old → schema ≡ columns_with names typed → AreWholeRows (length schema) cells
 table-whole records names columns old cells typed schema read all size s =
     rw (s, length-with names typed (sym (typed-count records names columns old typed read all)))
-    (whole-rows (length names) (length read.rows) cells read.some_names (size ∙ read.read.size))
+    (whole-rows (length names) (length read.rows) cells read.some_names (size ∙ read.read.read.size))

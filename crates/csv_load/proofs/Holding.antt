@@ -15,7 +15,7 @@ use Rattle.table_core.specs.declared.schema.Kind.{Kind}
 use Rattle.table_core.specs.declared.schema.Kind.TheVariants.{Int, Text, Dec}
 use Rattle.table_core.specs.Value.{none, number, places_of}
 
-times-one : (z : ℤ) → z *ℤ pos 1 ≡ z
+pub times-one : (z : ℤ) → z *ℤ pos 1 ≡ z
 unfolding one
 times-one z = *ℤ-one z
 
@@ -67,7 +67,7 @@ to-all p (y ∷ ys) all =
 all-of : (p : List ℕ → Bool) (xs : List (List ℕ)) (x : List ℕ) → list_all p xs ≡ true → Contains xs x → p x ≡ true
 all-of p xs x all found = All-contains (λ (x : List ℕ). p x ≡ true) xs x (to-all p xs all) found
 
-from-all : (p : List ℕ → Bool) (xs : List (List ℕ)) → All (λ x. p x ≡ true) xs → list_all p xs ≡ true
+pub from-all : (p : List ℕ → Bool) (xs : List (List ℕ)) → All (λ x. p x ≡ true) xs → list_all p xs ≡ true
 from-all p [] all = refl
 from-all p (y ∷ ys) all = rw (All-head (λ x. p x ≡ true) y ys all) (from-all p ys (All-tail (λ x. p x ≡ true) y ys all))
 

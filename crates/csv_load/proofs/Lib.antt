@@ -1,7 +1,9 @@
 pub mod Assembled
 pub mod Finishing
 pub mod Rowwise
+pub mod Settles
 pub mod Sounds
+pub mod Spelled
 pub mod Left
 pub mod Judging
 pub mod Few

@@ -8,7 +8,7 @@ use Rattle.std.proofs.lemmas.List.Elements.{All-nil, All-push, All-weaker, Conta
 use Rattle.std.proofs.Math.Seq.{get_or-append_seam}
 use Rattle.csv_load.specs.Judged.{Fields, refusal_of}
 use Rattle.table_core.specs.declared.limits.TheConstants.{MOST_ROWS}
-use Rattle.csv_load.specs.Gathered.{AreRead, IsPut, RowPut, Stands}
+use Rattle.csv_load.specs.Gathered.{AreRead, AreSettled, IsPut, IsSettling, RowPut, Stands}
 use Rattle.csv_load.specs.Meaning.{column_at}
 use Rattle.csv_load.specs.Reading.{IsRead}
 use Rattle.table_core.specs.declared.cell.Cell.{Cell}
@@ -38,7 +38,7 @@ so_far-none records names columns cells left width e w none empty = record {
 }
 
 -- what was put stays where it stands
-stands-grown : (old new : Fields) (field : List ℕ) (cell : Cell) (f : List ℕ) → ((new ≡ old) ⊎ ((new ≡ old ++ field ∷ []) × (field ≢ []))) → Stands old cell f → Stands new cell f
+pub stands-grown : (old new : Fields) (field : List ℕ) (cell : Cell) (f : List ℕ) → ((new ≡ old) ⊎ ((new ≡ old ++ field ∷ []) × (field ≢ []))) → Stands old cell f → Stands new cell f
 stands-grown old new field Null f grown stands = stands
 stands-grown old new field (Int n) f grown stands = stands
 stands-grown old new field (Code c) f grown stands = elim grown [
@@ -98,14 +98,21 @@ so_far-more records names columns new cells more row left rest is e wide put = r
   read = read-more is.rows (length names) columns new cells more row is.read wide put;
 }
 
+settled-all : (rows : List Fields) (width : ℕ) (columns : List Fields) (cells : List Cell) (new : List Fields) (more : List Cell)
+    → AreRead rows width columns cells → IsSettling columns cells (length cells) new more → AreSettled rows width new more
+settled-all rows width columns cells new more is settling = record {
+  read = rw is.width_is at (settling.read rows (rw is.width_is is));
+  settled = λ i inside. rw is.width_is at (settling.settled i (omega (arith, inside, settling.size)));
+}
+
 pub so_far-all : (records : List Fields) (names : Fields) (columns : List Fields) (cells : List Cell) (left : List Fields) (count : ℕ)
     → SoFar records names columns cells left → left ≡ [] → refusal_of records ≡ None → 0 < length names → length records ≡ count + 1 + length left → count ≤ MOST_ROWS
-    → IsRead records names columns cells
-so_far-all records names columns cells left count is e accepted some counted few = record {
+    → (new : List Fields) (more : List Cell) → IsSettling columns cells (length cells) new more → IsRead records names new more
+so_far-all records names columns cells left count is e accepted some counted few new more settling = record {
   accepted = accepted;
   rows = is.rows;
   records_are = is.records_are ∙ ap (λ (rs : List Fields). names ∷ rs) (rw e (append-nil is.rows));
-  read = is.read;
+  read = settled-all is.rows (length names) columns cells new more is.read settling;
   some_names = some;
   few_rows = omega (arith, ap length is.records_are, length-append is.rows left, counted, few, ap length e);
 }

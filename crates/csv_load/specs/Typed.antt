@@ -1,7 +1,7 @@
 -- A column whose kind is known, and what makes its cells of the places of its texts.
 use Rattle.std.specs.Prelude.{◌≡◌, ◌≢◌, ◌≤◌, ℕ, List, [], true}
 use Rattle.csv_load.specs.Kinds.{is_of, kind_of}
-use Rattle.csv_load.specs.Gathered.{IsCell, Stands}
+use Rattle.csv_load.specs.Gathered.{IsCell, IsSettled, Stands}
 use Rattle.csv_load.specs.declared.typed.Typed.{Typed}
 use Rattle.csv_load.specs.Judged.{Fields}
 use Rattle.table_core.specs.Value.{places_of}
@@ -19,5 +19,5 @@ pub record IsTyped (texts : Fields) (column : Typed) : Type 0 where
 
 -- the cell of a field that has this one over the column's texts
 abbrev pub IsFinished : Typed → Cell → Cell → Type 0
-IsFinished column cell new = (texts : Fields) (field : List ℕ) → IsTyped texts column → Stands texts cell field → is_of column.kind field ≡ true
+IsFinished column cell new = (texts : Fields) (field : List ℕ) → IsTyped texts column → IsSettled texts cell → Stands texts cell field → is_of column.kind field ≡ true
     → IsCell column.kind column.dict field new

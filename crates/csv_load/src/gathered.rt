@@ -1,9 +1,10 @@
 // The texts of one column, gathered as its fields come.
-ghost use Rattle.std.specs.Prelude.{◌≡◌, ◌<◌, [], List, ℕ, IfOk, IfSome, length, slice_index_or};
-ghost use Rattle.csv_load.specs.Gathered.{IsPut};
+ghost use Rattle.std.specs.Prelude.{◌≡◌, ◌<◌, [], List, ℕ, IfOk, IfSome, length, nat_eq, slice_index_or};
+ghost use Rattle.csv_load.specs.Gathered.{IsNoNumber, IsPut};
 ghost use Rattle.csv_load.specs.Seen.{AreSound};
 ghost use Rattle.csv_load.specs.Judged.{Fields};
 
+use crate::kind::whole_number;
 use crate::recent::{Recent, mark_of};
 use crate::seeded::Seeded;
 use std::alloc::{AllocError, Global};
@@ -109,9 +110,29 @@ impl Gathered {
         texts
     }
 
-    // The cell of a field, whose text is put at the end where it isn't found.
+    // Whether no field was kept as a text.
+    pub(crate) fn is_empty(&self) -> bool
+        ensures { result ≡ nat_eq (length self.now) 0 }
+    {
+        self.texts.len() == 0
+    }
+
+    // The cell of a field: the number that it spells, as long as all fields are whole numbers, or else its text's place.
     pub(crate) fn put(&mut self, field: &[u8]) -> Result<Cell, AllocError>
         ensures { IfOk result (λ cell. IsPut self.old field.now self.new cell) }
+    {
+        if self.texts.len() == 0 {
+            if let Some(value) = whole_number(field) {
+                return Ok(Cell::Int(value));
+            }
+        }
+        self.put_text(field)
+    }
+
+    // The cell of a field, whose text is put at the end where it isn't found.
+    pub(crate) fn put_text(&mut self, field: &[u8]) -> Result<Cell, AllocError>
+        ensures put { IfOk result (λ cell. IsPut self.old field.now self.new cell) }
+        ensures text { IfOk result IsNoNumber }
     {
         if field.len() == 0 {
             return Ok(Cell::Null);

@@ -1,7 +1,8 @@
 // The kind of a column, and the cells of its numbers.
-ghost use Rattle.std.specs.Prelude.{◌≡◌, ◌≢◌, ◌≤◌, ◌^◌, List, ℕ, false, true, pos, length, MatchOption};
+ghost use Rattle.std.specs.Prelude.{◌≡◌, ◌≢◌, ◌≤◌, ◌^◌, List, ℕ, false, true, pos, length, IfSome, MatchOption, Some};
 ghost use Rattle.std.specs.List.{list_all};
 ghost use Rattle.csv_load.specs.Number.{fits_i64, number_read};
+ghost use Rattle.csv_load.specs.Gathered.{whole};
 ghost use Rattle.csv_load.specs.Kinds.{fits_places, is_decimal, is_of, is_plain, is_whole, kind_of, most_places, places_in, scaled, value_as};
 ghost use Rattle.table_core.specs.Value.{FitsColumn, places_of, value_in};
 ghost use Rattle.table_core.specs.declared.schema.Kind.TheVariants.{Text};
@@ -20,6 +21,21 @@ fn is_whole(field: &[u8]) -> bool
     match number_of(field) {
         None => return false,
         Some(number) => return number.places == 0 && !number.zero_below,
+    }
+}
+
+// The whole number that a field spells, where it spells one of 64 bits.
+pub(crate) fn whole_number(field: &[u8]) -> Option<i64>
+    ensures { IfSome result (λ n. number_read field.now ≡ Some (whole n)) }
+{
+    match number_of(field) {
+        None => return None,
+        Some(number) => {
+            if number.places == 0 && !number.zero_below {
+                return Some(number.value);
+            }
+            return None;
+        }
     }
 }
 

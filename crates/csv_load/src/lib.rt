@@ -28,6 +28,7 @@ mod recent;
 mod refusal;
 mod rows;
 mod seeded;
+mod settling;
 mod typed;
 
 pub use limits::MOST_TEXT_BYTES;

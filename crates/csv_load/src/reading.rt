@@ -15,6 +15,7 @@ use crate::limits::MOST_TEXT_BYTES;
 use crate::refusal::LoadRefusal;
 use crate::rows::Rows;
 use crate::seeded::Seeded;
+use crate::settling::settle;
 use csv::ByteRecord;
 use std::alloc::{AllocError, Global};
 use table_core::{Bytes, Cell};
@@ -106,5 +107,6 @@ pub(crate) fn read_rows(alloc: Global, hash: Seeded, text: &[u8]) -> Result<Read
         put_row(&mut read.columns, &mut read.cells, &row)?;
         count += 1;
     }
+    settle(&mut read.columns, &mut read.cells)?;
     Ok(read)
 }

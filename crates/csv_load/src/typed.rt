@@ -92,7 +92,8 @@ fn finished(column: &Typed, cell: Cell) -> Cell
 {
     let place = match cell {
         Cell::Code(place) => place as usize,
-        Cell::Null | Cell::Int(_) => return Cell::Null,
+        Cell::Null => return Cell::Null,
+        Cell::Int(_) => return cell,
     };
     match column.kind {
         Kind::Text => code_cell(column.codes.as_slice(), place),

@@ -4,7 +4,7 @@ use Rattle.csv.specs.Records.{fields_of}
 use Rattle.csv_load.specs.Rows.{table_records}
 use Rattle.csv_load.proofs.Left.{table-short}
 use Rattle.csv_load.proofs.Judging.{fits-row, first-judged, next-judged, row-taken}
-use Rattle.csv_load.proofs.Rowwise.{so_far-none, so_far-more, rest-none}
+use Rattle.csv_load.proofs.Rowwise.{so_far-all, so_far-none, so_far-more, rest-none}
 use Rattle.csv_load.proofs.reading.read_rows.Goals as goal
 
 pub judge_header-requires : goal.judge_header-requires
@@ -57,3 +57,16 @@ loop-read-preserved c =
           (fields_of c.next-in-loop-read.new.row) c.loop-read.rows c.next-in-loop-read.new.self is.so_far e
           (omega (arith, taken.0, is.wide)) put);
     }
+
+pub returns-clause-read : goal.returns-clause-read
+returns-clause-read c =
+    let read = c.loop-read.read in
+    let is = c.loop-read.invariant in
+    let none = (rw c.if-branch.false at c.in_ok-next-2.ensures.ended) refl in
+    let settled = rw (c.deref_mut-2.ensures.value, c.deref_mut-3.ensures.value) at c.in_ok-settle.ensures in
+    rw (
+      rest-none c.settle.new.columns read.columns.items read.columns.len settled.width (omega (arith, read.columns.ok.0)),
+      rest-none c.settle.new.cells read.cells.items read.cells.len settled.size (omega (arith, read.cells.ok.0)),
+    )
+    (so_far-all (table_records c.args.text.now) read.names.items read.columns.items read.cells.items c.loop-read.rows c.loop-read.count is.so_far none
+    (is.judged ∙ rw none refl) (omega (arith, is.wide, c.if-width-eq0.false)) is.counted is.within c.settle.new.columns c.settle.new.cells settled)

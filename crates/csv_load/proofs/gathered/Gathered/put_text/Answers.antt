@@ -1,5 +1,5 @@
 use Rattle.csv_load.proofs.Sounds.{remembered}
-use Rattle.csv_load.proofs.gathered.Gathered.put.Goals as goal
+use Rattle.csv_load.proofs.gathered.Gathered.put_text.Goals as goal
 
 pub invariant_of-self-in_err-remember : goal.invariant_of-self-in_err-remember
 invariant_of-self-in_err-remember c =
