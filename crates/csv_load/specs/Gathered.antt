@@ -1,4 +1,4 @@
--- Fields that were read: for each column its texts, and for each field a cell with the place of its text.
+-- Fields that were read: for each column its texts, and for each field a cell, which has its number or the place of its text.
 use Rattle.std.specs.Prelude.{◌≡◌, ◌≢◌, ◌+◌, ◌*◌, ◌%◌, ◌<◌, ◌++◌, ◌⊎◌, ℕ, List, [], ◌∷◌, length, slice_index_or, All, Contains, Option, Some, None, ℤ, false}
 use Rattle.csv_load.specs.Kinds.{value_as}
 use Rattle.csv_load.specs.Number.{number_read}

@@ -21,11 +21,11 @@ pub record IsRanked (names : List (List ℕ)) (dict : List (List ℕ)) (codes : 
 
 -- a name that isn't empty, with its front and its place
 abbrev pub Key : Type 0
-Key = ℕ × Bor (List ℕ) × ℕ
+Key = (ℕ × ℕ) × Bor (List ℕ) × ℕ
 
 -- how two names stand, by their fronts first, and two equal ones by their places
 abbrev pub key_cmp : Key → Key → Ordering
-key_cmp p q = ordering_then (ordering_then (nat_cmp p.0 q.0) (text_cmp p.1.now q.1.now)) (nat_cmp p.2 q.2)
+key_cmp p q = ordering_then (ordering_then (ordering_then (nat_cmp p.0.0 q.0.0) (nat_cmp p.0.1 q.0.1)) (text_cmp p.1.now q.1.now)) (nat_cmp p.2 q.2)
 
 -- the names up to a place that aren't empty, each with its front and its place
 pub record Keyed (names : List (List ℕ)) (end : ℕ) (order : List Key) : Type 0 where

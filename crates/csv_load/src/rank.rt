@@ -15,7 +15,7 @@ pub struct Ranked {
 }
 
 // A name with its front and its place. The fronts decide the order of most names without a look at their bytes.
-type Key<'a> = (u128, &'a [u8], u32);
+type Key<'a> = ((u128, u128), &'a [u8], u32);
 
 // The names that aren't empty, each with its front and its place.
 fn keyed<'a>(alloc: Global, names: &'a Texts) -> Result<Vec<Key<'a>>, AllocError>

@@ -17,7 +17,7 @@ loop-place-preserved c =
     let names = c.args.names.now in
     let order = c.args.order.now in
     let place = c.loop-place.place in
-    let d : Key = (0, record { ref_ptr = (0, 0); now = [] }, 0) in
+    let d : Key = ((0, 0), record { ref_ptr = (0, 0); now = [] }, 0) in
     let inside : place < length order = c.loop-place-test.true in
     let true_name : NamesTrue names (get_or order place d) = All-get_or (NamesTrue names) order place d inside c.requires.keyed.true_name in
     assigned-step names (map (λ (p : Key). p.1.now) order) (map (λ (p : Key). p.2) order) place c.loop-place.dict c.push.new.self c.loop-place.codes.items
@@ -27,7 +27,7 @@ loop-place-preserved c =
 
 pub push-requires : goal.push-requires
 push-requires c some =
-    let d : Key = (0, record { ref_ptr = (0, 0); now = [] }, 0) in
+    let d : Key = ((0, 0), record { ref_ptr = (0, 0); now = [] }, 0) in
     may_add c.args.order.now c.loop-place.place d c.loop-place.dict c.requires.sorted c.requires.keyed.fronts c.loop-place-test.true (c.loop-place.invariant.last some)
 
 pub returns : goal.returns
