@@ -117,7 +117,7 @@ impl Gathered {
         self.texts.len() == 0
     }
 
-    // The cell of a field: the number that it spells, as long as all fields are whole numbers, or else its text's place.
+    // The cell of a field: its number while all fields are whole numbers, or else the place of its text.
     pub(crate) fn put(&mut self, field: &[u8]) -> Result<Cell, AllocError>
         ensures { IfOk result (λ cell. IsPut self.old field.now self.new cell) }
     {

@@ -55,14 +55,14 @@ fn dicts_of(alloc: Global, typed: Vec<Typed>) -> Result<Vec<Dict>, AllocError>
     Ok(dicts)
 }
 
-/// The table of a CSV text of at most 268435456 bytes (`MOST_TEXT_BYTES`), or why it is none: the first cause that holds, at the
-/// first place where it holds, or out of memory, which may come in place of any other answer.
+/// The table of a CSV text of at most 268435456 bytes (`MOST_TEXT_BYTES`), or why it is none: the first cause that
+/// holds, at the first place where it holds, or out of memory, which may come in place of any other answer.
 ///
 /// The text is read once. The call keeps the texts of each column until its kind is known, but of one whose fields are
 /// whole numbers so far, and of a column with up to 32768 different texts each just once. After a refusal nothing is
-/// left of the table. The keys are those of
-/// the hash by which texts are looked up, `RandomState::new(&rt)`: no answer depends on them but out of memory, and
-/// nobody who doesn't know them can choose texts that have one hash and so slow the call down.
+/// left of the table. The keys are those of the hash by which texts are looked up, `RandomState::new(&rt)`: no answer
+/// depends on them but out of memory, and nobody who doesn't know them can choose texts that have one hash and so slow
+/// the call down.
 /// docs/TABLES.md says which texts are tables and what their cells are.
 pub fn load(alloc: Global, keys: RandomState, bytes: &[u8]) -> Result<Loaded, LoadRefusal>
     requires small { length bytes.now ≤ MOST_TEXT_BYTES }

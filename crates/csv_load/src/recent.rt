@@ -1,10 +1,11 @@
-// Where a column's texts were put, by a cheap mark of each. A mark is no proof: texts may share one, so what it gives is
-// compared, and texts chosen to share marks cost one comparison each.
+// Where a column's texts were put, by a cheap mark of each. A mark proves nothing, since texts may share one: what it
+// gives is compared, and texts chosen to share marks cost one comparison each.
 use std::alloc::{AllocError, Global};
 
-// How many marks there are, and the bits of a mixed word that aren't a mark's.
+// How many marks there are.
 const MARKS: usize = 16384;
 
+// The low bits of a mixed word, which its mark leaves out.
 const UNMARKED_BITS: u32 = 50;
 
 // An odd number whose bits look drawn, so that a product with it moves each bit to the top ones.

@@ -46,6 +46,17 @@ const CELLS: &[Read<'static>] = &[
             Cell::Code(0),
         ],
     ),
+    // 32 bytes that are the same, and 31
+    (
+        b"v\nabcdefghijklmnopqrstuvwxyzABCDEFb\nabcdefghijklmnopqrstuvwxyzABCDEF\nabcdefghijklmnopqrstuvwxyzABCDEFa\nabcdefghijklmnopqrstuvwxyzABCDEG\nabcdefghijklmnopqrstuvwxyzABCDEF\0\n",
+        &[
+            Cell::Code(3),
+            Cell::Code(0),
+            Cell::Code(2),
+            Cell::Code(4),
+            Cell::Code(1),
+        ],
+    ),
     // zero bytes at the end
     (
         b"v\na\0\0\na\na\0\n\0\na\0\0\nb\n\0\0\n",
@@ -91,10 +102,10 @@ fn next(state: u64) -> u64 {
         .wrapping_add(1442695040888963407)
 }
 
-// Up to 19 times `a`, and behind them up to 3 bytes of four.
+// Up to 39 times `a`, and behind them up to 3 bytes of four.
 fn drawn_field(alloc: Global, drawn: u64) -> Result<Vec<u8>, AllocError> {
     let mut field = Vec::new(alloc);
-    for _ in 0..(drawn >> 33) % 20 {
+    for _ in 0..(drawn >> 33) % 40 {
         field.push(b'a')?;
     }
     for place in 0..(drawn >> 40) % 4 {
@@ -183,7 +194,10 @@ fn drawn_texts_have_their_dictionary(rt: HostRuntime) -> Result<(), Fail> {
         let fields = drawn_fields(rt.alloc(), *seed, *count)?;
         let text = text_of(rt.alloc(), &fields)?;
         let loaded = loaded(&rt, rt.alloc(), text.as_slice());
-        assert!(rt; loaded.is_ok_and(|loaded| has_fields(&loaded, &fields)), "{seed}");
+        assert!(rt;
+            loaded.is_ok_and(|loaded| has_fields(&loaded, &fields)),
+            "{seed}"
+        );
     }
     Ok(())
 }
