@@ -4,6 +4,7 @@ ghost use Rattle.command_words.specs.declared.limits.TheConstants.{MOST_FRAMES, 
 ghost use Rattle.table_core.specs.declared.limits.TheConstants.{MOST_CHUNK_ROWS};
 ghost use Rattle.scan_streams.specs.declared.experiment.TheConstants.{MOST_QUERIES};
 
+use crate::kind::Kind;
 use coop_run::{Layout, Settings};
 use std::alloc::{AllocError, Global};
 
@@ -30,6 +31,8 @@ pub(crate) struct Experiment {
     pub get_us: u32,
     /// How many microseconds a slow query takes for each chunk, beside its work on the rows.
     pub slow_us: u32,
+    /// The kind of all queries; where there is none, that of each is drawn.
+    pub kind: Option<Kind>,
     /// The seed of the table and of the queries.
     pub seed: u32,
     ghost streams_within: { (1 ≤ streams) × (streams ≤ MOST_WORKERS) },

@@ -1,5 +1,5 @@
 // The kinds of queries.
-ghost use Rattle.std.specs.Prelude.{◌≤◌, ◌↔◌, ◌%◌, ◌∷◌, [], Contains, IsTrue};
+ghost use Rattle.std.specs.Prelude.{◌≡◌, ◌≤◌, ◌↔◌, ◌%◌, ◌∷◌, [], Contains, IsFalse, IsTrue};
 
 use std::fmt;
 
@@ -17,6 +17,17 @@ pub(crate) struct Kind {
 pub(crate) const KINDS: u32 = 8;
 
 impl Kind {
+    /// Fast, and over the whole table.
+    pub(crate) fn whole() -> Kind
+        ensures part { result.percent ≡ 100 }
+        ensures fast { IsFalse result.slow }
+    {
+        Kind {
+            percent: 100,
+            slow: false,
+        }
+    }
+
     /// The kind of a number, which counts around: ranges of 1, 10, 50 and 100 in 100, the fast ones first.
     pub(crate) fn numbered(number: u32) -> Kind
         ensures part { Contains (1 ∷ 10 ∷ 50 ∷ 100 ∷ []) result.percent }

@@ -3,7 +3,7 @@
 //!
 //! It embeds coop_run with a depot and a gate of its own: `SlowDepot` sleeps before each get, and `TimingGate` notes when
 //! a query had its chunks, and works long on those of slow queries. `scan_streams --help` lists its words;
-//! docs/POLICIES.md has what was measured with it.
+//! docs/POLICIES.md and docs/BENCHMARKS.md have what was measured with it.
 #![tactic(auto)]
 
 mod check;

@@ -1,5 +1,5 @@
 // The queries that are played.
-ghost use Rattle.std.specs.Prelude.{◌≡◌, ◌≤◌, ◌<◌, ◌+◌, ◌-◌, ◌*◌, ◌/◌, ◌^◌, IfOk, length, max, vec_len};
+ghost use Rattle.std.specs.Prelude.{◌≡◌, ◌≤◌, ◌<◌, ◌+◌, ◌-◌, ◌*◌, ◌/◌, ◌^◌, All, IfOk, Some, length, max, vec_len};
 ghost use Rattle.command_words.specs.declared.limits.TheConstants.{MOST_GENERATED_ROWS};
 
 use crate::experiment::Experiment;
@@ -52,11 +52,14 @@ impl RangeQuery {
 /// The queries of an experiment, in the order of their numbers. Query i, from 0, is in the stream i modulo the streams.
 pub(crate) fn drawn(alloc: Global, experiment: &Experiment) -> Result<Vec<RangeQuery>, AllocError>
     ensures all { IfOk result (λ queries. vec_len queries ≡ experiment.now.streams * experiment.now.queries) }
+    ensures kind { (kind : Kind) → experiment.now.kind ≡ Some kind
+        → IfOk result (λ queries. All (λ query. query.kind ≡ kind) queries.items) }
 {
     let mut draws = Pcg32::new(u64::from(experiment.seed), DRAWS);
     let mut queries = Vec::new(alloc);
     for _ in 0..experiment.streams * experiment.queries {
-        let kind = Kind::numbered(draws.next_u32());
+        let drawn = Kind::numbered(draws.next_u32());
+        let kind = experiment.kind.unwrap_or(drawn);
         queries.push(RangeQuery::placed(kind, experiment.table_rows, draws.next_u32()))?;
     }
     Ok(queries)

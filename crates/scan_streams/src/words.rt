@@ -3,6 +3,7 @@ ghost use Rattle.std.specs.Prelude.{◌≤◌, ◌≡◌, IfSome};
 ghost use Rattle.command_words.specs.declared.limits.TheConstants.{MOST_FRAMES, MOST_GENERATED_ROWS, MOST_WORKERS};
 
 use crate::experiment::{Experiment, MOST_QUERIES};
+use crate::kind::Kind;
 use clap::{Arg, ArgAction, ArgMatches, Command, value_parser};
 use command_words::{MOST_FRAMES, MOST_GENERATED_ROWS, MOST_WORKERS};
 use std::alloc::{AllocError, Global};
@@ -89,6 +90,7 @@ pub(crate) fn command<'a>(alloc: Global) -> Result<Command<'a>, AllocError> {
     let command = Command::new(alloc, "scan_streams").about(about);
     with_numbers(alloc, command)?
         .arg(policy)?
+        .arg(flag(alloc, "whole", "Each query is fast, over the whole table"))?
         .arg(flag(alloc, "each", "Prints the time of each query"))?
         .arg(flag(alloc, "check", "Prints only what every schedule gives"))
 }
@@ -132,6 +134,7 @@ pub(crate) fn experiment_of(matches: &ArgMatches<'_>) -> Experiment {
         frames,
         get_us: given(matches, "get-us", 0, u32::MAX),
         slow_us: given(matches, "slow-us", 0, u32::MAX),
+        kind: matches.get_flag("whole").then_some(Kind::whole()),
         seed: given(matches, "seed", 0, u32::MAX),
     }
 }
