@@ -9,7 +9,7 @@ use story_referee::{Memory, Terms};
 use trial_book::{book_needs, has_numbers};
 
 /// The terms of the setting, where it is one that a manager may be made for; the policy begins with its first cursor.
-pub fn terms_of(alloc: Global, s: &Setting) -> Result<Option<Terms>, Memory>
+pub(crate) fn terms_of(alloc: Global, s: &Setting) -> Result<Option<Terms>, Memory>
     ensures { IfOk result (λ o. IfSome o (λ t. IsSetting (setting_of t))) }
 {
     if !has_numbers(s) {

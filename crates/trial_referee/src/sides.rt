@@ -24,7 +24,7 @@ fn plainly(
 }
 
 /// Whether both judges say the same of the story. The setting begins with the policy's first cursor.
-pub fn agree(alloc: Global, s: &Setting, entries: &[Entry]) -> Result<bool, Memory>
+pub(crate) fn agree(alloc: Global, s: &Setting, entries: &[Entry]) -> Result<bool, Memory>
     requires { IsSmall s.now }
 {
     let Some(terms) = terms_of(alloc, s)? else {

@@ -1,8 +1,9 @@
 ghost use Rattle.std.specs.Prelude.{◌<◌};
 ghost use Rattle.story_views.specs.Small.{IsSmall};
 
-use super::*;
 use crate::changes::{CHANGES, changed};
+use crate::settings::terms_of;
+use crate::sides::agree;
 use rand_pcg::Pcg32;
 use scan_story::{Entry, PolicyName, Ratio, Setting};
 use std::alloc::Global;
