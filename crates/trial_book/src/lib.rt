@@ -12,6 +12,3 @@ pub use compare::agrees;
 pub use picks::{delivery, load, victim};
 pub use settings::{book_needs, book_of, has_numbers};
 pub use trial::{Trial, note_next, played, try_story};
-
-#[cfg(test)]
-mod tests;

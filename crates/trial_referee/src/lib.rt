@@ -1,8 +1,11 @@
-//! Trials of the referee: stories that it judges beside the plain judge, and the reasons that it gives.
+//! Trials beside the plain judge: stories that the referee judges, with the reasons that it gives, and stories played
+//! through the book.
 //!
 //! All of it is tests. `docs/MANAGER.md` tells the rules, `docs/POLICIES.md` the choices.
 #![tactic(auto)]
 
+#[cfg(test)]
+mod books;
 #[cfg(test)]
 mod changes;
 #[cfg(test)]

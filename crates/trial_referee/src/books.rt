@@ -1,9 +1,9 @@
+//! The book beside the judge along stories, and its ranks, ratios and picks.
 ghost use Rattle.std.specs.Prelude.{◌≤◌, ◌<◌, IfOk};
 ghost use Rattle.scan_story.specs.Views.{past};
 ghost use Rattle.interest_book.specs.Stands.{Stands};
 ghost use Rattle.story_views.specs.Small.{IsSmall};
 
-use super::*;
 use interest_book::Book;
 use rand_pcg::Pcg32;
 use relevance::{Ratio, Relevance, keep_ratio, load_ratio, query_rank, use_ratio};
@@ -12,6 +12,7 @@ use std::alloc::{AllocError, Global};
 use std::process::Abort;
 use std::test::Fail;
 use story_judge::first_illegal;
+use trial_book::{Trial, agrees, delivery, load, played, try_story, victim};
 use trial_stories::stories::TWO_LOADED;
 use trial_stories::{
     COUNTS, POLICIES, Printed, SIX, SIX_ATTACH, Scene, TO_EVICT, TURNS, TWO_TO_DELIVER, entries_of,
