@@ -1,6 +1,6 @@
 -- Who counts for the overlaps of a query.
-use Rattle.std.proofs.Common.{◌≡◌, ◌<◌, ◌≤◌, ◌&&◌, ℕ, Bool, true, false, List, length, nat_lt, refl, sym, ◌∙◌, ap, arith, inl, inr}
-use Rattle.std.proofs.lemmas.Bool.{cases_lt}
+use Rattle.std.proofs.Common.{◌≡◌, ◌<◌, ◌≤◌, ◌+◌, ◌&&◌, ℕ, zero, suc, Bool, true, false, List, length, nat_lt, refl, sym, ◌∙◌, ap, subst, arith, inl, inr, if◌then◌else◌}
+use Rattle.std.proofs.lemmas.Bool.{cases_eq, cases_lt}
 use Rattle.std.proofs.lemmas.List.{get_or_past}
 use Rattle.scan_story.specs.declared.setting.Setting.{Setting}
 use Rattle.scan_story.specs.Counting.{has, count_below, count_among}
@@ -14,6 +14,7 @@ use Rattle.chunk_interest.specs.Counts.{is_active_in, is_starved_in, needs_in, a
 use Rattle.chunk_interest.specs.Marked.{row_at}
 use Rattle.interest_book.specs.Sharing.{IsSharing}
 use Rattle.interest_book.specs.Stands.{Stands}
+use Rattle.scan_story.proofs.Counts.{below_mono}
 use Rattle.chunk_interest.proofs.Needs.{need_small}
 use Rattle.chunk_interest.proofs.Kept.{keeps, active_registered, starved_active, and_first}
 use Rattle.interest_book.proofs.Shown.{active_is, starved_is, needs_is, counted_is}
@@ -80,3 +81,28 @@ sharing_overlap b s h q c k st is = sharing_count b s h q c k.active (is_active 
 
 pub sharing_starved_overlap : (b : Book) (s : Setting) (h : History) (q c : ℕ) (k : Sharing) → Stands b s h → IsSharing s h q k → count_below (λ r. has k.starved r && needs_in b.clients r c) (length b.clients) ≡ starved_overlap s h q c
 sharing_starved_overlap b s h q c k st is = sharing_count b s h q c k.starved (is_starved s h) st is.starved (λ r e. starved_active s h r e)
+
+-- no more than the sharing has
+
+longer : (p : ℕ → Bool) (n m : ℕ) → n ≤ m → count_below p n ≤ count_below p m
+longer p n zero le = let at : n ≡ zero = omega (arith, le) in subst (λ (k : ℕ). count_below p n ≤ count_below p k) at (omega arith)
+longer p n (suc m) le = elim (cases_eq n (suc m)) [
+  | inl at ↦ subst (λ (k : ℕ). count_below p n ≤ count_below p k) at (omega arith)
+  | inr ne ↦ (let before = longer p n m (omega (arith, le, ne)) in one_more (p m) before)
+]
+  where
+    one_more : (t : Bool) → count_below p n ≤ count_below p m → count_below p n ≤ (if t then count_below p m + 1 else count_below p m)
+    one_more true le = omega (arith, le)
+    one_more false le = le
+
+most_of : (b : Book) (these : List ℕ) (c n : ℕ) → count_below (λ r. has these r && needs_in b.clients r c) (length b.clients) ≡ n → n ≤ count_below (has these) 320
+most_of b these c n is =
+    let less = below_mono (λ r. has these r && needs_in b.clients r c) (has these) (λ r e. and_first (has these r) (needs_in b.clients r c) e) (length b.clients) in
+    let within = longer (has these) (length b.clients) 320 (omega (arith, b.parts.clients)) in
+    omega (arith, is, less, within)
+
+pub most_overlap : (b : Book) (s : Setting) (h : History) (q c : ℕ) (k : Sharing) → Stands b s h → IsSharing s h q k → overlap s h q c ≤ count_below (has k.active) 320
+most_overlap b s h q c k st is = most_of b k.active c (overlap s h q c) (sharing_overlap b s h q c k st is)
+
+pub most_starved_overlap : (b : Book) (s : Setting) (h : History) (q c : ℕ) (k : Sharing) → Stands b s h → IsSharing s h q k → starved_overlap s h q c ≤ count_below (has k.starved) 320
+most_starved_overlap b s h q c k st is = most_of b k.starved c (starved_overlap s h q c) (sharing_starved_overlap b s h q c k st is)

@@ -16,6 +16,31 @@ pub struct Overlaps {
     pub starved: u32,
 }
 
+impl Sharing {
+    ghost use Rattle.std.specs.Prelude.{◌≤◌, ℕ};
+    ghost use Rattle.scan_story.specs.declared.setting.Setting.{Setting};
+    ghost use Rattle.scan_story.specs.Views.{History};
+    ghost use Rattle.scan_story.specs.Numbers.{overlap, starved_overlap};
+    ghost use Rattle.interest_book.specs.declared.book.Book.{Book};
+    ghost use Rattle.interest_book.specs.Sharing.{IsSharing};
+    ghost use Rattle.interest_book.specs.Stands.{Stands};
+
+    /// How many queries count. The query whose sharing this is has no more overlaps with any chunk; each at most 320.
+    pub fn most(&self) -> Overlaps
+        ensures active { (b : Book) (s : Setting) (h : History) (q c : ℕ) → Stands b s h → IsSharing s h q self.now
+            → overlap s h q c ≤ result.active }
+        ensures starved { (b : Book) (s : Setting) (h : History) (q c : ℕ) → Stands b s h → IsSharing s h q self.now
+            → starved_overlap s h q c ≤ result.starved }
+        ensures few_active { result.active ≤ 320 }
+        ensures few_starved { result.starved ≤ 320 }
+    {
+        Overlaps {
+            active: self.active.size(),
+            starved: self.starved.size(),
+        }
+    }
+}
+
 impl Book {
     ghost use Rattle.std.specs.Prelude.{◌≡◌, ◌≤◌, ℕ};
     ghost use Rattle.scan_story.specs.declared.setting.Setting.{Setting};

@@ -7,7 +7,7 @@ use Rattle.std.proofs.Math.Nat.{mul-le-mul, mul-le-mul_right, le_of_mul-le-mul_r
 use Rattle.scan_story.specs.declared.ratio.Ratio.{Ratio}
 use Rattle.scan_story.specs.Ratios.{IsAtMost}
 use Rattle.relevance.specs.declared.best.BestChunk.{BestChunk}
-use Rattle.relevance.specs.Best.{better_of, best_below, chunk_with, greater_of, may_exceed, is_greater, is_less, is_higher, IsFirstBest}
+use Rattle.relevance.specs.Best.{better_of, best_below, chunk_with, greater_of, greatest_below, may_exceed, is_greater, is_less, is_higher, IsFirstBest}
 
 -- what beats is better, and ranks go on through candidates
 pub record IsOrder {K : Type 0} (beats : K → K → Bool) (AtMost : K → K → Type 0) (test : ℕ → Bool) (rank : ℕ → K) : Type 0 where
@@ -183,6 +183,30 @@ no_greater (Some b) c r some e = sym (ap (λ (t : Bool). if t then Some (chunk_w
         let more : x * 1 ≤ x * d = mul-le-mul itself one in
         beyond x y (x * d) (omega (arith, more)) e
 
+-- what may be a best load: a ratio over one or more, whose number is at most so great
+abbrev pub IsWithin : ℕ → Ratio → Type 0
+IsWithin most r = (0 < r.den) × (r.num ≤ most)
+
+-- where none may exceed the best so far, it stays
+settled : (test : ℕ → Bool) (ratio : ℕ → Ratio) (a n most : ℕ) (best : Option BestChunk) → a ≤ n → may_exceed most best ≡ false → ((y : ℕ) → test y ≡ true → IsWithin most (ratio y)) → best ≡ greatest_below test ratio a
+    → best ≡ greatest_below test ratio n
+settled test ratio a zero most best le over within is = let at : a ≡ zero = omega (arith, le) in is ∙ ap (greatest_below test ratio) at
+settled test ratio a (suc n) most best le over within is = elim (cases_eq a (suc n)) [
+  | inl at ↦ is ∙ ap (greatest_below test ratio) at
+  | inr ne ↦ at_last (test n) refl (settled test ratio a n most best (omega (arith, le, ne)) over within is)
+]
+  where
+    no_more : (o : Option BestChunk) (x : ℕ) → x ≤ most → may_exceed most o ≡ false → may_exceed x o ≡ false
+    no_more None x le e = absurd (true_false true refl e)
+    no_more (Some b) x le e = let more : x * b.ratio.den ≤ most * b.ratio.den = mul-le-mul_right b.ratio.den le in beyond b.ratio.num (most * b.ratio.den) (x * b.ratio.den) more e
+      where
+        beyond : (k y z : ℕ) → z ≤ y → nat_lt k y ≡ false → nat_lt k z ≡ false
+        beyond k y z le e = grind (arith, nat_tests)
+
+    at_last : (t : Bool) → test n ≡ t → best ≡ greatest_below test ratio n → best ≡ (if t then greater_of (greatest_below test ratio n) n (ratio n) else greatest_below test ratio n)
+    at_last true t e = no_greater best n (ratio n) (within n t).0 (no_more best (ratio n).num (within n t).1 over) ∙ ap (λ o. greater_of o n (ratio n)) e
+    at_last false t e = e
+
 -- Ranks
 
 pub rank_order : (test : ℕ → Bool) (rank : ℕ → ℤ) → IsOrder is_higher (λ a b. a ≤ℤ b) test rank
@@ -249,6 +273,23 @@ pub best_end : {B K : Type 0} (made : ℕ → K → B) (key : B → K) (beats : 
 best_end made key beats test rank a n none bound = elim (cases_lt a n) [
   | inl lt ↦ sym (best_past made key beats test rank a n (omega (arith, lt)) (λ y from _. none y from))
   | inr not ↦ best_past made key beats test rank n a (omega (arith, not)) (λ y from _. beyond y from)
+]
+  where
+    beyond : (y : ℕ) → n ≤ y → test y ≡ false
+    beyond y from = elim (cases_Bool (test y)) [
+      | inl so ↦ absurd (let low = bound y so in omega (arith, from, low))
+      | inr not ↦ not
+    ]
+
+-- none passes from a on, or none may exceed the best so far
+pub settled_end : (test : ℕ → Bool) (ratio : ℕ → Ratio) (a n most : ℕ) (best : Option BestChunk) → (may_exceed most best ≡ true → (y : ℕ) → a ≤ y → test y ≡ false) → ((y : ℕ) → test y ≡ true → y < n)
+    → ((y : ℕ) → test y ≡ true → IsWithin most (ratio y)) → best ≡ greatest_below test ratio a → best ≡ greatest_below test ratio n
+settled_end test ratio a n most best none bound within is = elim (cases_Bool (may_exceed most best)) [
+  | inl so ↦ is ∙ best_end chunk_with (λ b. b.ratio) is_greater test ratio a n (none so) bound
+  | inr over ↦ elim (cases_lt n a) [
+    | inl lt ↦ is ∙ best_past chunk_with (λ b. b.ratio) is_greater test ratio n a (omega (arith, lt)) (λ y from _. beyond y from)
+    | inr not ↦ settled test ratio a n most best (omega (arith, not)) over within is
+  ]
 ]
   where
     beyond : (y : ℕ) → n ≤ y → test y ≡ false

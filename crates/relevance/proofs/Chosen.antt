@@ -25,9 +25,9 @@ use Rattle.interest_book.proofs.Inside.{ready_inside}
 use Rattle.interest_book.proofs.Shown.{active_is}
 use Rattle.relevance.specs.declared.best.BestChunk.{BestChunk}
 use Rattle.relevance.specs.declared.best.BestQuery.{BestQuery}
-use Rattle.relevance.specs.Best.{best_below, chunk_with, ratio_of, query_with, rank_of, greatest_below, least_below, highest_below, is_greater, is_less, is_higher, chunk_in, query_in, IsFirstBest}
+use Rattle.relevance.specs.Best.{best_below, chunk_with, ratio_of, query_with, rank_of, greatest_below, least_below, highest_below, may_exceed, is_greater, is_less, is_higher, chunk_in, query_in, IsFirstBest}
 use Rattle.relevance.specs.Picks.{PicksQuery, PicksLoad, PicksDelivery, PicksVictim, HasActive}
-use Rattle.relevance.proofs.Choosing.{IsOrder, IsBestBelow, best_is, first_of, greater_order, less_order, rank_order}
+use Rattle.relevance.proofs.Choosing.{IsOrder, IsBestBelow, best_is, first_of, greater_order, less_order, rank_order, settled_end}
 
 -- Candidates are within their bounds
 
@@ -197,3 +197,10 @@ first_delivery b s h q n best r a st all is e =
 pub first_victim : (s : Setting) (h : History) (n : ℕ) (best : Option BestChunk) (r : Option ℕ) → n ≡ s.chunks → best ≡ least_below (is_victim s h) (keep_ratio s h) n → r ≡ chunk_in best → IfSome r (IsFirstBest is_less (is_victim s h) (keep_ratio s h))
 first_victim s h n best r all is e =
     first_chunk is_less (λ a b. IsAtMost b a) (is_victim s h) (keep_ratio s h) s.chunks n best r (less_order (is_victim s h) (keep_ratio s h) (λ y t. victim_cached s h y t)) (λ y t. victim_inside s h y t) all is e
+
+-- the best of the targets tried, where none is left or none may exceed it
+pub load_settled : (q a most : ℕ) (targets : List ℕ) (s : Setting) (h : History) (best : Option BestChunk) → ((c : ℕ) → has targets c ≡ is_target s h q c)
+    → (may_exceed most best ≡ true → (c : ℕ) → a ≤ c → has targets c ≡ false) → ((c : ℕ) → (load_ratio s h q c).num ≤ most) → best ≡ greatest_below (is_target s h q) (load_ratio s h q) a
+    → best ≡ greatest_below (is_target s h q) (load_ratio s h q) s.chunks
+load_settled q a most targets s h best are none within is =
+    settled_end (is_target s h q) (load_ratio s h q) a s.chunks most best (λ e c from. sym (are c) ∙ none e c from) (λ c t. target_inside s h q c t) (λ c t. (target_misses s h q c t, within c)) is

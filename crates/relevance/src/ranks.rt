@@ -3,6 +3,7 @@ ghost use Rattle.std.specs.Prelude.{◌≡◌, ◌*◌, ◌<◌, ◌≤◌, ℕ}
 ghost use Rattle.scan_story.specs.declared.setting.Setting.{Setting};
 ghost use Rattle.scan_story.specs.Views.{History};
 ghost use Rattle.scan_story.specs.Ratios.{query_rank, load_ratio, use_ratio, keep_ratio};
+ghost use Rattle.interest_book.specs.declared.book.Book.{Book};
 ghost use Rattle.interest_book.specs.Sharing.{IsSharing};
 ghost use Rattle.interest_book.specs.Stands.{Stands};
 
@@ -35,6 +36,15 @@ pub fn load_gain(book: &Book, sharing: &Sharing, c: u32) -> u32
 {
     let overlaps = book.overlaps(sharing, c);
     1024 * overlaps.starved + overlaps.active
+}
+
+/// The number of the ratio by which a chunk is loaded for the query whose sharing this is, is no greater for any chunk.
+pub fn most_gain(sharing: &Sharing) -> u32
+    ensures { (b : Book) (s : Setting) (h : History) (q c : ℕ) → Stands b s h → IsSharing s h q sharing.now
+        → (load_ratio s h q c).num ≤ result }
+{
+    let most = sharing.most();
+    1024 * most.starved + most.active
 }
 
 /// How much is gained by loading the chunk for the query. `den` is 0 where no piece that the query reads is missing;

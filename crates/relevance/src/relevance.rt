@@ -9,9 +9,9 @@ ghost use Rattle.relevance.specs.Best.{IsFirstBest, is_higher, is_greater, is_le
 ghost use Rattle.relevance.specs.Picks.{PicksQuery, PicksLoad, PicksDelivery, PicksVictim, cursor_after_load, cursor_after_delivery, HasActive, HasNoneBegun};
 
 use crate::best::{chunk_in, greater_of, higher_of, lesser_of, query_in};
-use crate::loads::gaining_more;
+use crate::loads::{gaining_more, next_target};
 use crate::policy::Policy;
-use crate::ranks::{keep_ratio, query_rank, use_ratio};
+use crate::ranks::{keep_ratio, most_gain, query_rank, use_ratio};
 use interest_book::Book;
 use scan_story::PolicyName;
 
@@ -57,9 +57,10 @@ impl Policy for Relevance {
     {
         let sharing = book.sharing(q);
         let targets = book.targets(q);
+        let most = most_gain(&sharing);
         let mut best = None;
         let mut from = 0;
-        while let Some(c) = targets.least_from(from) {
+        while let Some(c) = next_target(&targets, from, most, best) {
             best = gaining_more(best, book, &sharing, q, c);
             from = c + 1;
         }

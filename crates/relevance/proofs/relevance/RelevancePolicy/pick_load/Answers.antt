@@ -1,10 +1,9 @@
 use Rattle.std.proofs.Common.{[], refl, sym, ◌∙◌}
 use Rattle.scan_story.specs.Ratios.{load_ratio}
 use Rattle.scan_story.specs.MayFollow.{is_target}
-use Rattle.chunk_interest.proofs.Kept.{target_inside}
 use Rattle.relevance.specs.Best.{chunk_with, ratio_of, is_greater}
-use Rattle.relevance.proofs.Choosing.{taken, best_end}
-use Rattle.relevance.proofs.Chosen.{picks_load, first_load, active_small}
+use Rattle.relevance.proofs.Choosing.{taken}
+use Rattle.relevance.proofs.Chosen.{picks_load, first_load, load_settled, active_small}
 use Rattle.relevance.proofs.relevance.RelevancePolicy.pick_load.Goals as goal
 
 pub sharing-sharing-requires : goal.sharing-sharing-requires
@@ -19,7 +18,7 @@ gaining_more-best-requires-clause-query c = active_small c.args.book.now c.args.
 pub loop-c-preserved : goal.loop-c-preserved
 loop-c-preserved c = λ s h st.
     let q = c.args.q in
-    let next = c.in-Some.ensures.least in
+    let next = c.in-Some.ensures in
     let is = c.targets-targets.ensures s h st in
     let t = sym (is c.in-Some.c) ∙ next.there in
     taken chunk_with ratio_of is_greater (is_target s h q) (load_ratio s h q) c.loop-c.from c.in-Some.c c.loop-c.best c.gaining_more-best.result next.from (λ y from lt. sym (is y) ∙ next.least y from lt) t (c.loop-c.invariant s h st)
@@ -28,11 +27,11 @@ loop-c-preserved c = λ s h st.
 pub returns-clause-picks : goal.returns-clause-picks
 returns-clause-picks c = λ s h st.
     let q = c.args.q in
-    picks_load s h q [] s.chunks c.loop-c.best c.chunk_in.result refl (c.loop-c.invariant s h st
-    ∙ best_end chunk_with ratio_of is_greater (is_target s h q) (load_ratio s h q) c.loop-c.from s.chunks (λ y from. sym (c.targets-targets.ensures s h st y) ∙ c.in_default.ensures.none y from) (λ y t. target_inside s h q y t)) c.chunk_in.ensures
+    picks_load s h q [] s.chunks c.loop-c.best c.chunk_in.result refl (load_settled q c.loop-c.from c.most_gain-most.result c.targets-targets.result s h c.loop-c.best (c.targets-targets.ensures s h st) c.in_default.ensures.none
+    (λ y. c.most_gain-most.ensures c.args.book.now s h q y st (c.sharing-sharing.ensures s h st)) (c.loop-c.invariant s h st)) c.chunk_in.ensures
 
 pub returns-clause-first : goal.returns-clause-first
 returns-clause-first c = λ s h st.
     let q = c.args.q in
-    first_load s h q s.chunks c.loop-c.best c.chunk_in.result refl (c.loop-c.invariant s h st
-    ∙ best_end chunk_with ratio_of is_greater (is_target s h q) (load_ratio s h q) c.loop-c.from s.chunks (λ y from. sym (c.targets-targets.ensures s h st y) ∙ c.in_default.ensures.none y from) (λ y t. target_inside s h q y t)) c.chunk_in.ensures
+    first_load s h q s.chunks c.loop-c.best c.chunk_in.result refl (load_settled q c.loop-c.from c.most_gain-most.result c.targets-targets.result s h c.loop-c.best (c.targets-targets.ensures s h st) c.in_default.ensures.none
+    (λ y. c.most_gain-most.ensures c.args.book.now s h q y st (c.sharing-sharing.ensures s h st)) (c.loop-c.invariant s h st)) c.chunk_in.ensures
