@@ -1,8 +1,8 @@
 -- The numbers whose bits are set in two lists of words.
-use Rattle.std.proofs.Common.{◌≡◌, ◌∙◌, ◌<◌, ◌/◌, ◌%◌, ◌==◌, ◌&&◌, ◌∷◌, [], ℕ, zero, suc, List, min, get_or, bit_and, refl, ap, arith, inl, inr}
+use Rattle.std.proofs.Common.{◌≡◌, ◌∙◌, ◌<◌, ◌/◌, ◌%◌, ◌==◌, ◌&&◌, ◌||◌, ◌∷◌, [], ℕ, zero, suc, List, min, max, get_or, bit_and, bit_or, refl, ap, arith, inl, inr}
 use Rattle.std.proofs.lemmas.Bool.{cases_lt, lt-ltb, le-ltb}
 use Rattle.std.proofs.lemmas.Bool.Decides.{nat_tests}
-use Rattle.std.proofs.lemmas.Nat.Bits.{bit_at_and, bit_at-lt}
+use Rattle.std.proofs.lemmas.Nat.Bits.{bit_at_and, bit_at_or, bit_at-lt}
 use Rattle.std.specs.Int.{bit_at}
 use Rattle.std.specs.Int.Bits.{and_zero_l}
 use Rattle.std.proofs.lemmas.Nat.{and_le_l}
@@ -19,6 +19,16 @@ bit_both a b w x is =
     let m = get_or a (x / 64) 0 in
     let n = get_or b (x / 64) 0 in
     ap (λ (k : ℕ). bit_at k i == 1) is ∙ (ap (λ (k : ℕ). k == 1) (bit_at_and m n i) ∙ one_of (bit_at m i) (bit_at n i) (bit_at-lt m i) (bit_at-lt n i))
+
+some_of : (u v : ℕ) → u < 2 → v < 2 → (max u v == 1) ≡ (u == 1 || v == 1)
+some_of u v a b = grind (arith, nat_tests, a, b)
+
+bit_either : (a b w : List ℕ) (x : ℕ) → get_or w (x / 64) 0 ≡ bit_or (get_or a (x / 64) 0) (get_or b (x / 64) 0) → bit_of w x ≡ (bit_of a x || bit_of b x)
+bit_either a b w x is =
+    let i = x % 64 in
+    let m = get_or a (x / 64) 0 in
+    let n = get_or b (x / 64) 0 in
+    ap (λ (k : ℕ). bit_at k i == 1) is ∙ (ap (λ (k : ℕ). k == 1) (bit_at_or m n i) ∙ some_of (bit_at m i) (bit_at n i) (bit_at-lt m i) (bit_at-lt n i))
 
 pub below_both : (a b n : ℕ) → a < n → bit_and a b < n
 below_both a b n lt = let le = and_le_l a b in omega (arith, le, lt)
@@ -45,5 +55,12 @@ pub has_both : (a b w : List ℕ) (x : ℕ) → ((j : ℕ) → j < 5 → get_or 
     → has (numbers_below (bit_of w) 320) x ≡ (has (numbers_below (bit_of a) 320) x && has (numbers_below (bit_of b) 320) x)
 has_both a b w x each = elim (cases_lt x 320) [
   | inl lt ↦ rw (has-numbers (bit_of w) 320 x, has-numbers (bit_of a) 320 x, has-numbers (bit_of b) 320 x, lt-ltb x 320 lt) (bit_both a b w x (each (x / 64) (omega (arith, lt))))
+  | inr ge ↦ rw (has-numbers (bit_of w) 320 x, has-numbers (bit_of a) 320 x, has-numbers (bit_of b) 320 x, le-ltb x 320 ge) refl
+]
+
+pub has_either : (a b w : List ℕ) (x : ℕ) → ((j : ℕ) → j < 5 → get_or w j 0 ≡ bit_or (get_or a j 0) (get_or b j 0))
+    → has (numbers_below (bit_of w) 320) x ≡ (has (numbers_below (bit_of a) 320) x || has (numbers_below (bit_of b) 320) x)
+has_either a b w x each = elim (cases_lt x 320) [
+  | inl lt ↦ rw (has-numbers (bit_of w) 320 x, has-numbers (bit_of a) 320 x, has-numbers (bit_of b) 320 x, lt-ltb x 320 lt) (bit_either a b w x (each (x / 64) (omega (arith, lt))))
   | inr ge ↦ rw (has-numbers (bit_of w) 320 x, has-numbers (bit_of a) 320 x, has-numbers (bit_of b) 320 x, le-ltb x 320 ge) refl
 ]

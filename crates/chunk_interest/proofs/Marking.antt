@@ -132,11 +132,12 @@ marks_follow ks q c new m n there nobody near f are = record {
   active = one_marked is_active ks q new m.active n.active there are.active f.active;
   starved = one_marked is_starved ks q new m.starved n.starved there are.starved f.starved;
   near = one_marked is_near ks q new m.near n.near there are.near f.near;
+  over = one_marked is_over ks q new m.over n.over there are.over f.over;
 }
 
 -- before the first entry
-pub marks_begin : (ks : List Client) (m : Marks) → length ks ≡ 257 → ((q : ℕ) → is_active (client_at ks q) ≡ false) → ((q : ℕ) → (client_at ks q).available ≡ []) → BeginsMarks ks m → AreMarks ks m
-marks_begin ks m many none empty begins = record {
+pub marks_begin : (ks : List Client) (m : Marks) → length ks ≡ 257 → ((q : ℕ) → is_active (client_at ks q) ≡ false) → ((q : ℕ) → is_over (client_at ks q) ≡ false) → ((q : ℕ) → (client_at ks q).available ≡ []) → BeginsMarks ks m → AreMarks ks m
+marks_begin ks m many none goes empty begins = record {
   clients = many;
   nobody = none 0;
   needing_size = begins.needing_size;
@@ -146,6 +147,7 @@ marks_begin ks m many none empty begins = record {
   active = λ q. ap (λ (xs : List ℕ). has xs q) begins.active ∙ sym (none q);
   starved = λ q. ap (λ (xs : List ℕ). has xs q) begins.starved ∙ sym (rw (none q) refl);
   near = λ q. ap (λ (xs : List ℕ). has xs q) begins.near ∙ sym (rw (none q) refl);
+  over = λ q. ap (λ (xs : List ℕ). has xs q) begins.over ∙ sym (goes q);
 }
 
 -- What is counted by marks

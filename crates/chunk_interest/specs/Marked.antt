@@ -48,6 +48,11 @@ pub record AreMarks (ks : List Client) (m : Marks) : Type 0 where
   pub active : (q : ℕ) → has m.active q ≡ is_active (client_at ks q)
   pub starved : (q : ℕ) → has m.starved q ≡ is_starved (client_at ks q)
   pub near : (q : ℕ) → has m.near q ≡ is_near (client_at ks q)
+  pub over : (q : ℕ) → has m.over q ≡ is_over (client_at ks q)
+
+-- the clients of which a look at chunk c may change something are among these
+abbrev pub AreConcerned : List Client → ℕ → List ℕ → Type 0
+AreConcerned ks c these = (q : ℕ) → has these q ≡ false → (has (client_at ks q).remaining c ≡ false) × (has (client_at ks q).available c ≡ false)
 
 -- Changes
 
@@ -64,8 +69,9 @@ pub record Follows (q c : ℕ) (k : Client) (m n : Marks) : Type 0 where
   pub active : (r : ℕ) → has n.active r ≡ (if r == q then is_active k else has m.active r)
   pub starved : (r : ℕ) → has n.starved r ≡ (if r == q then is_starved k else has m.starved r)
   pub near : (r : ℕ) → has n.near r ≡ (if r == q then is_near k else has m.near r)
+  pub over : (r : ℕ) → has n.over r ≡ (if r == q then is_over k else has m.over r)
 
--- the marks of clients of which none is active and to none of which a chunk is available
+-- the marks of clients of which none is active or over and to none of which a chunk is available
 pub record BeginsMarks (ks : List Client) (m : Marks) : Type 0 where
   pub needing_size : length m.needing.items ≡ 1024
   pub having_size : length m.having.items ≡ 1024
@@ -74,3 +80,4 @@ pub record BeginsMarks (ks : List Client) (m : Marks) : Type 0 where
   pub active : m.active ≡ []
   pub starved : m.starved ≡ []
   pub near : m.near ≡ []
+  pub over : m.over ≡ []

@@ -170,6 +170,13 @@ impl Client {
         matches!(self.phase, Phase::Active)
     }
 
+    /// Whether it ended or was stopped.
+    pub fn is_over(&self) -> bool
+        ensures { result ≡ is_over self.now }
+    {
+        matches!(self.phase, Phase::Ended | Phase::Stopped)
+    }
+
     /// Whether it is active, with fewer than two chunks available.
     pub fn is_starved(&self) -> bool
         ensures { result ≡ is_starved self.now }
@@ -193,16 +200,22 @@ impl Client {
         self.remaining.has(c) && buffer.missing_for(&self.reads, c) == 0
     }
 
-    /// Looks up anew whether the chunk is available.
-    pub fn renew(&mut self, buffer: &Buffer, c: u32)
+    /// Looks up anew whether the chunk is available, and answers whether that has changed.
+    pub fn renew(&mut self, buffer: &Buffer, c: u32) -> bool
         requires { c < 1024 }
-        ensures { IsRenewed buffer.now.places.items buffer.now.groups c self.old self.new }
+        ensures renewed { IsRenewed buffer.now.places.items buffer.now.groups c self.old self.new }
+        ensures same { result ≡ false → self.new ≡ self.old }
     {
-        if self.can_take(buffer, c) {
+        let is = self.can_take(buffer, c);
+        if is == self.available.has(c) {
+            return false;
+        }
+        if is {
             self.available.insert(c);
         } else {
             self.available.remove(c);
         }
+        true
     }
 
     /// How many chunks it needs.

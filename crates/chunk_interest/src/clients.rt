@@ -9,7 +9,7 @@ ghost use Rattle.chunk_interest.specs.Clients.{AreClients, AreReady, client_at};
 ghost use Rattle.chunk_interest.specs.Counts.{is_active_in, is_starved_in, needs_in, is_interested_in, is_starved_for, is_close_in, overlaps_by, starved_overlaps_by, feeds_in};
 ghost use Rattle.chunk_interest.specs.Fresh.{AreFresh};
 ghost use Rattle.chunk_interest.specs.Renewed.{IsRenewed};
-ghost use Rattle.chunk_interest.specs.Marked.{IsNear, is_active, is_over};
+ghost use Rattle.chunk_interest.specs.Marked.{AreConcerned, IsNear, is_active, is_over};
 
 use crate::buffer::Buffer;
 use crate::client::Client;
@@ -181,6 +181,16 @@ impl Clients {
         self.put(q, client, 0);
     }
 
+    // The queries that need the chunk or have it available, and those that are over.
+    fn concerned(&self, c: u32) -> QuerySet
+        requires chunk { c < 1024 }
+        ensures { AreConcerned self.now c result }
+    {
+        self.marks.needing[c as usize]
+            .either(&self.marks.having[c as usize])
+            .either(&self.marks.over)
+    }
+
     // Looks up anew for one query whether the chunk is available.
     fn renew_at(&mut self, q: u32, buffer: &Buffer, c: u32)
         requires there { q < length self.old }
@@ -190,11 +200,9 @@ impl Clients {
             (client_at self.new q) }
         ensures others { (r : ℕ) → r ≢ q → client_at self.new r ≡ client_at self.old r }
     {
-        let client = self.of(q);
-        if client.can_take(buffer, c) != client.available.has(c) {
-            let mut new = client.copy();
-            new.renew(buffer, c);
-            self.put(q, new, c);
+        let client = &mut self.list[q as usize];
+        if client.renew(buffer, c) {
+            follow(&mut self.marks, q, client, c);
         }
     }
 
@@ -206,8 +214,11 @@ impl Clients {
         ensures each { (q : ℕ) → q < length self.old
             → IsRenewed buffer.now.places.items buffer.now.groups c (client_at self.old q) (client_at self.new q) }
     {
+        let concerned = self.concerned(c);
         for q in 0..257 {
-            self.renew_at(q, buffer, c);
+            if concerned.has(q) {
+                self.renew_at(q, buffer, c);
+            }
         }
     }
 

@@ -22,6 +22,8 @@ pub struct Marks {
     pub starved: QuerySet,
     /// Active queries with at most two available chunks.
     pub near: QuerySet,
+    /// Queries that ended or were stopped.
+    pub over: QuerySet,
 }
 
 // The queries that need the chunk.
@@ -76,6 +78,7 @@ impl Marks {
             active: QuerySet::empty(),
             starved: QuerySet::empty(),
             near: QuerySet::empty(),
+            over: QuerySet::empty(),
         })
     }
 }
@@ -103,6 +106,7 @@ pub fn follow(marks: &mut Marks, q: u32, client: &Client, c: u32)
     marks.active.put(q, client.is_active());
     marks.starved.put(q, client.is_starved());
     marks.near.put(q, client.is_near());
+    marks.over.put(q, client.is_over());
     mark(&mut marks.needing, c, q, client.remaining.has(c));
     mark(&mut marks.having, c, q, client.available.has(c));
 }

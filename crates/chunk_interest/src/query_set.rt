@@ -53,6 +53,24 @@ impl QuerySet {
         self.words[(q / 64) as usize] &= !(1 << (q % 64));
     }
 
+    /// Whether the number is a member.
+    pub fn has(&self, q: u32) -> bool
+        ensures { result ≡ has self.now q }
+    {
+        q < 320 && self.words[(q / 64) as usize] >> (q % 64) & 1 == 1
+    }
+
+    /// The numbers that are members of either.
+    pub fn either(&self, other: &QuerySet) -> QuerySet
+        ensures { (x : ℕ) → has result x ≡ (has self.now x || has other.now x) }
+    {
+        let mut words = [0; 5];
+        for i in 0..5 {
+            words[i] = self.words[i] | other.words[i];
+        }
+        QuerySet { words }
+    }
+
     /// The numbers that are members of both.
     pub fn both(&self, other: &QuerySet) -> QuerySet
         ensures { (x : ℕ) → has result x ≡ (has self.now x && has other.now x) }

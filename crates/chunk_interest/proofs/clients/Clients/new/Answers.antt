@@ -4,7 +4,7 @@ use Rattle.std.proofs.lemmas.List.{with_items_is, get_or_past}
 use Rattle.chunk_interest.specs.declared.client.Client.{Client}
 use Rattle.chunk_interest.specs.Clients.{client_at, vacant, is_active_phase}
 use Rattle.chunk_interest.specs.Fresh.{AreFresh}
-use Rattle.chunk_interest.specs.Marked.{is_active, AreMarks, BeginsMarks}
+use Rattle.chunk_interest.specs.Marked.{is_active, is_over, is_over_phase, AreMarks, BeginsMarks}
 use Rattle.chunk_interest.proofs.Marking.{marks_begin}
 use Rattle.chunk_interest.proofs.clients.Clients.new.Goals as goal
 
@@ -24,12 +24,16 @@ invariant_of-result c =
       | inl lt ↦ ap is_active_phase (c.take_needs.ensures.each q (omega (arith, lt, before))).phase
       | inr le ↦ ap is_active (get_or_past ks q vacant (omega (arith, le, size)))
     ] in
+    let goes : (q : ℕ) → is_over (client_at ks q) ≡ false = λ q. elim (cases_lt q 257) [
+      | inl lt ↦ ap is_over_phase (c.take_needs.ensures.each q (omega (arith, lt, before))).phase
+      | inr le ↦ ap is_over (get_or_past ks q vacant (omega (arith, le, size)))
+    ] in
     let empty : (q : ℕ) → (client_at ks q).available ≡ [] = λ q. elim (cases_lt q 257) [
       | inl lt ↦ (c.take_needs.ensures.each q (omega (arith, lt, before))).available
       | inr le ↦ ap (λ (k : Client). k.available) (get_or_past ks q vacant (omega (arith, le, size)))
     ] in
     subst (λ (vs : List Client). AreMarks vs c.in_ok-marks.marks) (sym written)
-    (marks_begin ks c.in_ok-marks.marks size none empty (subst (λ (vs : List Client). BeginsMarks vs c.in_ok-marks.marks) (c.deref.ensures.value ∙ written) c.in_ok-marks.ensures))
+    (marks_begin ks c.in_ok-marks.marks size none goes empty (subst (λ (vs : List Client). BeginsMarks vs c.in_ok-marks.marks) (c.deref.ensures.value ∙ written) c.in_ok-marks.ensures))
 
 pub returns-clause-each : goal.returns-clause-each
 returns-clause-each c =
