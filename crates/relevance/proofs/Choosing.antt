@@ -1,13 +1,14 @@
 -- The best of the numbers below a bound is a best one.
-use Rattle.std.proofs.Common.{◌≡◌, ◌<◌, ◌≤◌, ◌+◌, ◌*◌, ◌≤ℤ◌, ℕ, zero, suc, ℤ, Bool, true, false, if◌then◌else◌, Option, None, Some, IfSome, nat_lt, int_lt, add-one, refl, sym, ◌∙◌, ap, subst, arith, inl, inr}
+use Rattle.std.proofs.Common.{◌≡◌, ◌<◌, ◌≤◌, ◌+◌, ◌*◌, ◌==◌, ◌≤ℤ◌, ℕ, zero, suc, ℤ, Bool, true, false, if◌then◌else◌, Option, None, Some, IfSome, nat_lt, int_lt, add-one, refl, sym, ◌∙◌, ap, subst, arith, inl, inr}
 use Rattle.std.proofs.lemmas.Bool.{cases_Bool, cases_eq, cases_lt}
 use Rattle.std.proofs.lemmas.Bool.Decides.{nat_tests}
 use Rattle.std.proofs.lemmas.Int.{ints}
 use Rattle.std.proofs.Math.Nat.{mul-le-mul, mul-le-mul_right, le_of_mul-le-mul_right, mul_right_comm}
 use Rattle.scan_story.specs.declared.ratio.Ratio.{Ratio}
 use Rattle.scan_story.specs.Ratios.{IsAtMost}
+use Rattle.chunk_interest.proofs.Below.{same_number}
 use Rattle.relevance.specs.declared.best.BestChunk.{BestChunk}
-use Rattle.relevance.specs.Best.{better_of, best_below, chunk_with, greater_of, greatest_below, may_exceed, is_greater, is_less, is_higher, IsFirstBest}
+use Rattle.relevance.specs.Best.{better_of, best_below, chunk_with, greater_of, lesser_of, may_exceed, is_least, is_greater, is_less, is_higher, IsFirstBest}
 
 -- what beats is better, and ranks go on through candidates
 pub record IsOrder {K : Type 0} (beats : K → K → Bool) (AtMost : K → K → Type 0) (test : ℕ → Bool) (rank : ℕ → K) : Type 0 where
@@ -183,29 +184,27 @@ no_greater (Some b) c r some e = sym (ap (λ (t : Bool). if t then Some (chunk_w
         let more : x * 1 ≤ x * d = mul-le-mul itself one in
         beyond x y (x * d) (omega (arith, more)) e
 
--- what may be a best load: a ratio over one or more, whose number is at most so great
-abbrev pub IsWithin : ℕ → Ratio → Type 0
-IsWithin most r = (0 < r.den) × (r.num ≤ most)
-
--- where none may exceed the best so far, it stays
-settled : (test : ℕ → Bool) (ratio : ℕ → Ratio) (a n most : ℕ) (best : Option BestChunk) → a ≤ n → may_exceed most best ≡ false → ((y : ℕ) → test y ≡ true → IsWithin most (ratio y)) → best ≡ greatest_below test ratio a
-    → best ≡ greatest_below test ratio n
-settled test ratio a zero most best le over within is = let at : a ≡ zero = omega (arith, le) in is ∙ ap (greatest_below test ratio) at
-settled test ratio a (suc n) most best le over within is = elim (cases_eq a (suc n)) [
-  | inl at ↦ is ∙ ap (greatest_below test ratio) at
-  | inr ne ↦ at_last (test n) refl (settled test ratio a n most best (omega (arith, le, ne)) over within is)
-]
+-- no ratio whose number is at most so great is greater where that number may not exceed
+pub no_more : (best : Option BestChunk) (c most : ℕ) (r : Ratio) → 0 < r.den → r.num ≤ most → may_exceed most best ≡ false → best ≡ greater_of best c r
+no_more best c most r some le e = no_greater best c r some (within best r.num le e)
   where
-    no_more : (o : Option BestChunk) (x : ℕ) → x ≤ most → may_exceed most o ≡ false → may_exceed x o ≡ false
-    no_more None x le e = absurd (true_false true refl e)
-    no_more (Some b) x le e = let more : x * b.ratio.den ≤ most * b.ratio.den = mul-le-mul_right b.ratio.den le in beyond b.ratio.num (most * b.ratio.den) (x * b.ratio.den) more e
+    within : (o : Option BestChunk) (x : ℕ) → x ≤ most → may_exceed most o ≡ false → may_exceed x o ≡ false
+    within None x le e = absurd (true_false true refl e)
+    within (Some b) x le e = let more : x * b.ratio.den ≤ most * b.ratio.den = mul-le-mul_right b.ratio.den le in beyond b.ratio.num (most * b.ratio.den) (x * b.ratio.den) more e
       where
         beyond : (k y z : ℕ) → z ≤ y → nat_lt k y ≡ false → nat_lt k z ≡ false
         beyond k y z le e = grind (arith, nat_tests)
 
-    at_last : (t : Bool) → test n ≡ t → best ≡ greatest_below test ratio n → best ≡ (if t then greater_of (greatest_below test ratio n) n (ratio n) else greatest_below test ratio n)
-    at_last true t e = no_greater best n (ratio n) (within n t).0 (no_more best (ratio n).num (within n t).1 over) ∙ ap (λ o. greater_of o n (ratio n)) e
-    at_last false t e = e
+-- no ratio is less than one of the number 0
+pub no_less : (best : Option BestChunk) (c : ℕ) (r : Ratio) → is_least best ≡ true → best ≡ lesser_of best c r
+no_less None c r e = absurd (true_false false e refl)
+no_less (Some b) c r e = sym (ap (λ (t : Bool). if t then Some (chunk_with c r) else Some b) (never b.ratio.num (r.num * b.ratio.den) r.den e))
+  where
+    never : (x y d : ℕ) → (x == 0) ≡ true → nat_lt y (x * d) ≡ false
+    never x y d e = let none : x ≡ 0 = same_number x 0 e in let product : x * d ≡ 0 * d = ap (λ (k : ℕ). k * d) none in below_none y (x * d) (omega (arith, product))
+      where
+        below_none : (y z : ℕ) → z ≡ 0 → nat_lt y z ≡ false
+        below_none y z e = grind (arith, nat_tests)
 
 -- Ranks
 
@@ -281,21 +280,30 @@ best_end made key beats test rank a n none bound = elim (cases_lt a n) [
       | inr not ↦ not
     ]
 
--- none passes from a on, or none may exceed the best so far
-pub settled_end : (test : ℕ → Bool) (ratio : ℕ → Ratio) (a n most : ℕ) (best : Option BestChunk) → (may_exceed most best ≡ true → (y : ℕ) → a ≤ y → test y ≡ false) → ((y : ℕ) → test y ≡ true → y < n)
-    → ((y : ℕ) → test y ≡ true → IsWithin most (ratio y)) → best ≡ greatest_below test ratio a → best ≡ greatest_below test ratio n
-settled_end test ratio a n most best none bound within is = elim (cases_Bool (may_exceed most best)) [
-  | inl so ↦ is ∙ best_end chunk_with (λ b. b.ratio) is_greater test ratio a n (none so) bound
-  | inr over ↦ elim (cases_lt n a) [
-    | inl lt ↦ is ∙ best_past chunk_with (λ b. b.ratio) is_greater test ratio n a (omega (arith, lt)) (λ y from _. beyond y from)
-    | inr not ↦ settled test ratio a n most best (omega (arith, not)) over within is
-  ]
+-- none passes from a on, or none changes the best so far
+pub settled : {B K : Type 0} (made : ℕ → K → B) (key : B → K) (beats : K → K → Bool) (test : ℕ → Bool) (rank : ℕ → K) (a n : ℕ) (over : Bool) (best : Option B) → (over ≡ false → (y : ℕ) → a ≤ y → test y ≡ false)
+    → ((y : ℕ) → test y ≡ true → y < n) → (over ≡ true → (y : ℕ) → test y ≡ true → best ≡ better_of made key beats best y (rank y)) → best ≡ best_below made key beats test rank a → best ≡ best_below made key beats test rank n
+settled {B} made key beats test rank a n false best none bound stays is = is ∙ best_end made key beats test rank a n (none refl) bound
+settled {B} made key beats test rank a n true best none bound stays is = elim (cases_lt n a) [
+  | inl lt ↦ is ∙ best_past made key beats test rank n a (omega (arith, lt)) (λ y from _. beyond y from)
+  | inr not ↦ on n (omega (arith, not))
 ]
   where
     beyond : (y : ℕ) → n ≤ y → test y ≡ false
     beyond y from = elim (cases_Bool (test y)) [
       | inl so ↦ absurd (let low = bound y so in omega (arith, from, low))
       | inr not ↦ not
+    ]
+
+    at_last : (m : ℕ) (t : Bool) → test m ≡ t → best ≡ best_below made key beats test rank m → best ≡ (if t then better_of made key beats (best_below made key beats test rank m) m (rank m) else best_below made key beats test rank m)
+    at_last m true t e = stays refl m t ∙ ap (λ (o : Option B). better_of made key beats o m (rank m)) e
+    at_last m false t e = e
+
+    on : (m : ℕ) → a ≤ m → best ≡ best_below made key beats test rank m
+    on zero le = let at : a ≡ zero = omega (arith, le) in is ∙ ap (best_below made key beats test rank) at
+    on (suc m) le = elim (cases_eq a (suc m)) [
+      | inl at ↦ is ∙ ap (best_below made key beats test rank) at
+      | inr ne ↦ at_last m (test m) refl (on m (omega (arith, le, ne)))
     ]
 
 pub small_product : (a b : ℕ) → a ≤ 256 → b < 4294967296 → a * b ≤ 1099511627776

@@ -25,9 +25,9 @@ use Rattle.interest_book.proofs.Inside.{ready_inside}
 use Rattle.interest_book.proofs.Shown.{active_is}
 use Rattle.relevance.specs.declared.best.BestChunk.{BestChunk}
 use Rattle.relevance.specs.declared.best.BestQuery.{BestQuery}
-use Rattle.relevance.specs.Best.{best_below, chunk_with, ratio_of, query_with, rank_of, greatest_below, least_below, highest_below, may_exceed, is_greater, is_less, is_higher, chunk_in, query_in, IsFirstBest}
+use Rattle.relevance.specs.Best.{best_below, chunk_with, ratio_of, query_with, rank_of, greatest_below, least_below, highest_below, may_exceed, is_least, is_greater, is_less, is_higher, chunk_in, query_in, IsFirstBest}
 use Rattle.relevance.specs.Picks.{PicksQuery, PicksLoad, PicksDelivery, PicksVictim, HasActive}
-use Rattle.relevance.proofs.Choosing.{IsOrder, IsBestBelow, best_is, first_of, greater_order, less_order, rank_order, settled_end}
+use Rattle.relevance.proofs.Choosing.{IsOrder, IsBestBelow, best_is, first_of, greater_order, less_order, rank_order, no_more, no_less, settled}
 
 -- Candidates are within their bounds
 
@@ -198,9 +198,20 @@ pub first_victim : (s : Setting) (h : History) (n : ℕ) (best : Option BestChun
 first_victim s h n best r all is e =
     first_chunk is_less (λ a b. IsAtMost b a) (is_victim s h) (keep_ratio s h) s.chunks n best r (less_order (is_victim s h) (keep_ratio s h) (λ y t. victim_cached s h y t)) (λ y t. victim_inside s h y t) all is e
 
--- the best of the targets tried, where none is left or none may exceed it
-pub load_settled : (q a most : ℕ) (targets : List ℕ) (s : Setting) (h : History) (best : Option BestChunk) → ((c : ℕ) → has targets c ≡ is_target s h q c)
-    → (may_exceed most best ≡ true → (c : ℕ) → a ≤ c → has targets c ≡ false) → ((c : ℕ) → (load_ratio s h q c).num ≤ most) → best ≡ greatest_below (is_target s h q) (load_ratio s h q) a
+-- the best of the targets that were tried, where none is left or none may exceed it
+pub load_settled : (q a most : ℕ) (targets : List ℕ) (s : Setting) (h : History) (may : Bool) (best : Option BestChunk) → ((c : ℕ) → has targets c ≡ is_target s h q c) → may ≡ may_exceed most best
+    → (not may ≡ false → (c : ℕ) → a ≤ c → has targets c ≡ false) → ((c : ℕ) → (load_ratio s h q c).num ≤ most) → best ≡ greatest_below (is_target s h q) (load_ratio s h q) a
     → best ≡ greatest_below (is_target s h q) (load_ratio s h q) s.chunks
-load_settled q a most targets s h best are none within is =
-    settled_end (is_target s h q) (load_ratio s h q) a s.chunks most best (λ e c from. sym (are c) ∙ none e c from) (λ c t. target_inside s h q c t) (λ c t. (target_misses s h q c t, within c)) is
+load_settled q a most targets s h may best are e none within is =
+    settled chunk_with ratio_of is_greater (is_target s h q) (load_ratio s h q) a s.chunks (not may) best (λ on c from. sym (are c) ∙ none on c from) (λ c t. target_inside s h q c t)
+    (λ over c t. no_more best c most (load_ratio s h q c) (target_misses s h q c t) (within c) (sym e ∙ denied may over)) is
+  where
+    denied : (b : Bool) → not b ≡ true → b ≡ false
+    denied true e = absurd (true_false false e refl)
+    denied false e = refl
+
+-- the best of the victims that were tried, where none is left or none is less
+pub victim_settled : (a : ℕ) (unheld : List ℕ) (s : Setting) (h : History) (over : Bool) (best : Option BestChunk) → ((c : ℕ) → has unheld c ≡ false → is_victim s h c ≡ false) → over ≡ is_least best → (over ≡ false → (c : ℕ) → a ≤ c → has unheld c ≡ false)
+    → best ≡ least_below (is_victim s h) (keep_ratio s h) a → best ≡ least_below (is_victim s h) (keep_ratio s h) s.chunks
+victim_settled a unheld s h over best are e none is =
+    settled chunk_with ratio_of is_less (is_victim s h) (keep_ratio s h) a s.chunks over best (λ on c from. are c (none on c from)) (λ c t. victim_inside s h c t) (λ so c t. no_less best c (keep_ratio s h c) (sym e ∙ so)) is

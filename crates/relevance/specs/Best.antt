@@ -1,5 +1,5 @@
 -- The best so far, going up the numbers: among equals the least number.
-use Rattle.std.specs.Prelude.{◌≡◌, ◌<◌, ◌*◌, ℕ, zero, suc, ℤ, Bool, true, false, Option, None, Some, nat_lt, int_lt, if◌then◌else◌}
+use Rattle.std.specs.Prelude.{◌≡◌, ◌<◌, ◌==◌, ◌*◌, ℕ, zero, suc, ℤ, Bool, true, false, Option, None, Some, nat_lt, int_lt, if◌then◌else◌}
 use Rattle.scan_story.specs.declared.ratio.Ratio.{Ratio}
 use Rattle.relevance.specs.declared.best.BestChunk.{BestChunk}
 use Rattle.relevance.specs.declared.best.BestQuery.{BestQuery}
@@ -51,6 +51,11 @@ least_below = best_below chunk_with ratio_of is_less
 abbrev pub may_exceed : ℕ → Option BestChunk → Bool
 may_exceed num None = true
 may_exceed num (Some b) = nat_lt b.ratio.num (num * b.ratio.den)
+
+-- the best has the number 0, so no ratio is less
+abbrev pub is_least : Option BestChunk → Bool
+is_least None = false
+is_least (Some b) = b.ratio.num == 0
 
 abbrev pub chunk_in : Option BestChunk → Option ℕ
 chunk_in None = None

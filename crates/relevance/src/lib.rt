@@ -18,6 +18,7 @@ mod policy;
 mod ranks;
 mod rated;
 mod relevance;
+mod search;
 mod victim;
 mod waiting;
 

@@ -9,9 +9,10 @@ ghost use Rattle.relevance.specs.Best.{IsFirstBest, is_higher, is_greater, is_le
 ghost use Rattle.relevance.specs.Picks.{PicksQuery, PicksLoad, PicksDelivery, PicksVictim, cursor_after_load, cursor_after_delivery, HasActive, HasNoneBegun};
 
 use crate::best::{chunk_in, greater_of, higher_of, lesser_of, query_in};
-use crate::loads::{gaining_more, next_target};
+use crate::loads::gaining_more;
 use crate::policy::Policy;
 use crate::ranks::{keep_ratio, most_gain, query_rank, use_ratio};
+use crate::search::{is_least, may_exceed, next_chunk};
 use interest_book::Book;
 use scan_story::PolicyName;
 
@@ -60,7 +61,7 @@ impl Policy for Relevance {
         let most = most_gain(&sharing);
         let mut best = None;
         let mut from = 0;
-        while let Some(c) = next_target(&targets, from, most, best) {
+        while let Some(c) = next_chunk(&targets, from, !may_exceed(most, best)) {
             best = gaining_more(best, book, &sharing, q, c);
             from = c + 1;
         }
@@ -94,7 +95,7 @@ impl Policy for Relevance {
         let unheld = book.unheld();
         let mut best = None;
         let mut from = 0;
-        while let Some(c) = unheld.least_from(from) {
+        while let Some(c) = next_chunk(&unheld, from, is_least(best)) {
             if book.may_leave(c) {
                 best = lesser_of(best, c, keep_ratio(book, c));
             }

@@ -27,11 +27,11 @@ loop-c-preserved c = λ s h st.
 pub returns-clause-picks : goal.returns-clause-picks
 returns-clause-picks c = λ s h st.
     let q = c.args.q in
-    picks_load s h q [] s.chunks c.loop-c.best c.chunk_in.result refl (load_settled q c.loop-c.from c.most_gain-most.result c.targets-targets.result s h c.loop-c.best (c.targets-targets.ensures s h st) c.in_default.ensures.none
+    picks_load s h q [] s.chunks c.loop-c.best c.chunk_in.result refl (load_settled q c.loop-c.from c.most_gain-most.result c.targets-targets.result s h c.may_exceed.result c.loop-c.best (c.targets-targets.ensures s h st) c.may_exceed.ensures c.in_default.ensures.none
     (λ y. c.most_gain-most.ensures c.args.book.now s h q y st (c.sharing-sharing.ensures s h st)) (c.loop-c.invariant s h st)) c.chunk_in.ensures
 
 pub returns-clause-first : goal.returns-clause-first
 returns-clause-first c = λ s h st.
     let q = c.args.q in
-    first_load s h q s.chunks c.loop-c.best c.chunk_in.result refl (load_settled q c.loop-c.from c.most_gain-most.result c.targets-targets.result s h c.loop-c.best (c.targets-targets.ensures s h st) c.in_default.ensures.none
+    first_load s h q s.chunks c.loop-c.best c.chunk_in.result refl (load_settled q c.loop-c.from c.most_gain-most.result c.targets-targets.result s h c.may_exceed.result c.loop-c.best (c.targets-targets.ensures s h st) c.may_exceed.ensures c.in_default.ensures.none
     (λ y. c.most_gain-most.ensures c.args.book.now s h q y st (c.sharing-sharing.ensures s h st)) (c.loop-c.invariant s h st)) c.chunk_in.ensures

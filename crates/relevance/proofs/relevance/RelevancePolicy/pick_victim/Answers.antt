@@ -1,16 +1,15 @@
 use Rattle.std.proofs.Common.{[], refl, sym, ap, ◌∙◌}
 use Rattle.scan_story.specs.Ratios.{keep_ratio}
 use Rattle.scan_story.specs.MayFollow.{is_victim}
-use Rattle.chunk_interest.proofs.Kept.{victim_inside}
 use Rattle.relevance.specs.Best.{chunk_with, ratio_of, is_less, lesser_of}
-use Rattle.relevance.proofs.Choosing.{taken, passed, best_end}
-use Rattle.relevance.proofs.Chosen.{picks_victim, first_victim}
+use Rattle.relevance.proofs.Choosing.{taken, passed}
+use Rattle.relevance.proofs.Chosen.{picks_victim, first_victim, victim_settled}
 use Rattle.relevance.proofs.relevance.RelevancePolicy.pick_victim.Goals.{then-may_leave, else-may_leave}
 use Rattle.relevance.proofs.relevance.RelevancePolicy.pick_victim.Goals as goal
 
 pub loop-c-preserved : goal.loop-c-preserved
 loop-c-preserved c = λ s h st.
-    let next = c.in-Some.ensures.least in
+    let next = c.in-Some.ensures in
     let set = c.unheld-unheld.ensures in
     let is = c.may_leave.ensures s h st (set.unheld s h st c.in-Some.c c.in-Some.ensures.below next.there) in
     elim c.if-may_leave.branch [
@@ -22,10 +21,8 @@ loop-c-preserved c = λ s h st.
 
 pub returns-clause-picks : goal.returns-clause-picks
 returns-clause-picks c = λ s h st.
-    picks_victim s h [] s.chunks c.loop-c.best c.chunk_in.result refl (c.loop-c.invariant s h st
-    ∙ best_end chunk_with ratio_of is_less (is_victim s h) (keep_ratio s h) c.loop-c.from s.chunks (λ y from. c.unheld-unheld.ensures.victims s h st y (c.in_default.ensures.none y from)) (λ y t. victim_inside s h y t)) c.chunk_in.ensures
+    picks_victim s h [] s.chunks c.loop-c.best c.chunk_in.result refl (victim_settled c.loop-c.from c.unheld-unheld.result s h c.is_least.result c.loop-c.best (c.unheld-unheld.ensures.victims s h st) c.is_least.ensures c.in_default.ensures.none (c.loop-c.invariant s h st)) c.chunk_in.ensures
 
 pub returns-clause-first : goal.returns-clause-first
 returns-clause-first c = λ s h st.
-    first_victim s h s.chunks c.loop-c.best c.chunk_in.result refl (c.loop-c.invariant s h st
-    ∙ best_end chunk_with ratio_of is_less (is_victim s h) (keep_ratio s h) c.loop-c.from s.chunks (λ y from. c.unheld-unheld.ensures.victims s h st y (c.in_default.ensures.none y from)) (λ y t. victim_inside s h y t)) c.chunk_in.ensures
+    first_victim s h s.chunks c.loop-c.best c.chunk_in.result refl (victim_settled c.loop-c.from c.unheld-unheld.result s h c.is_least.result c.loop-c.best (c.unheld-unheld.ensures.victims s h st) c.is_least.ensures c.in_default.ensures.none (c.loop-c.invariant s h st)) c.chunk_in.ensures
