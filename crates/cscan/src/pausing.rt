@@ -13,6 +13,9 @@ const FOR_EACH: u32 = 300;
 // The microseconds after which a sleep for a load ends, whether or not it was rung for.
 const FOR_LOAD: u32 = 10_000;
 
+// More than there are queries.
+const EVERYBODY: u32 = 257;
+
 // Of how many active queries one may be a chunk further ahead.
 const QUERIES_PER_CHUNK: u32 = 8;
 
@@ -75,11 +78,11 @@ impl Patience {
             self.pause = Pause::for_load(bell, worker, query);
             return true;
         }
-        if self.is_over || others_with(book, query, far(book)) == 0 {
+        if self.is_over || others_with(book, query, far(book), 1) == 0 {
             return false;
         }
         self.is_over = true;
-        let others = others_with(book, query, 1);
+        let others = others_with(book, query, 1, EVERYBODY);
         self.pause = Pause::for_others(bell, worker, query, others);
         true
     }
@@ -102,17 +105,17 @@ fn far(book: &Book) -> u32 {
 
 /// Whether another query is so far behind that who sleeps had better not load yet.
 pub(crate) fn somebody_lags(book: &Book, query: u32) -> bool {
-    others_with(book, query, far(book) / 2 + 1) > 0
+    others_with(book, query, far(book) / 2 + 1, 1) > 0
 }
 
-// How many other queries have so many chunks to take.
-fn others_with(book: &Book, query: u32, chunks: u32) -> u32
+// How many other queries have so many chunks to take, counted up to `enough`.
+fn others_with(book: &Book, query: u32, chunks: u32, enough: u32) -> u32
     ensures { result ≤ 256 }
 {
     let mut found = 0;
     let mut left = book.running();
     for q in 1..257 {
-        if left == 0 {
+        if left == 0 || found >= enough {
             break;
         }
         if book.phase(q) == Phase::Active {
