@@ -17,7 +17,7 @@ const FOR_LOAD: u32 = 10_000;
 const EVERYBODY: u32 = 257;
 
 // Of how many active queries one may be a chunk further ahead.
-const QUERIES_PER_CHUNK: u32 = 8;
+const QUERIES_PER_CHUNK: u32 = 4;
 
 /// What a worker does before it turns again.
 #[derive(Clone, Copy)]
