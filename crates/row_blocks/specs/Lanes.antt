@@ -1,5 +1,5 @@
 -- A column of a block: for each of 64 rows a word and a null bit.
-use Rattle.std.specs.Prelude.{◌≡◌, ◌==◌, ◌%◌, ◌^◌, ℕ, Bool, [], if◌then◌else◌, slice_index_or}
+use Rattle.std.specs.Prelude.{◌==◌, ◌%◌, ◌^◌, ℕ, Bool, [], if◌then◌else◌, slice_index_or}
 use Rattle.std.specs.Int.{bit_at, cast_signed, w64}
 use Rattle.table_core.specs.declared.cell.Cell.{Cell}
 use Rattle.table_core.specs.declared.cell.Cell.TheVariants.{Null, Int, Code}

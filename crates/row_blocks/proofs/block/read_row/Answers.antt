@@ -22,5 +22,5 @@ loop-x-preserved c = λ x low.
 pub returns : goal.returns
 returns c =
     fill_by_all (λ x. lane_cell (lane_in c.args.lanes.now x) c.args.row) c.loop-x.cells (length c.args.cells.now) Null
-        (omega (arith, c.loop-x.auto.cells))
-        (λ x low. c.loop-x.invariant x (omega (arith, low, c.loop-x-test.false)))
+    (omega (arith, c.loop-x.auto.cells))
+    (λ x low. c.loop-x.invariant x (omega (arith, low, c.loop-x-test.false)))
