@@ -7,6 +7,8 @@
 #[cfg(test)]
 mod asked;
 #[cfg(test)]
+mod blocks;
+#[cfg(test)]
 mod conds;
 #[cfg(test)]
 mod damages;
