@@ -7,6 +7,7 @@ ghost use Rattle.baton.specs.Passes.{AgreesWith, IsFree, new_passes};
 
 use crate::bell::Bell;
 use crate::line::{Line, absorb, pop, push};
+use crate::lobby::Lobby;
 use crate::pass::Pass;
 use crate::rule::{Deals, Lays};
 use crate::view::View;
@@ -22,6 +23,7 @@ use std::sync::Wait;
 #[derive(Drop)]
 pub struct Baton<T: Storied + Drop> {
     line: Line<T>,
+    lobby: Lobby,
     bell: Bell,
 }
 
@@ -75,7 +77,7 @@ impl<T: Storied + Drop> Baton<T> {
         ensures mine { entries_by pass.old.number (T.story result) ≡ pass.old.mine }
         ensures pass { pass.new ≡ record pass.old { seen = T.story result; holding = true } }
     {
-        pop(rt, &self.line, &mut pass.seat)
+        pop(rt, &self.line, &self.lobby, &mut pass.seat)
     }
 
     /// Gives the state back, for which there is always room. The pass is holding.
@@ -95,6 +97,7 @@ impl<T: Storied + Drop> Baton<T> {
             → pass.new.mine ≡ pass.old.mine ++ added }
     {
         push(rt, &self.line, &mut pass.seat, state);
+        self.lobby.call();
     }
 
     /// The bell at which the workers of this baton wait for each other.
@@ -110,12 +113,16 @@ impl<T: Storied + Drop> Baton<T> {
         requires free { All (IsFree self) passes.items }
         ensures { All (AgreesWith (T.origin result) (T.story result)) passes.items }
     {
-        let Baton { line, bell: _ } = self;
+        let Baton {
+            line,
+            lobby,
+            bell: _,
+        } = self;
         let Some(last) = passes.pop() else {
             unreachable!()
         };
         let Pass { mut seat } = last;
-        let state = pop(rt, &line, &mut seat);
+        let state = pop(rt, &line, &lobby, &mut seat);
         while let Some(pass) = passes.pop() {
             let Pass { seat: other } = pass;
             absorb(&line, &mut seat, other);
@@ -141,6 +148,10 @@ fn deal<T: Storied + Drop>(
         let seat = line.another::<Deals>(&mut seat);
         passes.push_reserved(Pass { seat });
     }
-    let bell = Bell::new();
-    (Baton { line, bell }, passes)
+    let baton = Baton {
+        line,
+        lobby: Lobby::new(),
+        bell: Bell::new(),
+    };
+    (baton, passes)
 }

@@ -15,6 +15,7 @@ mod baton;
 mod bell;
 pub mod example;
 mod line;
+mod lobby;
 mod pass;
 mod place;
 pub mod rule;

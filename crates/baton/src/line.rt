@@ -1,11 +1,12 @@
 //! The steps on the queue.
-ghost use Rattle.std.specs.Prelude.{◌≡◌, true};
+ghost use Rattle.std.specs.Prelude.{◌≡◌, MatchOption, true};
 ghost use Rattle.crossbeam_queue.specs.Passes.{view, IsPassOf, ruled_capacity};
 ghost use Rattle.scan_story.specs.Makers.{Adds};
 ghost use Rattle.baton.specs.declared.view.Role.TheVariants.{Worker};
 ghost use Rattle.baton.specs.Shares.{Agrees};
 ghost use Rattle.baton.specs.Steps.{Took, Gave};
 
+use crate::lobby::Lobby;
 use crate::rule::{Absorbs, Gives, Rule, Takes};
 use crate::view::View;
 use crossbeam_queue::{Pass as Seat, RuledArrayQueue};
@@ -16,21 +17,71 @@ use std::sync::Wait;
 /// The queue that holds the state.
 pub(crate) type Line<T> = RuledArrayQueue<T, View, Rule>;
 
-// Takes the state, and waits until it is there.
-pub(crate) fn pop<T: Storied + Drop, R: Wait>(rt: &R, line: &Line<T>, seat: &mut Seat<T, View>) -> T
+// How often a worker looks for the state before it sleeps: for some microseconds, and then while others run.
+const LOOKS: u32 = 11;
+
+// Takes the state, and waits until it is there: first awake, then asleep.
+pub(crate) fn pop<T: Storied + Drop, R: Wait>(
+    rt: &R,
+    line: &Line<T>,
+    lobby: &Lobby,
+    seat: &mut Seat<T, View>,
+) -> T
     requires queue { IsPassOf line.now seat.old }
     requires role { (view seat.old).role ≡ Worker }
     ensures queue { IsPassOf line.now seat.new }
     ensures took { Took T.origin T.story (view seat.old) result (view seat.new) }
 {
-    let backoff = Backoff::new();
     for _ in rt.forever() {
-        match line.pop_as::<Takes, R>(rt, seat) {
-            Some(state) => return state,
-            None => backoff.snooze(),
+        if let Some(state) = look(rt, line, seat) {
+            return state;
+        }
+        if let Some(state) = look_and_sleep(rt, line, lobby, seat) {
+            return state;
         }
     }
     unreachable!()
+}
+
+// Takes the state where it is there now or soon.
+fn look<T: Storied + Drop, R: Wait>(rt: &R, line: &Line<T>, seat: &mut Seat<T, View>) -> Option<T>
+    requires queue { IsPassOf line.now seat.old }
+    requires role { (view seat.old).role ≡ Worker }
+    ensures queue { IsPassOf line.now seat.new }
+    ensures took { MatchOption result (view seat.new ≡ view seat.old)
+        (λ state. Took T.origin T.story (view seat.old) state (view seat.new)) }
+{
+    let backoff = Backoff::new();
+    for _ in 0..LOOKS {
+        match line.pop_as::<Takes, R>(rt, seat) {
+            Some(state) => return Some(state),
+            None => backoff.snooze(),
+        }
+    }
+    None
+}
+
+// Takes the state where it is there now, and else sleeps until a call.
+fn look_and_sleep<T: Storied + Drop, R: Wait>(
+    rt: &R,
+    line: &Line<T>,
+    lobby: &Lobby,
+    seat: &mut Seat<T, View>,
+) -> Option<T>
+    requires queue { IsPassOf line.now seat.old }
+    requires role { (view seat.old).role ≡ Worker }
+    ensures queue { IsPassOf line.now seat.new }
+    ensures took { MatchOption result (view seat.new ≡ view seat.old)
+        (λ state. Took T.origin T.story (view seat.old) state (view seat.new)) }
+{
+    let calls = lobby.enter();
+    match line.pop_as::<Takes, R>(rt, seat) {
+        Some(state) => Some(state),
+        None => {
+            lobby.sleep(rt, calls);
+            None
+        }
+    }
 }
 
 // Gives the state back. There is always room.

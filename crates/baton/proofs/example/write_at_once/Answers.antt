@@ -1,4 +1,4 @@
-use Rattle.std.proofs.Common.{◌≡◌, ◌∙◌, All, arith, sym, subst}
+use Rattle.std.proofs.Common.{◌∙◌, All, arith, sym, subst}
 use Rattle.std.proofs.lemmas.List.{with_items_is}
 use Rattle.baton.specs.Diaries.{IsDone, IsReady}
 use Rattle.baton.proofs.Writers.{done_all, left_free, left_notes}
