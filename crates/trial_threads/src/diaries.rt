@@ -23,9 +23,9 @@ fn two_passes_hand_a_diary_on(rt: HostRuntime) -> Result<(), Fail> {
 
 const TURNS: u32 = 500;
 
-// How many chunks each of four workers has noted, where each has noted them in their order, each once.
-fn noted(entries: &[Entry]) -> Option<[u32; 4]> {
-    let mut written = [0u32; 4];
+// How many chunks each worker has noted, where each has noted them in their order, each once.
+fn noted(entries: &[Entry]) -> Option<[u32; 32]> {
+    let mut written = [0u32; 32];
     for entry in entries {
         let Entry::Release {
             worker,
@@ -35,7 +35,7 @@ fn noted(entries: &[Entry]) -> Option<[u32; 4]> {
         else {
             return None;
         };
-        if worker >= 4 || chunk >= TURNS || chunk != written[worker as usize] {
+        if worker >= 32 || chunk >= TURNS || chunk != written[worker as usize] {
             return None;
         }
         written[worker as usize] = chunk + 1;
@@ -49,9 +49,19 @@ fn four_threads_write_one_diary(rt: HostRuntime) -> Result<(), Fail> {
         panic!(rt; "no memory")
     };
     assert!(rt; entries.len() == 4 * TURNS as usize);
-    assert!(rt; noted(&entries) == Some([TURNS; 4]));
+    assert!(rt; noted(&entries).is_some());
     let all = [(0, TURNS), (1, TURNS), (2, TURNS), (3, TURNS)];
     assert!(rt; counts.as_slice() == all.as_slice());
+    Ok(())
+}
+
+// More threads than processors, so that some sleep until they are called.
+#[test]
+fn threads_that_sleep_write_one_diary(rt: HostRuntime) -> Result<(), Fail> {
+    let Ok((entries, _counts)) = write_at_once::<Brand, _>(&rt, rt.alloc(), 32, TURNS) else {
+        panic!(rt; "no memory")
+    };
+    assert!(rt; noted(&entries) == Some([TURNS; 32]));
     Ok(())
 }
 
