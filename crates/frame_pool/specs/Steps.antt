@@ -1,5 +1,5 @@
 -- What each atomic step on the pool's table tells the berth that made it.
-use Rattle.std.specs.Prelude.{◌≡◌, ◌≢◌, ℕ, ◌-◌, ◌^◌, ◌<◌, List, [], ◌∷◌, length, slice_index, slice_get, Some, None, IsSome}
+use Rattle.std.specs.Prelude.{◌≡◌, ◌≢◌, ℕ, ◌+◌, ◌-◌, ◌*◌, ◌^◌, ◌<◌, List, [], ◌∷◌, length, slice_index, slice_get, Some, None, IsSome}
 use Rattle.atomic_table.specs.Table.{Me, Step}
 use Rattle.frame_core.specs.declared.step.Step as frame
 use Rattle.frame_core.specs.declared.step.Step.TheVariants.{Take, Release, Mark, Claim, Put, Publish, Abandon, Read}
@@ -90,6 +90,10 @@ wrote st m found m' =
 abbrev pub IsWordOf : Told → List Pin → ℕ → ℕ → ℕ → Type 0
 IsWordOf None pins f i x = Unit {0}
 IsWordOf (Some pieces) pins f i x = (p : ℕ) → pinned f pins ≡ Some p → (ws : List ℕ) × (slice_get pieces p ≡ Some ws) × (i < length ws → x ≡ slice_index ws i)
+
+-- where the content is told, these words are the word `first` of the piece and each word `step` further on
+abbrev pub AreWordsOf : Told → List Pin → ℕ → ℕ → ℕ → List ℕ → Type 0
+AreWordsOf told pins f first step words = (k : ℕ) → k < length words → IsWordOf told pins f (first + k * step) (slice_index words k)
 
 -- read: a load of a data word of a frame that the berth pins
 abbrev pub read_word : Told → Operation → Sat → ℕ → Sat → Type 0

@@ -1,7 +1,7 @@
 //! Reading: a berth pins a frame, reads its words and unpins it.
-ghost use Rattle.std.specs.Prelude.{◌≡◌, ◌<◌, MatchBool, IsSome};
+ghost use Rattle.std.specs.Prelude.{◌≡◌, ◌<◌, ◌+◌, ◌-◌, ◌*◌, MatchBool, IsSome, length};
 ghost use Rattle.frame_pool.specs.Views.{pinned};
-ghost use Rattle.frame_pool.specs.Steps.{IsWordOf};
+ghost use Rattle.frame_pool.specs.Steps.{AreWordsOf, IsWordOf};
 ghost use Rattle.frame_pool.specs.Berths.{IsAt, IsApart, takes_pin, unpins};
 
 use crate::berth::Berth;
@@ -44,6 +44,28 @@ impl<C: Content> Pool<C> {
     {
         let at = self.place(frame, i);
         self.board.shared.load::<Reads<C>>(&mut berth.seat, at)
+    }
+
+    /// Many words of a frame that the berth pins, one into each place of the slice: one load each.
+    ///
+    /// They are the word `first` and each word `step` further on. All of them are below the words of a frame; the piece
+    /// may have fewer. Where the content is told they are these words of the pinned piece, as far as it has so many.
+    pub fn words(&self, berth: &mut Berth<C>, frame: u32, first: u32, step: u32, words: &mut [u64])
+        requires at { IsAt self.now berth.old frame }
+        requires pinned { IsSome (pinned frame berth.old.pins) }
+        requires inside { 0 < length words.old → first + (length words.old - 1) * step < self.now.shape.words }
+        ensures same { berth.new ≡ berth.old }
+        ensures count { length words.new ≡ length words.old }
+        ensures words { AreWordsOf C.pieces berth.old.pins frame first step words.new }
+    {
+        if words.is_empty() {
+            return;
+        }
+        let begin = self.place(frame, first);
+        for (k, word) in words.iter_mut().enumerate() {
+            let place = begin + k * step as usize;
+            *word = self.board.shared.load::<Reads<C>>(&mut berth.seat, place);
+        }
     }
 
     /// Gives the berth's pin on the frame back: one fetch and subtract.
