@@ -152,9 +152,23 @@ pushed_bit word b small = ap (λ x. x == 1) (pushed_first word b small)
 pub pushed_others : (word b j : ℕ) → b < 2 → j < 63 → is_set (bit_or (word * 2 ^ 1 % 2 ^ 64) b) (j + 1) ≡ is_set word j
 pushed_others word b j small low = ap (λ x. x == 1) (pushed_rest word b j small low)
 
-pub without_set : (a b k : ℕ) → b < 2 ^ 64 → k < 64 → is_set (bit_and a (bit_not w64 b)) k ≡ (is_set a k && not (is_set b k))
-without_set a b k fits low = and_set a (bit_not w64 b) k ∙ ap (λ x. is_set a k && (x == 1)) (bit_at_not w64 b k fits low) ∙ ap (λ x. is_set a k && x) (by (bit_at b k) (bit_at-lt b k)) where
+-- ---- the bits that a word lacks
+
+pub not_set : (word k : ℕ) → word < 2 ^ 64 → k < 64 → is_set (bit_not w64 word) k ≡ not (is_set word k)
+not_set word k fits low = ap (λ x. x == 1) (bit_at_not w64 word k fits low) ∙ by (bit_at word k) (bit_at-lt word k) where
   by : (x : ℕ) → x < 2 → (1 - x == 1) ≡ not (x == 1)
   by zero l = refl
   by (suc zero) l = refl
   by (suc (suc x)) l = absurd (omega (arith, l))
+
+pub without_set : (a b k : ℕ) → b < 2 ^ 64 → k < 64 → is_set (bit_and a (bit_not w64 b)) k ≡ (is_set a k && not (is_set b k))
+without_set a b k fits low = and_set a (bit_not w64 b) k ∙ ap (λ x. is_set a k && x) (not_set b k fits low)
+
+-- ---- the bits of a word that another has all of
+
+and_true : (a : Bool) → (a && true) ≡ a
+and_true true = refl
+and_true false = refl
+
+pub kept_set : (a every k : ℕ) → bit_at every k ≡ 1 → is_set (bit_and a every) k ≡ is_set a k
+kept_set a every k one = and_set a every k ∙ ap (λ x. is_set a k && (x == 1)) one ∙ and_true (is_set a k)

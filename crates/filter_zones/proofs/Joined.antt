@@ -6,7 +6,6 @@ use Rattle.table_core.specs.declared.cell.Cell.{Cell}
 use Rattle.table_core.specs.declared.op.Op.{Op}
 use Rattle.table_core.specs.declared.op.Op.TheVariants as op
 use Rattle.filter_zones.specs.declared.cond.Bound.{Bound}
-use Rattle.filter_zones.specs.declared.ends.Ends.{Ends}
 use Rattle.filter_zones.specs.Truth.{order_of}
 use Rattle.filter_zones.specs.Possible.{may_hold, may_fail, ranged}
 use Rattle.filter_zones.specs.Ends.{stand, ends_of, truths_of}
@@ -59,12 +58,12 @@ ends_truths op.Le v null (Some p) = λ i. record { can_false = fails op.Le (orde
 ends_truths op.Gt v null (Some p) = λ i. record { can_false = fails op.Gt (order_of p.0 v) (order_of p.1 v) i; can_unknown = null; can_true = holds op.Gt (order_of p.0 v) (order_of p.1 v) i }
 ends_truths op.Ge v null (Some p) = λ i. record { can_false = fails op.Ge (order_of p.0 v) (order_of p.1 v) i; can_unknown = null; can_true = holds op.Ge (order_of p.0 v) (order_of p.1 v) i }
 
--- ---- one chunk more, put in before the others
+-- ---- one more, put in before the others
 
-pub one_below : (ends : ℕ → Ends) (k n : ℕ) (old new : ℕ → Ends) → 0 < k → n ≤ 64 → ((j : ℕ) → k + j < n → old j ≡ ends (k + j)) → new 0 ≡ ends (k - 1) → ((j : ℕ) → j < 63 → new (j + 1) ≡ old j)
-    → (j : ℕ) → k - 1 + j < n → new j ≡ ends (k - 1 + j)
-one_below ends k n old new some few was first others zero low = first ∙ ap ends (omega arith)
-one_below ends k n old new some few was first others (suc j) low =
+pub one_below : {T : Type 0} (each : ℕ → T) (k n : ℕ) (old new : ℕ → T) → 0 < k → n ≤ 64 → ((j : ℕ) → k + j < n → old j ≡ each (k + j)) → new 0 ≡ each (k - 1) → ((j : ℕ) → j < 63 → new (j + 1) ≡ old j)
+    → (j : ℕ) → k - 1 + j < n → new j ≡ each (k - 1 + j)
+one_below each k n old new some few was first others zero low = first ∙ ap each (omega arith)
+one_below each k n old new some few was first others (suc j) low =
     let up : suc j ≡ j + 1 = omega arith in
     let there : k + j < n = omega (arith, some, low) in
-    ap new up ∙ others j (omega (arith, some, few, there)) ∙ was j there ∙ ap ends (omega (arith, some))
+    ap new up ∙ others j (omega (arith, some, few, there)) ∙ was j there ∙ ap each (omega (arith, some))

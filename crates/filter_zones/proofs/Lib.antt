@@ -6,3 +6,5 @@ pub mod Sets
 pub mod Fitting
 pub mod Bits
 pub mod Joined
+pub mod Limits
+pub mod RowTruths

@@ -3,3 +3,4 @@ pub mod Zone
 pub mod Possible
 pub mod Masks
 pub mod Ends
+pub mod Truths

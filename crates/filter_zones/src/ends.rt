@@ -6,6 +6,7 @@ ghost use Rattle.filter_zones.specs.Ends as spec;
 
 use crate::cond::{Bound, is_above, is_below};
 use crate::masks::Masks;
+use crate::words::{either, pushed, without};
 use crate::zone::{ChunkZones, Zone, zone_at};
 use table_core::Op;
 
@@ -52,27 +53,6 @@ fn ends_of(value: Bound, zone: &Zone) -> Ends
             high_above: is_above(high, value),
         },
     }
-}
-
-// The word moved up by one, with a bit below. It costs one step, where a bit put in at a place costs three.
-fn pushed(word: u64, bit: bool) -> u64
-    ensures first { is_set result 0 ≡ bit }
-    ensures others { (j : ℕ) → j < 63 → is_set result (j + 1) ≡ is_set word j }
-{
-    word << 1 | (bit as u64)
-}
-
-// The bits of a word that another lacks.
-fn without(word: u64, other: u64) -> u64
-    ensures { (k : ℕ) → k < 64 → is_set result k ≡ (is_set word k && not (is_set other k)) }
-{
-    word & !other
-}
-
-fn either(a: u64, b: u64) -> u64
-    ensures { (k : ℕ) → is_set result k ≡ (is_set a k || is_set b k) }
-{
-    a | b
 }
 
 impl EndMasks {

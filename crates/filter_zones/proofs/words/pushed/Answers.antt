@@ -1,7 +1,7 @@
 use Rattle.std.proofs.Common.{inl, inr, arith}
 use Rattle.std.proofs.lemmas.Bool.{cases_Bool}
 use Rattle.filter_zones.proofs.Bits.{pushed_bit, pushed_others}
-use Rattle.filter_zones.proofs.ends.pushed.Goals as goal
+use Rattle.filter_zones.proofs.words.pushed.Goals as goal
 
 pub returns-clause-first : goal.returns-clause-first
 returns-clause-first c = elim (cases_Bool c.args.bit) [
