@@ -4,3 +4,4 @@ pub mod Possible
 pub mod Masks
 pub mod Ends
 pub mod Truths
+pub mod Certain

@@ -9,6 +9,7 @@
 #![tactic(auto)]
 
 mod block_truths;
+mod certain;
 mod cond;
 mod ends;
 mod lane_truths;
@@ -22,6 +23,7 @@ mod words;
 mod zone;
 
 pub use block_truths::truths_of;
+pub use certain::is_true_of_all;
 pub use cond::{Bound, Cond, truth_of};
 pub use possible::may_be;
 pub use pruning::needed;
