@@ -1,0 +1,168 @@
+// The truths of a condition over a block are those on each of its rows.
+use crate::fitting::{fits_block, fits_row};
+use filter_zones::{Bound, Cond, Truth, truth_of, truths_of};
+use row_blocks::{Block, Holds, Lane, MOST_BLOCK_ROWS};
+use std::alloc::{AllocError, Global};
+use std::process::Abort;
+use std::test::Fail;
+use table_core::{Cell, Op};
+
+const OPS: [Op; 6] = [Op::Eq, Op::Ne, Op::Lt, Op::Le, Op::Gt, Op::Ge];
+
+// Words of numbers: small ones, and those at the ends of 64 bits.
+const NUMBERS: [u64; 8] = [0, 1, 9, 10, 11, u64::MAX, 1 << 63, (1 << 63) - 1];
+
+// Columns and values with which their cells are compared: at a number and between two, at the ends of 64 bits and
+// past them, at a code and between two.
+const VALUES: [(u32, Bound); 16] = [
+    (0, Bound::Number(20)),
+    (0, Bound::Number(21)),
+    (0, Bound::Number(-1)),
+    (0, Bound::Number(-18446744073709551617)),
+    (0, Bound::Number(-18446744073709551616)),
+    (0, Bound::Number(18446744073709551614)),
+    (0, Bound::Number(18446744073709551615)),
+    (0, Bound::Number(i128::MIN)),
+    (0, Bound::Number(i128::MAX)),
+    (1, Bound::Code(2)),
+    (1, Bound::Code(4294967295)),
+    (1, Bound::Gap(0)),
+    (1, Bound::Gap(2)),
+    (1, Bound::Gap(4294967295)),
+    (2, Bound::Number(20)),
+    (2, Bound::Gap(1)),
+];
+
+// The next number of a sequence that looks drawn.
+fn next(state: u64) -> u64 {
+    state
+        .wrapping_mul(6364136223846793005)
+        .wrapping_add(1442695040888963407)
+}
+
+// A word of the table above, or one whose low half is a small code.
+fn drawn_word(holds: Holds, state: u64) -> u64 {
+    match holds {
+        Holds::Numbers => NUMBERS[(state >> 33) as usize % 8],
+        Holds::Codes => state >> 40 << 32 | (state >> 33) % 5,
+    }
+}
+
+// A lane of drawn words, of which about one in four is NULL.
+fn drawn_lane(holds: Holds, seed: u64) -> Lane {
+    let mut lane = Lane::empty(holds);
+    let mut state = next(seed);
+    lane.nulls = state & next(state);
+    for i in 0..64_usize {
+        state = next(state);
+        lane.words[i] = drawn_word(holds, state);
+    }
+    lane
+}
+
+// So many rows of numbers, codes, and a column that got no lane.
+fn drawn_block(rt: &impl Abort, seed: u64, count: u32) -> Block {
+    assert!(rt; count <= MOST_BLOCK_ROWS);
+    let mut block = Block::new();
+    block.begin(3, count);
+    block.put(0, &drawn_lane(Holds::Numbers, seed));
+    block.put(1, &drawn_lane(Holds::Codes, next(seed)));
+    block
+}
+
+// The truths of the condition over the block are those that a visit of each row gives, and no other bit is set.
+fn check(rt: &impl Abort, cond: &Cond, block: &Block) {
+    assert!(rt; fits_block(cond, block));
+    let truths = truths_of(cond, block);
+    assert!(rt;
+        (truths.yes | truths.unknown) & !block.every() == 0,
+        "{cond:?}"
+    );
+    let mut row = [Cell::Null; 3];
+    assert!(rt; block.width() == 3);
+    for i in 0..block.len() {
+        block.row(i, &mut row);
+        assert!(rt; fits_row(cond, &row));
+        let wanted = truth_of(cond, &row);
+        assert!(rt;
+            (truths.yes >> i & 1 == 1) == (wanted == Truth::True),
+            "{cond:?} {row:?}"
+        );
+        assert!(rt;
+            (truths.unknown >> i & 1 == 1) == (wanted == Truth::Unknown),
+            "{cond:?} {row:?}"
+        );
+    }
+}
+
+fn both(alloc: Global, a: Cond, b: Cond) -> Result<Cond, AllocError> {
+    Ok(Cond::And(Box::new(alloc, a)?, Box::new(alloc, b)?))
+}
+
+fn either(alloc: Global, a: Cond, b: Cond) -> Result<Cond, AllocError> {
+    Ok(Cond::Or(Box::new(alloc, a)?, Box::new(alloc, b)?))
+}
+
+fn not(alloc: Global, a: Cond) -> Result<Cond, AllocError> {
+    Ok(Cond::Not(Box::new(alloc, a)?))
+}
+
+// The comparison with one of the values.
+fn compare(op: Op, place: usize) -> Cond {
+    let (column, value) = VALUES[place % 16];
+    Cond::Compare { column, op, value }
+}
+
+// The comparison with a value, and some conditions that it is a part of.
+fn check_value(
+    rt: &impl Abort,
+    alloc: Global,
+    op: Op,
+    place: usize,
+    block: &Block,
+) -> Result<(), Fail> {
+    let is_null = Cond::IsNull {
+        column: 0,
+        negated: place % 2 == 1,
+    };
+    check(rt, &compare(op, place), block);
+    check(
+        rt,
+        &both(
+            alloc,
+            compare(op, place),
+            compare(Op::Ge, place % 16 * 5 + 3),
+        )?,
+        block,
+    );
+    check(
+        rt,
+        &either(
+            alloc,
+            not(alloc, compare(op, place))?,
+            compare(Op::Lt, place % 16 * 3 + 9),
+        )?,
+        block,
+    );
+    check(
+        rt,
+        &not(alloc, either(alloc, is_null, compare(op, place))?)?,
+        block,
+    );
+    Ok(())
+}
+
+fn check_block(rt: &impl Abort, alloc: Global, block: &Block) -> Result<(), Fail> {
+    for place in 0..96_usize {
+        check_value(rt, alloc, OPS[place / 16], place % 16, block)?;
+    }
+    Ok(())
+}
+
+#[test]
+fn a_condition_has_the_truths_of_each_row_over_a_block(rt: HostRuntime) -> Result<(), Fail> {
+    for (seed, count) in [(1, 64), (2, 63), (3, 1), (4, 0), (5, 40)] {
+        check_block(&rt, rt.alloc(), &drawn_block(&rt, seed, count))?;
+    }
+    Ok(())
+}
