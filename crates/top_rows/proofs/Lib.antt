@@ -3,3 +3,4 @@ pub mod Before
 pub mod Firsts
 pub mod Entries
 pub mod Stands
+pub mod Blocks

@@ -50,7 +50,7 @@ pub record IsPartly (t : Kept) (left all : List Row) : Type 0 where
   pub stands : Stands t done
   pub same : done ++ left ≡ all
 
-distinct_behind : (xs : List Row) (r : Row) (ys : List Row) → AreDistinct (xs ++ r ∷ ys) → has_number xs r.0 ≡ false
+pub distinct_behind : (xs : List Row) (r : Row) (ys : List Row) → AreDistinct (xs ++ r ∷ ys) → has_number xs r.0 ≡ false
 distinct_behind [] r ys d = refl
 distinct_behind (x ∷ xs) r ys d = or_from (r.0 == x.0) (has_number xs r.0) (nat_eq_equiv.symm r.0 x.0 ∙ has-middle xs r ys x.0 d.0) (distinct_behind xs r ys d.1)
 

@@ -1,10 +1,13 @@
 // The first rows in the order that a rows query asks for.
-ghost use Rattle.std.specs.Prelude.{◌≡◌, ◌≤◌, ◌+◌, ◌++◌, ◌∷◌, ℕ, List, [], length, map, take, false, OnOk, OnErr, IfOk, IfErr, IsOk};
+ghost use Rattle.std.specs.Prelude.{◌≡◌, ◌<◌, ◌≤◌, ◌==◌, ◌+◌, ◌++◌, ◌∷◌, ℕ, List, [], length, map, take, false, OnOk, OnErr, IfOk, IfErr, IsOk};
 ghost use Rattle.std.specs.Bool.{OnTrue, OnFalse};
+ghost use Rattle.std.specs.Int.{bit_at};
 ghost use Rattle.table_core.specs.declared.cell.Cell.{Cell};
 ghost use Rattle.agg_groups.specs.Cells.{codes};
 ghost use Rattle.agg_groups.specs.Meaning.{cell};
 ghost use Rattle.table_core.specs.Lists.{lists};
+ghost use Rattle.row_blocks.specs.Chosen.{chosen as chosen_rows};
+ghost use Rattle.top_rows.specs.Blocks.{HoldsInPart, numbered_rows};
 ghost use Rattle.top_rows.specs.Rows.{Numbered, AreApart, AreDistinct, has_number, insert_row, rows_meaning};
 ghost use Rattle.top_rows.specs.Standing.{AreKeyed, numbered};
 ghost use Rattle.top_rows.specs.Top.{IsBehind, Kept, Stands, StandsInSomeOrder};
@@ -13,6 +16,7 @@ use crate::Picked;
 use crate::order::Order;
 use crate::plan::RowPlan;
 use crate::standing::{Standing, cell_at, is_before, places_of, standing_order};
+use row_blocks::Block;
 use std::alloc::{AllocError, Global};
 use std::collections::BTreeMap;
 use std::marker::Model;
@@ -128,6 +132,14 @@ fn absorb(top: &mut TopRows, rows: &Ranked) -> Result<(), Memory>
     Ok(())
 }
 
+// Whether a row of a block is chosen.
+fn is_chosen(chosen: u64, row: u32) -> bool
+    requires { row < 64 }
+    ensures { result ≡ (bit_at chosen row == 1) }
+{
+    chosen >> row & 1 == 1
+}
+
 // The values of the named columns of a row.
 fn values_of(alloc: Global, columns: &[u32], row: &[Cell]) -> Result<Vec<Cell>, AllocError>
     ensures { IfOk result (λ values. values.items ≡ map (cell codes row.now) columns.now) }
@@ -180,6 +192,31 @@ impl TopRows {
     {
         let alloc = *self.columns.allocator();
         add_to(&mut self.rows, alloc, &self.order, self.limit, number, row)?;
+        Ok(())
+    }
+
+    /// Adds the chosen rows of a block, those whose bits are set, numbered on from the first row of the block.
+    ///
+    /// Out of memory, the first ones of the chosen rows may have been added, and no other row.
+    pub fn add_block(&mut self, first: u32, block: &Block, chosen: u64) -> Result<(), Memory>
+        requires numbers { first + block.now.count ≤ 4294967296 }
+        ensures ok { OnOk result ((rows : List (Numbered Cell)) → Stands self.old rows
+            → AreApart rows (chosen_rows chosen (numbered_rows first block.now))
+            → Stands self.new (rows ++ chosen_rows chosen (numbered_rows first block.now))) }
+        ensures plan { self.new.plan ≡ self.old.plan }
+        ensures err { OnErr result ((rows : List (Numbered Cell)) → Stands self.old rows
+            → AreApart rows (chosen_rows chosen (numbered_rows first block.now))
+            → HoldsInPart (Stands self.new) rows (chosen_rows chosen (numbered_rows first block.now))) }
+    {
+        let mut cells = [Cell::Null; 16];
+        let cells = &mut cells[..block.width() as usize];
+        for row in 0..block.len() {
+            if !is_chosen(chosen, row) {
+                continue;
+            }
+            block.row(row, cells);
+            self.add(first + row, cells)?;
+        }
         Ok(())
     }
 
