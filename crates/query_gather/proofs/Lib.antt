@@ -6,3 +6,4 @@ pub mod Agreeing
 pub mod Answering
 pub mod Tabled
 pub mod Written
+pub mod Blocks

@@ -1,6 +1,7 @@
 -- What a query's scan gathers, and the rows that it stands for.
 use Rattle.std.specs.Prelude.{◌≡◌, ◌<◌, ◌+◌, ◌++◌, ℕ, false, List, [], ◌∷◌, map, filter, Option, Some, None}
 use Rattle.table_core.specs.declared.cell.Cell.{Cell}
+use Rattle.row_blocks.specs.Blocks.{BlockView, row_at}
 use Rattle.filter_zones.specs.declared.cond.Cond.{Cond}
 use Rattle.filter_zones.specs.Truth as condition
 use Rattle.agg_groups.specs.Groups as groups
@@ -88,3 +89,7 @@ FitsCond (Some c) row = condition.FitsRow c row
 -- the columns of the items and of the keys are places of a row of so many cells
 abbrev pub FitsWidth : Plan → ℕ → Type 0
 FitsWidth p width = groups.NamesPlaces p.items.items p.keys.items width
+
+-- the condition fits each row of a block, where there is one
+abbrev pub FitsCondOver : Option Cond → BlockView → Type 0
+FitsCondOver c b = (i : ℕ) → i < b.count → FitsCond c (row_at b i)

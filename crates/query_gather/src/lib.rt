@@ -2,6 +2,7 @@
 //!
 //!     let mut part = Partial::of(alloc, &plan)?;
 //!     part.add_row(&plan, number, row)?;                // takes the row where it matches
+//!     part.add_block(&plan, first, &block)?;            // and those of a block that match
 //!     let whole = join_parts(part, others)?;
 //!     match whole.finish() {
 //!         Answer::Stopped(cause) => ..,
@@ -11,6 +12,7 @@
 #![tactic(auto)]
 
 mod answer;
+mod choosing;
 mod laws;
 mod partial;
 

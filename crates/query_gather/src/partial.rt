@@ -1,7 +1,10 @@
 // What a query's scan gathers.
 ghost use Rattle.std.specs.Prelude.{◌≡◌, ◌<◌, ◌≤◌, ◌+◌, ◌++◌, ℕ, List, [], ◌∷◌, length, false, All, OnOk, OnErr, IfOk, IsOk};
 ghost use Rattle.table_core.specs.declared.cell.Cell.{Cell};
+ghost use Rattle.row_blocks.specs.Blocks.{rows_in};
+ghost use Rattle.row_blocks.specs.Chosen.{chosen as chosen_rows};
 ghost use Rattle.agg_groups.specs.Groups as grouped;
+ghost use Rattle.top_rows.specs.Blocks.{HoldsInPart, numbered_rows};
 ghost use Rattle.top_rows.specs.Rows.{Numbered, AreApart};
 ghost use Rattle.top_rows.specs.Top as first;
 ghost use Rattle.sql_bind.specs.declared.plan.Plan.{Plan};
@@ -11,8 +14,9 @@ ghost use Rattle.query_gather.specs.Partial as spec;
 ghost use Rattle.sql_bind.specs.Meaning as meaning;
 
 use crate::answer::Answer;
+use crate::choosing::{chosen_of, is_chosen, matches};
 use agg_groups::{FinishFault, Groups};
-use filter_zones::{Cond, Truth, truth_of};
+use row_blocks::Block;
 use scan_story::Cause;
 use sql_bind::Plan;
 use std::alloc::Global;
@@ -32,15 +36,28 @@ pub enum Partial {
     Top(TopRows),
 }
 
-// Whether a row matches: the condition is true of it, or there is none.
-fn matches(cond: &Option<Cond>, row: &[Cell]) -> bool
-    requires { spec.FitsCond cond.now row.now }
-    ensures { result ≡ meaning.matches cond.now row.now }
+// Adds the chosen rows of a block to groups. Out of memory, the first ones of them may have been added.
+fn add_chosen_rows(groups: &mut Groups, block: &Block, chosen: u64) -> Result<(), Memory>
+    requires few { groups.old.rows + block.now.count ≤ MOST_ROWS }
+    requires places { grouped.NamesPlaces groups.old.items groups.old.keys block.now.width }
+    ensures ok { OnOk result ((rows : List (List Cell)) → grouped.Stands groups.old rows
+        → grouped.Stands groups.new (rows ++ chosen_rows chosen (rows_in block.now))) }
+    ensures count { groups.new.rows ≤ groups.old.rows + block.now.count }
+    ensures items { groups.new.items ≡ groups.old.items }
+    ensures keys { groups.new.keys ≡ groups.old.keys }
+    ensures err { OnErr result ((rows : List (List Cell)) → grouped.Stands groups.old rows
+        → HoldsInPart (grouped.Stands groups.new) rows (chosen_rows chosen (rows_in block.now))) }
 {
-    match cond {
-        Some(cond) => truth_of(cond, row) == Truth::True,
-        None => true,
+    let mut cells = [Cell::Null; 16];
+    let cells = &mut cells[..block.width() as usize];
+    for row in 0..block.len() {
+        if !is_chosen(chosen, row) {
+            continue;
+        }
+        block.row(row, cells);
+        groups.add_row(cells)?;
     }
+    Ok(())
 }
 
 // Adds the rows of other groups behind. Out of memory, the others are gone.
@@ -127,6 +144,49 @@ impl Partial {
             return Ok(());
         }
         self.add_matching(number, row)
+    }
+
+    // Adds the chosen rows of a block.
+    fn add_chosen(&mut self, first: u32, block: &Block, chosen: u64) -> Result<(), Memory>
+        requires width { spec.HasPlaces self.old block.now.width }
+        requires few { spec.row_count self.old + block.now.count ≤ MOST_ROWS }
+        requires numbers { first + block.now.count ≤ MOST_ROWS }
+        ensures ok { OnOk result ((rows : List (Numbered Cell)) → spec.Stands self.old rows
+            → spec.MayJoin self.old rows (numbered_rows first block.now)
+            → spec.Stands self.new (rows ++ chosen_rows chosen (numbered_rows first block.now))) }
+        ensures alike { spec.IsAlike self.old self.new }
+        ensures count { spec.row_count self.new ≤ spec.row_count self.old + block.now.count }
+        ensures err { OnErr result ((rows : List (Numbered Cell)) → spec.Stands self.old rows
+            → spec.MayJoin self.old rows (numbered_rows first block.now)
+            → HoldsInPart (spec.Stands self.new) rows (chosen_rows chosen (numbered_rows first block.now))) }
+    {
+        match self {
+            Partial::Groups(groups) => add_chosen_rows(groups, block, chosen),
+            Partial::Top(top) => top.add_block(first, block, chosen),
+        }
+    }
+
+    /// Adds the rows of a block of which the plan's condition is true, or all of them where there is none, by their
+    /// numbers: the first row of the block has the number `first`.
+    ///
+    /// Out of memory, the first ones of the rows that match may have been added, and no other row.
+    pub fn add_block(&mut self, plan: &Plan, first: u32, block: &Block) -> Result<(), Memory>
+        requires cond { spec.FitsCondOver plan.now.cond block.now }
+        requires width { spec.FitsWidth plan.now block.now.width }
+        requires plan { spec.FitsPlan plan.now self.old }
+        requires few { spec.row_count self.old + block.now.count ≤ MOST_ROWS }
+        requires numbers { first + block.now.count ≤ MOST_ROWS }
+        ensures ok { OnOk result ((rows : List (Numbered Cell)) → spec.Stands self.old rows
+            → spec.MayJoin self.old rows (numbered_rows first block.now)
+            → spec.Stands self.new (rows ++ spec.matching plan.now (numbered_rows first block.now))) }
+        ensures plan { (p : Plan) → spec.FitsPlan p self.old → spec.FitsPlan p self.new }
+        ensures count { spec.row_count self.new ≤ spec.row_count self.old + block.now.count }
+        ensures err { OnErr result ((rows : List (Numbered Cell)) → spec.Stands self.old rows
+            → spec.MayJoin self.old rows (numbered_rows first block.now)
+            → HoldsInPart (spec.Stands self.new) rows (spec.matching plan.now (numbered_rows first block.now))) }
+    {
+        let chosen = chosen_of(&plan.cond, block);
+        self.add_chosen(first, block, chosen)
     }
 
     /// The answer: what the plan means over each list of rows that is gathered.
