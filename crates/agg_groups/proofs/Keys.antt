@@ -80,7 +80,7 @@ base-state items keys rows q = elim (cases_Bool (has_key (first_keys keys ++ map
   | inr t ↦ rw (t, group-none (first_keys keys) keys rows q t) refl
 ]
 
-state-push : (items : List Item) (keys : List ℕ) (rows : List Row) (row : Row) (q : List Cell) → state_of items keys (rows ++ row ∷ []) q ≡ (if same_key q (key_of keys row) then Some (nexts items row (base items (state_of items keys rows q))) else state_of items keys rows q)
+pub state-push : (items : List Item) (keys : List ℕ) (rows : List Row) (row : Row) (q : List Cell) → state_of items keys (rows ++ row ∷ []) q ≡ (if same_key q (key_of keys row) then Some (nexts items row (base items (state_of items keys rows q))) else state_of items keys rows q)
 state-push items keys rows row q = elim (cases_Bool (same_key q (key_of keys row))) [
   | inl t ↦
       let has : has_key (first_keys keys ++ map (key_of keys) (rows ++ row ∷ [])) q ≡ true = has-push (first_keys keys) (key_of keys) rows row q ∙ ap (λ b. has_key (first_keys keys ++ map (key_of keys) rows) q || b) t ∙ or-true (has_key (first_keys keys ++ map (key_of keys) rows) q) in

@@ -5,4 +5,6 @@ pub mod Keys
 pub mod Seen
 pub mod Merge
 pub mod Shows
+pub mod Columns
 pub mod Stands
+pub mod One

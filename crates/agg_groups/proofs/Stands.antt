@@ -20,7 +20,7 @@ use Rattle.agg_groups.proofs.Seen.{names-seen, place_puts, sound_place}
 abbrev Row : Type 0
 Row = List Cell
 
-seen_rising : (t : Placed) → IsPlaced t → Rising (names (seen t))
+pub seen_rising : (t : Placed) → IsPlaced t → Rising (names (seen t))
 seen_rising t p = subst (λ ks. Rising ks) (sym (names-seen t.values t.places)) p.rising
 
 -- one row put at its key

@@ -43,7 +43,7 @@ lesser = meaning.lesser codes
 abbrev greater : Cell → Cell → Cell
 greater = meaning.greater codes
 
-fold-push : {A B : Type 0} (f : B → A → B) (b : B) (xs : List A) (x : A) → fold f b (xs ++ x ∷ []) ≡ f (fold f b xs) x
+pub fold-push : {A B : Type 0} (f : B → A → B) (b : B) (xs : List A) (x : A) → fold f b (xs ++ x ∷ []) ≡ f (fold f b xs) x
 fold-push f b [] x = refl
 fold-push f b (y ∷ ys) x = fold-push f (f b y) ys x
 

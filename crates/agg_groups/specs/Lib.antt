@@ -3,4 +3,5 @@ pub mod Meaning
 pub mod Running
 pub mod Groups
 pub mod Table
+pub mod Blocks
 pub mod Text

@@ -1,6 +1,7 @@
 // The groups of a query's rows.
 ghost use Rattle.std.specs.Prelude.{◌≡◌, ◌<◌, ◌≤◌, ◌+◌, ◌++◌, ℕ, List, [], ◌∷◌, length, None, OnOk, OnErr, IfOk, IfErr, IsOk};
 ghost use Rattle.table_core.specs.declared.cell.Cell.{Cell};
+ghost use Rattle.agg_groups.specs.Blocks.{AreInBlock, chosen_in};
 ghost use Rattle.agg_groups.specs.Cells.{codes};
 ghost use Rattle.agg_groups.specs.Meaning.{key_of, meaning, overflow};
 ghost use Rattle.agg_groups.specs.Groups.{Kept, Stands, StandsInSomeOrder, NamesPlaces, IsFault, IsKnown};
@@ -8,9 +9,11 @@ ghost use Rattle.agg_groups.specs.Table.{AreSound, IsPlaced, IsLast, IsKept, IsF
 ghost use Rattle.agg_groups.specs.declared.rows.FinishFault.TheVariants as FinishFault;
 
 use crate::item::Item;
+use crate::lanes::{count_of, in_block};
 use crate::place::{Last, place_of};
 use crate::rows::{FinishFault, Rows};
 use crate::table::GroupTable;
+use row_blocks::Block;
 use std::alloc::Global;
 use std::marker::Model;
 use table_core::{Cell, MOST_ROWS, Memory};
@@ -132,6 +135,52 @@ impl Groups {
         self.table.step(place, &self.items, row, self.rows);
         self.rows += 1;
         Ok(())
+    }
+
+    // Adds the chosen rows of a block where there are no key columns: all to one group, a column at a time.
+    fn add_to_one(&mut self, block: &Block, word: u64) -> Result<(), Memory>
+        requires few { self.old.rows + block.now.count ≤ MOST_ROWS }
+        requires places { NamesPlaces self.old.items self.old.keys block.now.width }
+        requires below { AreInBlock block.now.count word }
+        requires one { self.old.keys ≡ [] }
+        ensures ok { OnOk result ((rows : List (List Cell)) → Stands self.old rows
+            → Stands self.new (rows ++ chosen_in block.now word)) }
+        ensures count { OnOk result (self.new.rows ≡ self.old.rows + length (chosen_in block.now word)) }
+        ensures free { IsKnown self.old [] → IsOk result }
+        ensures items { self.new.items ≡ self.old.items }
+        ensures keys { self.new.keys ≡ self.old.keys }
+        ensures err { OnErr result (self.new ≡ self.old) }
+    {
+        let place = place_of(
+            &mut self.table,
+            &mut self.last,
+            &self.items,
+            &self.keys,
+            &[],
+        )?;
+        self.table
+            .add_chosen(place, &self.items, block, word, self.rows);
+        self.rows += count_of(word);
+        Ok(())
+    }
+
+    /// Adds the rows of a block whose bits are set in `chosen`, in their order, where there are no key columns. A bit past
+    /// the block's rows chooses none. Where the one group is there, as it is from `new` on, this is never refused.
+    ///
+    /// Out of memory, the groups stay as they were.
+    pub fn add_block(&mut self, block: &Block, chosen: u64) -> Result<(), Memory>
+        requires few { self.old.rows + block.now.count ≤ MOST_ROWS }
+        requires places { NamesPlaces self.old.items self.old.keys block.now.width }
+        requires one { self.old.keys ≡ [] }
+        ensures ok { OnOk result ((rows : List (List Cell)) → Stands self.old rows
+            → Stands self.new (rows ++ chosen_in block.now chosen)) }
+        ensures count { OnOk result (self.new.rows ≡ self.old.rows + length (chosen_in block.now chosen)) }
+        ensures free { IsKnown self.old [] → IsOk result }
+        ensures items { self.new.items ≡ self.old.items }
+        ensures keys { self.new.keys ≡ self.old.keys }
+        ensures err { OnErr result (self.new ≡ self.old) }
+    {
+        self.add_to_one(block, in_block(block, chosen))
     }
 
     /// Adds the rows of other groups, of the same items and key columns, behind its own.

@@ -8,6 +8,7 @@
 
 mod groups;
 mod item;
+mod lanes;
 mod place;
 mod rows;
 mod running;

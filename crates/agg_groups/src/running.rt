@@ -53,7 +53,7 @@ fn int_of(cell: Cell) -> i64
     }
 }
 
-fn lesser(a: Cell, c: Cell) -> Cell
+pub(crate) fn lesser(a: Cell, c: Cell) -> Cell
     ensures { result ≡ meaning.lesser codes a c }
 {
     if !is_value(a) {
@@ -67,7 +67,7 @@ fn lesser(a: Cell, c: Cell) -> Cell
     }
 }
 
-fn greater(a: Cell, c: Cell) -> Cell
+pub(crate) fn greater(a: Cell, c: Cell) -> Cell
     ensures { result ≡ meaning.greater codes a c }
 {
     if is_less(&a, &c) { c } else { a }
@@ -164,7 +164,7 @@ fn best(item: Item, a: Cell, b: Cell) -> Running
 }
 
 // The value of an item over two lists of rows.
-fn join(item: Item, a: Running, b: Running, rows: u32, more: u32) -> Running
+pub(crate) fn join(item: Item, a: Running, b: Running, rows: u32, more: u32) -> Running
     requires few { rows + more ≤ MOST_ROWS }
     requires room { spec.HasRoom rows a }
     requires room_more { spec.HasRoom more b }

@@ -1,13 +1,16 @@
 // Where groups are kept: a map from keys to places, and the running values at each place.
-ghost use Rattle.std.specs.Prelude.{◌≡◌, ◌<◌, ◌≤◌, ◌+◌, ◌^◌, ℕ, List, [], length, map, set, All, Contains, Some, None, OnOk, OnErr, IfOk, if◌then◌else◌};
+ghost use Rattle.std.specs.Prelude.{◌≡◌, ◌<◌, ◌≤◌, ◌+◌, ◌^◌, ℕ, List, [], length, map, set, count_ones, All, Contains, Some, None, OnOk, OnErr, IfOk, if◌then◌else◌};
 ghost use Rattle.table_core.specs.declared.cell.Cell.{Cell};
 ghost use Rattle.agg_groups.specs.Cells.{codes};
-ghost use Rattle.agg_groups.specs.Running.{HasRoom, IsInRow, nexts, joins, all_shown, FitsCell};
+ghost use Rattle.agg_groups.specs.Running.{HasRoom, IsInRow, nexts, joins, runnings, all_shown, FitsCell};
 ghost use Rattle.table_core.specs.Lists.{lists};
+ghost use Rattle.agg_groups.specs.Blocks.{AreInBlock, chosen_in};
 ghost use Rattle.agg_groups.specs.Table.{Placed, IsPlaced, IsNewPlace, IsPlaceFor, AreSound, place_at, values_at, seen, at, merged, first_over, result_rows, AllFit, AreBelow, Puts, base, HasRoomAt, names, plain_places};
 
 use crate::item::Item;
+use crate::lanes::add_chosen;
 use crate::running::{Running, join_all, over, row_of, starts, step};
+use row_blocks::Block;
 use std::alloc::Global;
 use std::collections::BTreeMap;
 use std::marker::Model;
@@ -113,6 +116,30 @@ fn join_at(
 {
     let kept = &mut values[place];
     join_all(items, kept, others, rows, more);
+}
+
+// Adds the chosen rows of a block to the values at a place.
+fn add_chosen_at(
+    values: &mut [Vec<Running>],
+    place: usize,
+    items: &[Item],
+    block: &Block,
+    word: u64,
+    rows: u32,
+)
+    requires few { rows + block.now.count ≤ MOST_ROWS }
+    requires in_row { All (λ i. IsInRow i block.now.width) items.now }
+    requires below { AreInBlock block.now.count word }
+    requires there { place < length values.old }
+    requires same { length (values_at (lists values.old) place) ≡ length items.now }
+    requires room { All (HasRoom rows) (values_at (lists values.old) place) }
+    ensures values { lists values.new ≡ set (lists values.old) place
+        (joins items.now (values_at (lists values.old) place) (runnings items.now (chosen_in block.now word))) }
+    ensures room { All (HasRoom (rows + count_ones word))
+        (joins items.now (values_at (lists values.old) place) (runnings items.now (chosen_in block.now word))) }
+{
+    let kept = &mut values[place];
+    add_chosen(items, kept, block, word, rows);
 }
 
 // Adds the groups of places and values, whose values are over `more` rows.
@@ -226,6 +253,31 @@ impl GroupTable {
         ensures placed { IsPlaced self.new }
     {
         step_at(&mut self.values, place, items, row, rows);
+    }
+
+    /// Adds the chosen rows of a block to the values at a place.
+    pub(crate) fn add_chosen(
+        &mut self,
+        place: usize,
+        items: &[Item],
+        block: &Block,
+        word: u64,
+        rows: u32,
+    )
+        requires few { rows + block.now.count ≤ MOST_ROWS }
+        requires in_row { All (λ i. IsInRow i block.now.width) items.now }
+        requires below { AreInBlock block.now.count word }
+        requires there { place < length self.old.values }
+        requires same { length (values_at self.old.values place) ≡ length items.now }
+        requires room { All (HasRoom rows) (values_at self.old.values place) }
+        ensures places { self.new.places ≡ self.old.places }
+        ensures values { self.new.values ≡ set self.old.values place
+            (joins items.now (values_at self.old.values place) (runnings items.now (chosen_in block.now word))) }
+        ensures room { All (HasRoom (rows + count_ones word))
+            (joins items.now (values_at self.old.values place) (runnings items.now (chosen_in block.now word))) }
+        ensures placed { IsPlaced self.new }
+    {
+        add_chosen_at(&mut self.values, place, items, block, word, rows);
     }
 
     // Adds the values over other rows to those at a place.

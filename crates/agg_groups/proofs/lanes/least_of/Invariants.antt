@@ -1,0 +1,9 @@
+use Rattle.std.proofs.Common.{◌≡◌}
+use Rattle.row_blocks.specs.Chosen.{chosen}
+use Rattle.agg_groups.specs.Cells.{codes}
+use Rattle.agg_groups.specs.Meaning as meaning
+use Rattle.agg_groups.specs.Blocks.{cells_in}
+use Rattle.agg_groups.proofs.lanes.least_of.Given as goal
+
+abbrev pub invariant-loop-i : goal.invariant-loop-i
+invariant-loop-i l = l.least ≡ meaning.least codes (chosen l.word (cells_in l.lane l.i))
