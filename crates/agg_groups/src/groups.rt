@@ -1,5 +1,6 @@
 // The groups of a query's rows.
 ghost use Rattle.std.specs.Prelude.{◌≡◌, ◌<◌, ◌≤◌, ◌+◌, ◌++◌, ℕ, List, [], ◌∷◌, length, None, OnOk, OnErr, IfOk, IfErr, IsOk};
+ghost use Rattle.std.specs.Bool.{OnFalse};
 ghost use Rattle.table_core.specs.declared.cell.Cell.{Cell};
 ghost use Rattle.agg_groups.specs.Blocks.{AreInBlock, chosen_in};
 ghost use Rattle.agg_groups.specs.Cells.{codes};
@@ -109,6 +110,13 @@ impl Groups {
             last,
             table,
         })
+    }
+
+    /// Whether there are key columns. Without them all rows are one group.
+    pub fn has_keys(&self) -> bool
+        ensures { OnFalse result (self.now.keys ≡ []) }
+    {
+        !self.keys.is_empty()
     }
 
     /// Adds a row. Where a row of its key was met before it takes no memory, so it is never refused.

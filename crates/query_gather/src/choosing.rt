@@ -1,11 +1,11 @@
 // Which rows match.
-ghost use Rattle.std.specs.Prelude.{◌≡◌, ◌≢◌, ◌<◌, ◌≤◌, ◌==◌, ℕ};
+ghost use Rattle.std.specs.Prelude.{◌≡◌, ◌<◌, ◌≤◌, ◌==◌, ℕ};
 ghost use Rattle.std.specs.Int.{bit_at};
 ghost use Rattle.row_blocks.specs.Blocks.{row_at};
 ghost use Rattle.sql_bind.specs.Meaning as meaning;
 ghost use Rattle.query_gather.specs.Partial as spec;
 
-use filter_zones::{Cond, Truth, truth_of};
+use filter_zones::{Cond, Truth, truth_of, truths_of};
 use row_blocks::Block;
 use table_core::Cell;
 
@@ -28,15 +28,6 @@ pub(crate) fn is_chosen(chosen: u64, row: u32) -> bool
     chosen >> row & 1 == 1
 }
 
-// The word with the bit of a row more.
-fn with_bit(word: u64, row: u32) -> u64
-    requires { row < 64 }
-    ensures same { bit_at result row ≡ 1 }
-    ensures others { (i : ℕ) → i ≢ row → bit_at result i ≡ bit_at word i }
-{
-    word | 1 << row
-}
-
 /// The word in which the bit of each row of a block that matches is set, and no other.
 pub(crate) fn chosen_of(cond: &Option<Cond>, block: &Block) -> u64
     requires { spec.FitsCondOver cond.now block.now }
@@ -44,15 +35,8 @@ pub(crate) fn chosen_of(cond: &Option<Cond>, block: &Block) -> u64
         ≡ meaning.matches cond.now (row_at block.now i) }
     ensures clear { (i : ℕ) → block.now.count ≤ i → bit_at result i ≡ 0 }
 {
-    let mut cells = [Cell::Null; 16];
-    let cells = &mut cells[..block.width() as usize];
-    let mut chosen = 0;
-    for row in 0..block.len() {
-        block.row(row, cells);
-        if !matches(cond, cells) {
-            continue;
-        }
-        chosen = with_bit(chosen, row);
+    match cond {
+        Some(cond) => truths_of(cond, block).yes,
+        None => block.every(),
     }
-    chosen
 }

@@ -36,8 +36,8 @@ pub enum Partial {
     Top(TopRows),
 }
 
-// Adds the chosen rows of a block to groups. Out of memory, the first ones of them may have been added.
-fn add_chosen_rows(groups: &mut Groups, block: &Block, chosen: u64) -> Result<(), Memory>
+// Adds the chosen rows of a block to groups, one after another. Out of memory, the first ones of them may have been added.
+fn add_one_by_one(groups: &mut Groups, block: &Block, chosen: u64) -> Result<(), Memory>
     requires few { groups.old.rows + block.now.count ≤ MOST_ROWS }
     requires places { grouped.NamesPlaces groups.old.items groups.old.keys block.now.width }
     ensures ok { OnOk result ((rows : List (List Cell)) → grouped.Stands groups.old rows
@@ -58,6 +58,25 @@ fn add_chosen_rows(groups: &mut Groups, block: &Block, chosen: u64) -> Result<()
         groups.add_row(cells)?;
     }
     Ok(())
+}
+
+// Adds the chosen rows of a block to groups: all at once where there is but one group. Out of memory, the first ones of them
+// may have been added.
+fn add_chosen_rows(groups: &mut Groups, block: &Block, chosen: u64) -> Result<(), Memory>
+    requires few { groups.old.rows + block.now.count ≤ MOST_ROWS }
+    requires places { grouped.NamesPlaces groups.old.items groups.old.keys block.now.width }
+    ensures ok { OnOk result ((rows : List (List Cell)) → grouped.Stands groups.old rows
+        → grouped.Stands groups.new (rows ++ chosen_rows chosen (rows_in block.now))) }
+    ensures count { groups.new.rows ≤ groups.old.rows + block.now.count }
+    ensures items { groups.new.items ≡ groups.old.items }
+    ensures keys { groups.new.keys ≡ groups.old.keys }
+    ensures err { OnErr result ((rows : List (List Cell)) → grouped.Stands groups.old rows
+        → HoldsInPart (grouped.Stands groups.new) rows (chosen_rows chosen (rows_in block.now))) }
+{
+    if groups.has_keys() {
+        return add_one_by_one(groups, block, chosen);
+    }
+    groups.add_block(block, chosen)
 }
 
 // Adds the rows of other groups behind. Out of memory, the others are gone.

@@ -5,7 +5,7 @@ use Rattle.row_blocks.specs.Chosen.{chosen}
 use Rattle.agg_groups.specs.Groups as grouped
 use Rattle.top_rows.proofs.Blocks.{IsAdded}
 use Rattle.query_gather.proofs.Blocks.{chosen_on}
-use Rattle.query_gather.proofs.partial.add_chosen_rows.Given as goal
+use Rattle.query_gather.proofs.partial.add_one_by_one.Given as goal
 
 -- the chosen ones of the first rows are added
 abbrev pub invariant-loop-row : goal.invariant-loop-row
