@@ -8,3 +8,4 @@ mod Turning
 mod Rounding
 mod Scanning
 mod Rows
+mod Blocks

@@ -5,6 +5,7 @@ pub mod Stations
 pub mod Scans
 pub mod Rows
 pub mod Framed
+pub mod Blocks
 pub mod Answers
 pub mod Loading
 pub mod Rounds

@@ -20,24 +20,24 @@ use frame_pool::{Berth, Content, Pool};
 use piece_format::{Layout, Shape, cell_of, piece_of};
 use table_core::{Cell, ColumnSet, Kind};
 
-// Whether a bit of a word is set.
-fn is_set(word: u64, bit: u32) -> bool
+/// Whether a bit of a word is set.
+pub(crate) fn is_set(word: u64, bit: u32) -> bool
     requires { bit < 64 }
     ensures { result ≡ (bit_at word bit == 1) }
 {
     word >> bit & 1 == 1
 }
 
-// The kind of a column.
-fn kind(shape: &Shape, column: u32) -> Kind
+/// The kind of a column.
+pub(crate) fn kind(shape: &Shape, column: u32) -> Kind
     requires { column < length shape.now.kinds }
     ensures { result ≡ kind_at shape.now column }
 {
     shape.kinds[column as usize]
 }
 
-// How many texts the dictionary of a column has.
-fn dict_len(shape: &Shape, column: u32) -> u32
+/// How many texts the dictionary of a column has.
+pub(crate) fn dict_len(shape: &Shape, column: u32) -> u32
     requires { column < length shape.now.dict_lens }
     ensures { result ≡ dict_len_at shape.now column }
 {

@@ -1,13 +1,15 @@
 // A chunk that is out.
-ghost use Rattle.std.specs.Prelude.{◌≡◌, ◌<◌, true, List, None, Some, length};
+ghost use Rattle.std.specs.Prelude.{◌≡◌, ◌<◌, ◌≤◌, ◌+◌, ◌%◌, true, List, None, Some, length};
 ghost use Rattle.table_core.specs.Chunk.{chunk as chunk_of};
 ghost use Rattle.table_core.specs.declared.cell.Cell.{Cell};
 ghost use Rattle.piece_format.specs.Cells.{FitsKind, cell_at, dict_len_at, kind_at};
 ghost use Rattle.cscan.specs.Answers.{Releases};
+ghost use Rattle.cscan.specs.Blocks.{EachRow};
 ghost use Rattle.cscan.specs.Rows.{FitColumns, HasCellsOf, OthersAreNull, ReadsColumns};
 ghost use Rattle.cscan.specs.Scans.{IsSameScan, IsScan, reads_column};
 ghost use Rattle.cscan.specs.Tables.{HoldsTable};
 
+use crate::block_rows::{put_columns, put_slots};
 use crate::cells::{cell_in_frame, group_with, piece_with, place_of};
 use crate::desk::take_desk;
 use crate::framed::Framed;
@@ -15,10 +17,12 @@ use crate::given::Given;
 use crate::pinning::unpin_all;
 use crate::row_cells::{read_columns, read_slots};
 use crate::scan::CScan;
+use crate::span::Span;
 use coop_outside::Depot;
 use frame_pool::Content;
 use piece_format::Layout;
 use relevance::Policy;
+use row_blocks::Block;
 use scan_story::Origin;
 use std::sync::Wait;
 use table_core::{Cell, ColumnSet};
@@ -101,6 +105,47 @@ impl Held {
                 read_columns(pool, shape, berth, framed, row, columns, cells);
             }
             Layout::Column => read_slots(pool, shape, berth, &self.given, row, columns, cells),
+        }
+    }
+
+    /// Reads some rows of the chunk as a block, `count` of them from the row `first` on, for some columns that the query
+    /// reads: each one's cells, as `cell` says them, come into its column, and NULL into every other column.
+    ///
+    /// The block has a column for each column of the table, and 1 to 64 rows; `first` is a multiple of 64. It can't wait.
+    pub fn block<S: Origin, C: Content, P: Policy, D: Depot>(
+        &self,
+        scan: &mut CScan<'_, S, C, P, D>,
+        first: u32,
+        count: u32,
+        columns: &ColumnSet,
+        block: &mut Block,
+    )
+        requires scan { IsScan S.origin C.pieces scan.old }
+        requires out { scan.old.out ≡ Some self.now.given }
+        requires first { first % 64 ≡ 0 }
+        requires count { (0 < count) × (count ≤ 64) }
+        requires rows { first + count ≤ self.now.given.rows }
+        requires columns { ReadsColumns S.origin.setting scan.old.query columns.now }
+        ensures same { scan.new ≡ scan.old }
+        ensures count { block.new.count ≡ count }
+        ensures width { block.new.width ≡ length scan.old.shape.now.kinds }
+        ensures fits { EachRow (λ i cells. FitColumns scan.old.shape.now columns.now cells) block.new }
+        ensures others { EachRow (λ i cells. OthersAreNull columns.now cells) block.new }
+        ensures cells { (rows : List (List Cell)) → HoldsTable S.origin.held C.pieces scan.old.shape.now rows
+            → EachRow (λ i cells. HasCellsOf (chunk_of rows scan.old.shape.now.per self.now.given.chunk) (first + i)
+            columns.now cells) block.new }
+    {
+        let pool = scan.pool;
+        let shape = scan.shape;
+        let berth = &mut scan.station.berth;
+        let span = Span { first, count };
+        block.begin(shape.kinds.len() as u32, count);
+        match shape.layout {
+            Layout::Row => {
+                let framed = Framed::of(shape, self.given.slots.at(0), self.given.rows, 0);
+                put_columns(pool, shape, berth, framed, span, columns, block);
+            }
+            Layout::Column => put_slots(pool, shape, berth, &self.given, span, columns, block),
         }
     }
 

@@ -14,6 +14,7 @@
 //! docs/SCANS.md has the life of a chunk as a picture.
 #![tactic(auto)]
 
+mod block_rows;
 mod cells;
 mod desk;
 mod filling;
@@ -21,6 +22,7 @@ mod framed;
 mod gate;
 mod given;
 mod held;
+mod lanes;
 mod loading;
 mod next;
 mod pausing;
@@ -28,6 +30,7 @@ mod pinning;
 mod rounds;
 mod row_cells;
 mod scan;
+mod span;
 mod station;
 mod waking;
 

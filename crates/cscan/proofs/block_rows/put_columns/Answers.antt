@@ -1,0 +1,66 @@
+use Rattle.std.proofs.Common.{◌≡◌, ◌<◌, ◌+◌, ◌∙◌, ℕ, true, refl, sym, ap, subst, arith}
+use Rattle.std.proofs.lemmas.List.{length-take-le}
+use Rattle.frame_pool.specs.Berths.{BerthView}
+use Rattle.piece_format.specs.Shape.{chunk_of}
+use Rattle.piece_format.specs.declared.layout.Layout.TheVariants as layouts
+use Rattle.piece_format.specs.declared.pieces.Piece.{Piece}
+use Rattle.row_blocks.specs.Blocks.{BlockView}
+use Rattle.table_core.specs.Sets.{has}
+use Rattle.cscan.specs.Blocks.{HasNullBits, HasRead}
+use Rattle.cscan.proofs.Blocks.{lane_place, mask_bits, none_read, one_lane_more, one_other_more}
+use Rattle.cscan.proofs.block_rows.put_columns.Goals as goal
+use Rattle.cscan.proofs.block_rows.put_columns.Goals.{then-has, else-has}
+
+pub loop-x-init : goal.loop-x-init
+loop-x-init g c = record {
+  same = c.read_masks.ensures.same;
+  count = refl;
+  width = refl;
+  read = none_read g.C.Content.pieces c.args.shape.now (chunk_of c.args.shape.now c.args.framed.number) c.args.span.first c.args.columns.now c.args.block.now (λ y. y < 0) (λ y low. omega (arith, low)) c.requires.null;
+}
+
+pub read_lane-lane-requires-clause-nulls : goal.read_lane-lane-requires-clause-nulls
+read_lane-lane-requires-clause-nulls g c =
+    let told = g.C.Content.pieces in
+    let f : ℕ = c.args.framed.frame in
+    let q = c.args.framed.piece in
+    let x : ℕ = c.loop-x.x in
+    let pins = c.args.berth.now.pins in
+    let layout : q.layout ≡ layouts.Row = ap (λ (r : Piece). r.layout) c.requires.framed.piece ∙ c.requires.layout in
+    let masks = c.read_masks.new.masks in
+    subst (λ (b : BerthView). HasNullBits told b.pins f q c.args.span x c.column_bits-nulls.result) (sym c.loop-x.invariant.same)
+    (subst (λ (n : ℕ). HasNullBits told pins f q c.args.span x n) (sym c.column_bits-nulls.ensures) (mask_bits told pins f q c.args.span x masks layout (c.read_masks.ensures.count ∙ length-take-le c.args.span.count _ c.requires.span.2) c.read_masks.ensures.masks))
+
+pub loop-x-preserved : goal.loop-x-preserved
+loop-x-preserved g c =
+    let told = g.C.Content.pieces in
+    let z = c.args.shape.now in
+    let chunk : ℕ = chunk_of z c.args.framed.number in
+    let first : ℕ = c.args.span.first in
+    let columns = c.args.columns.now in
+    let x : ℕ = c.loop-x.x in
+    let b = c.loop-x.block in
+    let before = c.loop-x.invariant in
+    let there : x < b.width = omega (arith, c.loop-x-test.true, c.width-x-end.ensures.width, before.width) in
+    let more : (y : ℕ) → y < x + 1 → (y < b.width) × ((y ≡ x → ⊥) → y < x) = λ y low. (omega (arith, low, there), λ other. omega (arith, low, other)) in
+    elim c.if-has.branch [
+      | then-has w ↦
+          let named : has columns x ≡ true = sym c.has.ensures ∙ w.if-has.true in
+          let lane = w.read_lane-lane.result in
+          let put = w.put.ensures in
+          record {
+            same = w.berth-is ∙ (w.read_lane-lane.ensures.same ∙ before.same);
+            count = ap (λ (v : BlockView). v.count) w.block-is ∙ (put.count ∙ before.count);
+            width = ap (λ (v : BlockView). v.width) w.block-is ∙ (put.width ∙ before.width);
+            read = subst (λ (v : BlockView). HasRead told z chunk first columns (λ y. y < x + 1) v) (sym w.block-is)
+                (one_lane_more told z chunk first columns b w.put.new.self x lane (λ y. y < x) (λ y. y < x + 1) named put.count put.width put.lanes
+                (λ i low. lane_place told z chunk first columns c.args.span x i lane refl w.read_lane-lane.ensures.lane named (omega (arith, low, before.count, c.requires.count))) more before.read);
+          }
+      | else-has w ↦ record {
+        same = w.berth-is ∙ before.same;
+        count = ap (λ (v : BlockView). v.count) w.block-is ∙ before.count;
+        width = ap (λ (v : BlockView). v.width) w.block-is ∙ before.width;
+        read = subst (λ (v : BlockView). HasRead told z chunk first columns (λ y. y < x + 1) v) (sym w.block-is)
+            (one_other_more told z chunk first columns b x (λ y. y < x) (λ y. y < x + 1) (sym c.has.ensures ∙ w.if-has.false) more before.read);
+      }
+    ]
