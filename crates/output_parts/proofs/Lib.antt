@@ -1,4 +1,5 @@
 pub mod Texts
 pub mod Left
+pub mod Standing
 pub mod OneStory
 pub mod Lines

@@ -1,5 +1,5 @@
 -- What may stand in an output for each of its parts.
-use Rattle.std.specs.Prelude.{◌≡◌, ◌≢◌, true, ℕ, List, [], ◌∷◌, ◌++◌, Option, Some, None, MatchOption, is_some, map}
+use Rattle.std.specs.Prelude.{◌≡◌, ◌≢◌, ◌⊎◌, true, ℕ, List, [], ◌∷◌, ◌++◌, Option, Some, None, MatchOption, is_some, map}
 use Rattle.scan_story.specs.Reading.{lacks}
 use Rattle.output_parts.specs.declared.part.Part.{Part}
 use Rattle.output_parts.specs.declared.splitting.Split.{Split}
@@ -34,6 +34,20 @@ abbrev pub texts_of : List Part → List (Option (List ℕ)) → List ℕ
 texts_of [] lines = []
 texts_of (p ∷ parts) [] = []
 texts_of (p ∷ parts) (words ∷ lines) = text_of p words ++ texts_of parts lines
+
+-- a line that begins with this head
+abbrev pub IsHeadedLine : Option (List ℕ) → List ℕ → Type 0
+IsHeadedLine None text = ⊥
+IsHeadedLine (Some head) text = (words : List ℕ) × (lacks 10 words ≡ true) × (text ≡ head ++ (words ++ 10 ∷ []))
+
+-- a text stands for a part: its own, or a line that begins with its head
+abbrev pub StandsFor : Part → List ℕ → Type 0
+StandsFor p text = (text ≡ p.text) ⊎ IsHeadedLine p.head text
+
+-- WHAT STANDS BEHIND PARTS: the text has one text for each of them, in order, and then this
+abbrev pub StandsBehind : List Part → List ℕ → List ℕ → Type 0
+StandsBehind [] text rest = text ≡ rest
+StandsBehind (p ∷ parts) text rest = (begin more : List ℕ) × StandsFor p begin × (text ≡ begin ++ more) × StandsBehind parts more rest
 
 -- for each part it is known whether a line stands for it, and this stands behind the last part
 pub record IsSplit (words : List (Option (List ℕ))) (rest : List ℕ) (s : Split) : Type 0 where

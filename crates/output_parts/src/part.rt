@@ -1,7 +1,7 @@
 // A part of an output.
-ghost use Rattle.std.specs.Prelude.{◌≡◌, ◌≢◌, ◌==◌, ◌<◌, ◌++◌, ◌∷◌, [], ℕ, List, Option, IfSome, MatchOption, is_some, length, true};
+ghost use Rattle.std.specs.Prelude.{◌≡◌, ◌≢◌, ◌==◌, ◌<◌, ◌++◌, ◌∷◌, [], ℕ, List, Option, Some, IfSome, MatchOption, is_some, length, true};
 ghost use Rattle.std.specs.List.{position};
-ghost use Rattle.scan_story.specs.Reading.{lacks};
+ghost use Rattle.scan_story.specs.Reading.{IsCut, lacks};
 ghost use Rattle.output_parts.specs.Ends.{EndsWith};
 ghost use Rattle.output_parts.specs.Parts as spec;
 
@@ -33,6 +33,7 @@ fn end_of_line(text: &[u8]) -> Option<usize>
 
 /// What stands behind the first line of a text; none where no line ends.
 pub fn behind_line(text: &[u8]) -> Option<&[u8]>
+    ensures line { IfSome result (λ r. (words : List ℕ) × IsCut 10 text.now words r.now) }
     ensures end { IfSome result (λ r. EndsWith text.now r.now) }
     ensures rest { (words rest : List ℕ) → lacks 10 words ≡ true → text.now ≡ words ++ 10 ∷ rest
         → MatchOption result ⊥ (λ r. r.now ≡ rest) }
@@ -45,6 +46,8 @@ pub fn behind_line(text: &[u8]) -> Option<&[u8]>
 
 // What stands behind a line that begins so.
 fn behind_line_with<'a>(text: &'a [u8], head: &[u8]) -> Option<&'a [u8]>
+    ensures line { IfSome result (λ r. (line : List ℕ) × spec.IsHeadedLine (Some head.now) line
+        × (text.now ≡ line ++ r.now)) }
     ensures end { IfSome result (λ r. EndsWith text.now r.now) }
     ensures rest { (words rest : List ℕ) → lacks 10 words ≡ true → text.now ≡ (head.now ++ (words ++ 10 ∷ [])) ++ rest
         → MatchOption result ⊥ (λ r. r.now ≡ rest) }
@@ -59,6 +62,8 @@ impl Part {
     /// Whether a line stands for the part at the beginning of a text, and what stands behind it; none where neither the
     /// part's own text stands there nor such a line.
     pub fn standing<'a>(&self, text: &'a [u8]) -> Option<(bool, &'a [u8])>
+        ensures stands { IfSome result (λ r. (begin : List ℕ) × spec.StandsFor self.now begin
+            × (text.now ≡ begin ++ r.1.now)) }
         ensures end { IfSome result (λ r. EndsWith text.now r.1.now) }
         ensures found { (words : Option (List ℕ)) (rest : List ℕ) → spec.MayStand self.now words
             → text.now ≡ spec.text_of self.now words ++ rest

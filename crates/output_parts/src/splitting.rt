@@ -24,6 +24,7 @@ pub fn take_apart<'a>(
     parts: &[Part],
     text: &'a [u8],
 ) -> Result<Split<'a>, AllocError>
+    ensures behind { IfOk result (λ split. IfSome split.behind (λ b. spec.StandsBehind parts.now text.now b.now)) }
     ensures end { IfOk result (λ split. IfSome split.behind (λ b. EndsWith text.now b.now)) }
     ensures split { IfOk result (λ split. (words : List (Option (List ℕ))) (rest : List ℕ)
         → AllZip spec.MayStand parts.now words → text.now ≡ spec.texts_of parts.now words ++ rest

@@ -16,13 +16,13 @@ use Rattle.sql_bind.specs.declared.plan.Plan.{Plan}
 use Rattle.run_output.specs.Answers.{answer_printed, overflow_of, printed, result_columns}
 use Rattle.run_output.specs.Outcomes.{plans_of}
 use Rattle.run_output.specs.Printed.{text_in}
-use Rattle.run_output.specs.Refusals.{refusal_head, stop_words}
+use Rattle.run_output.specs.Refusals.{refusal_head, refusal_line, statement_words, stop_words}
 use Rattle.run_output.specs.declared.outcome.Outcome.{Outcome}
 use Rattle.run_output.specs.declared.outcome.Outcome.TheVariants as outcome
 use Rattle.output_parts.specs.Parts.{IsLine, MayStand, PartWays, line_of, texts_of}
 use Rattle.output_parts.specs.declared.part.Part.{Part}
 use Rattle.output_parts.proofs.Texts.{cancelled}
-use Rattle.plain_answers.specs.Parts.{ArePartsFor, ArePartsFrom, FitsCause, IsPlainOrStopped, words_for, words_of}
+use Rattle.plain_answers.specs.Parts.{ArePartsFor, ArePartsFrom, FitsCause, IsPlainOrStopped, parts_in, planned_part, words_for, words_of}
 
 -- the words of a query that was stopped are one line
 digits_clean : (n : ℕ) → n < 2 ^ 32 → lacks 10 (decimal n) ≡ true
@@ -120,6 +120,16 @@ pub plans_tail : (P : Plan → Type 0) (o : Outcome) (more : List Outcome) → A
 plans_tail P (outcome.Planned p) more all = all.1
 plans_tail P (outcome.Refused why) more all = all
 
-pub no_parts : (columns : List Column) (dicts : List (List (List ℕ))) (n : ℕ) (outcomes : List Outcome) (plain : List Answer) → outcomes ≡ [] → ArePartsFrom columns dicts n outcomes plain []
-no_parts columns dicts n outcomes plain none xs zip =
-    let Are = λ (os : List Outcome). ArePartsFor columns dicts n os [] xs in subst Are (sym none) (record { may = tt; text = refl })
+-- the parts of statements, with what may stand for them, are what the statements print
+pub parts_print : (columns : List Column) (dicts : List (List (List ℕ))) (n : ℕ) (outcomes : List Outcome) (plain : List Answer) → ArePartsFrom columns dicts n outcomes plain (parts_in columns dicts n outcomes plain)
+parts_print columns dicts n [] plain xs zip = record { may = tt; text = refl }
+parts_print columns dicts n (outcome.Planned p ∷ outcomes) [] [] zip = record { may = tt; text = refl }
+parts_print columns dicts n (outcome.Planned p ∷ outcomes) [] (x ∷ xs) zip = absurd zip
+parts_print columns dicts n (outcome.Planned p ∷ outcomes) (a ∷ plain) xs zip =
+    planned columns dicts n p a (planned_part columns dicts n p a) refl refl plain outcomes (parts_in columns dicts (n + 1) outcomes plain) (parts_print columns dicts (n + 1) outcomes plain) xs zip
+parts_print columns dicts n (outcome.Refused why ∷ outcomes) plain xs zip =
+    let rest = parts_print columns dicts (n + 1) outcomes plain xs zip in
+    record { may = (tt, rest.may); text = ap (λ (t : List ℕ). refusal_line n (statement_words why) ++ t) rest.text }
+
+pub no_parts : (columns : List Column) (dicts : List (List (List ℕ))) (n : ℕ) (outcomes : List Outcome) (plain : List Answer) → outcomes ≡ [] → parts_in columns dicts n outcomes plain ≡ []
+no_parts columns dicts n outcomes plain none = ap (λ (os : List Outcome). parts_in columns dicts n os plain) none

@@ -1,5 +1,5 @@
 -- What a batch prints in parts: for each statement what it prints where nothing stops it, or the line of a query that was stopped.
-use Rattle.std.specs.Prelude.{◌≡◌, ◌<◌, ◌^◌, false, ℕ, List, [], ◌∷◌, Option, Some, None}
+use Rattle.std.specs.Prelude.{◌≡◌, ◌<◌, ◌+◌, ◌^◌, false, ℕ, List, [], ◌∷◌, Option, Some, None}
 use Rattle.std.specs.List.{AllZip, flat_map}
 use Rattle.table_core.specs.declared.schema.Column.{Column}
 use Rattle.scan_story.specs.declared.cause.Cause.{Cause}
@@ -7,13 +7,30 @@ use Rattle.scan_story.specs.declared.cause.Cause.TheVariants as cause
 use Rattle.query_gather.specs.Answer.{is_stopped}
 use Rattle.query_gather.specs.declared.answer.Answer.{Answer}
 use Rattle.query_gather.specs.declared.answer.Answer.TheVariants as answers
-use Rattle.run_output.specs.Answers.{printed}
+use Rattle.sql_bind.specs.declared.plan.Plan.{Plan}
+use Rattle.sql_bind.specs.declared.statement.StatementRefusal.{StatementRefusal}
+use Rattle.run_output.specs.Answers.{answer_printed, printed}
 use Rattle.run_output.specs.Printed.{text_in}
-use Rattle.run_output.specs.Refusals.{stop_words}
+use Rattle.run_output.specs.Refusals.{refusal_head, refusal_line, statement_words, stop_words}
 use Rattle.run_output.specs.declared.outcome.Outcome.{Outcome}
 use Rattle.run_output.specs.declared.outcome.Outcome.TheVariants as outcome
 use Rattle.output_parts.specs.Parts.{MayStand, texts_of}
 use Rattle.output_parts.specs.declared.part.Part.{Part}
+
+-- the part of a query: what its answer prints, or the line of a refusal of its number
+abbrev pub planned_part : List Column → List (List (List ℕ)) → ℕ → Plan → Answer → Part
+planned_part columns dicts n p a = record { text = text_in (answer_printed columns dicts n p a); head = Some (refusal_head n) }
+
+-- the part of a statement that is refused for its text: its line alone
+abbrev pub refused_part : ℕ → StatementRefusal → Part
+refused_part n why = record { text = refusal_line n (statement_words why); head = None }
+
+-- THE PARTS of statements with these answers, the first of which has this number: each one that has a plan takes the next answer
+abbrev pub parts_in : List Column → List (List (List ℕ)) → ℕ → List Outcome → List Answer → List Part
+parts_in columns dicts n [] answers = []
+parts_in columns dicts n (outcome.Planned p ∷ outcomes) [] = []
+parts_in columns dicts n (outcome.Planned p ∷ outcomes) (a ∷ answers) = planned_part columns dicts n p a ∷ parts_in columns dicts (n + 1) outcomes answers
+parts_in columns dicts n (outcome.Refused why ∷ outcomes) answers = refused_part n why ∷ parts_in columns dicts (n + 1) outcomes answers
 
 -- the numbers of a cause are those that an entry may have
 abbrev pub FitsCause : Cause → Type 0

@@ -1,16 +1,12 @@
 // What a batch prints, in parts.
-ghost use Rattle.std.specs.Prelude.{◌≡◌, ◌≤◌, ◌<◌, ◌+◌, ◌^◌, ◌∷◌, [], All, IfOk, List, ℕ, length};
+ghost use Rattle.std.specs.Prelude.{◌≡◌, ◌≤◌, ◌<◌, ◌+◌, ◌^◌, ◌∷◌, [], All, IfOk, List, length};
 ghost use Rattle.std.specs.List.{AllByRecursion, AllZip};
 ghost use Rattle.table_core.specs.Value.{places_of};
-ghost use Rattle.table_core.specs.declared.schema.Column.{Column};
 ghost use Rattle.query_gather.specs.Answer.{CanBeWritten};
-ghost use Rattle.query_gather.specs.declared.answer.Answer.{Answer as AnswerOf};
 ghost use Rattle.run_output.specs.Answers.{NamesColumns};
 ghost use Rattle.run_output.specs.Outcomes.{plans_of};
 ghost use Rattle.run_output.specs.declared.outcome.Outcome.{Outcome as OutcomeOf};
-ghost use Rattle.run_output.specs.declared.outcome.Outcome.TheVariants as outcome;
-ghost use Rattle.output_parts.specs.declared.part.Part.{Part as PartOf};
-ghost use Rattle.plain_answers.specs.Parts.{ArePartsFrom};
+ghost use Rattle.plain_answers.specs.Parts as spec;
 
 use crate::texts::{answer_text, head_text, refusal_text};
 use output_parts::Part;
@@ -22,9 +18,7 @@ use table_core::{Dict, Memory, Schema};
 
 // The part of a statement that is refused for its text: its line, and no other.
 fn refused_part(alloc: Global, query: u32, why: &StatementRefusal) -> Result<Part, Memory>
-    ensures { IfOk result (λ part. (columns : List Column) (dicts : List (List (List ℕ))) (answers : List AnswerOf)
-        (more : List OutcomeOf) (parts : List PartOf) → ArePartsFrom columns dicts (query + 1) more answers parts
-        → ArePartsFrom columns dicts query (outcome.Refused why.now ∷ more) answers (part ∷ parts)) }
+    ensures { IfOk result (λ part. part ≡ spec.refused_part query why.now) }
 {
     let text = refusal_text(alloc, query, why)?;
     Ok(Part { text, head: None })
@@ -43,10 +37,7 @@ fn planned_part(
     requires dicts { length dicts.now ≡ length schema.now }
     requires places { All (λ c. places_of c.kind ≤ 9) schema.now }
     requires cells { CanBeWritten dicts.now plan.now answer.now }
-    ensures { IfOk result (λ part. (answers : List AnswerOf) (more : List OutcomeOf) (parts : List PartOf)
-        → ArePartsFrom schema.now dicts.now (query + 1) more answers parts
-        → ArePartsFrom schema.now dicts.now query (outcome.Planned plan.now ∷ more) (answer.now ∷ answers)
-        (part ∷ parts)) }
+    ensures { IfOk result (λ part. part ≡ spec.planned_part schema.now dicts.now query plan.now answer.now) }
 {
     let text = answer_text(alloc, query, schema, dicts, plan, answer)?;
     let head = head_text(alloc, query)?;
@@ -70,9 +61,9 @@ fn statement_part<'a>(
     requires columns { AllByRecursion (NamesColumns (length schema.now)) (plans_of (outcome.now ∷ [])) }
     requires cells { (rest : List OutcomeOf) × AllZip (CanBeWritten dicts.now) (plans_of (outcome.now ∷ rest))
         answers.now }
-    ensures part { IfOk result (λ r. (more : List OutcomeOf) (parts : List PartOf)
-        → ArePartsFrom schema.now dicts.now (query + 1) more r.1.now parts
-        → ArePartsFrom schema.now dicts.now query (outcome.now ∷ more) answers.now (r.0 ∷ parts)) }
+    ensures part { IfOk result (λ r. (more : List OutcomeOf)
+        → spec.parts_in schema.now dicts.now query (outcome.now ∷ more) answers.now
+        ≡ r.0 ∷ spec.parts_in schema.now dicts.now (query + 1) more r.1.now) }
     ensures left { IfOk result (λ r. (rest : List OutcomeOf) → AllZip (CanBeWritten dicts.now)
         (plans_of (outcome.now ∷ rest)) answers.now → AllZip (CanBeWritten dicts.now) (plans_of rest) r.1.now) }
 {
@@ -108,7 +99,8 @@ pub fn parts_of(
     requires places { All (λ c. places_of c.kind ≤ 9) schema.now }
     requires columns { AllByRecursion (NamesColumns (length schema.now)) (plans_of outcomes.now) }
     requires answers { AllZip (CanBeWritten dicts.now) (plans_of outcomes.now) answers.now }
-    ensures { IfOk result (λ parts. ArePartsFrom schema.now dicts.now 1 outcomes.now answers.now parts.items) }
+    ensures parts { IfOk result (λ parts. parts.items ≡ spec.parts_in schema.now dicts.now 1 outcomes.now answers.now) }
+    ensures print { IfOk result (λ parts. spec.ArePartsFrom schema.now dicts.now 1 outcomes.now answers.now parts.items) }
 {
     let mut parts = Vec::new(alloc);
     let mut query = 0;

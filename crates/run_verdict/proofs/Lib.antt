@@ -3,6 +3,7 @@ pub mod Lines
 pub mod Fitting
 pub mod Given
 pub mod Placed
+pub mod Traces
 pub mod Stopping
 pub mod Telling
 pub mod Sentence

@@ -7,20 +7,22 @@ use Rattle.scan_story.specs.Text.{entry_text, story_text}
 use Rattle.scan_story.specs.declared.entry.Entry.{Entry}
 use Rattle.output_parts.specs.Ends.{BeginsAtLine, EndsWith}
 use Rattle.output_parts.proofs.Lines.{end_within, line_within, lines_down}
+use Rattle.run_inputs.specs.declared.inputs.Inputs.{Inputs}
+use Rattle.run_verdict.specs.Reading.{IsTrace}
 use Rattle.run_verdict.specs.Verdict.{HasNoEntryAt}
 use Rattle.run_verdict.proofs.Lines.{entries_few}
 
-pub no_entry_at : (out trace : List ℕ) (first n line : ℕ) → EndsWith out trace → BeginsAtLine out trace first → IsFirstBad trace n → line ≡ first + n - 1 → HasNoEntryAt out line
-no_entry_at out trace first n line end at bad is =
+pub no_entry_at : (i : Inputs) (out trace : List ℕ) (first n line : ℕ) → IsTrace i out trace → BeginsAtLine out trace first → IsFirstBad trace n → line ≡ first + n - 1 → HasNoEntryAt i out line
+no_entry_at i out trace first n line whole at bad is =
     let From = λ (l : List ℕ). BeginsAtLine out l first in
-    let Ends = λ (l : List ℕ). EndsWith out l in
+    let Is = λ (l : List ℕ). IsTrace i out l in
     let down = lines_down out bad.entries bad.rest first bad.fit (subst From bad.joined at) in
     let same : first + length bad.entries ≡ line = omega (arith, is, bad.number) in
     record {
       entries = bad.entries;
       rest = bad.rest;
       fit = bad.fit;
-      ends = subst Ends bad.joined end;
+      trace = subst Is bad.joined whole;
       bad = bad.bad;
       at_line = subst (λ (k : ℕ). BeginsAtLine out bad.rest k) same down;
     }

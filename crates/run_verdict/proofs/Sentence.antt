@@ -47,7 +47,7 @@ use Rattle.run_verdict.proofs.Stopping.{given_answers, given_lost, stops_same}
 use Rattle.run_verdict.proofs.Telling.{given, is_read, text_is}
 
 -- what stands in the way of reading is right where no run is told
-pub none_told : (i : Inputs) (name : PolicyName) (out : List ℕ) (v : Verdict) → IsOfReading out v → TellsNoRun i name out → IsVerdict i name out v
+pub none_told : (i : Inputs) (name : PolicyName) (out : List ℕ) (v : Verdict) → IsOfReading i out v → TellsNoRun i name out → IsVerdict i name out v
 none_told i name out (verdict.Legal entries reads apart counts) is none = absurd is
 none_told i name out (verdict.NotAnswered query) is none = none
 none_told i name out verdict.NoSummary is none = none

@@ -11,7 +11,10 @@ use Rattle.run_output.specs.Answers.{printed}
 use Rattle.run_output.specs.Printed.{output, text_in}
 use Rattle.run_decision.specs.Tasks.{totals_of}
 use Rattle.run_inputs.specs.declared.inputs.Inputs.{Inputs}
-use Rattle.plain_answers.specs.Parts.{words_of}
+use Rattle.output_parts.specs.Parts.{StandsBehind}
+use Rattle.plain_answers.specs.Parts.{parts_in, words_of}
+use Rattle.run_output.specs.Outcomes.{plans_of}
+use Rattle.run_verdict.specs.Plain.{ArePlain}
 use Rattle.run_verdict.specs.declared.reading.Told.{Told}
 use Rattle.run_verdict.specs.declared.verdict.Verdict.{Verdict}
 
@@ -19,6 +22,15 @@ use Rattle.run_verdict.specs.declared.verdict.Verdict.{Verdict}
 abbrev pub IsSummaryLine : Bool → List ℕ → Type 0
 IsSummaryLine true line = (words : List ℕ) × (lacks 10 words ≡ true) × (line ≡ words ++ 10 ∷ [])
 IsSummaryLine false line = line ≡ []
+
+-- THE TRACE of an output: it stands behind the statements, for each of which its plain answer stands, the line of its refusal, or
+-- a line that begins as one; and behind the summary line, where there is one
+pub record IsTrace (i : Inputs) (out trace : List ℕ) : Type 0 where
+  pub answers : List Answer
+  pub plain : ArePlain i.loaded.table.rows (plans_of i.outcomes.items) answers
+  pub line : List ℕ
+  pub summary : IsSummaryLine i.summary line
+  pub behind : StandsBehind (parts_in i.loaded.table.columns i.loaded.dicts.items 1 i.outcomes.items answers) out (line ++ trace)
 
 -- the story is read, and no line is refused
 abbrev pub TellsStory : List Entry → Result (Vec Entry Global) ℕ → Type 0

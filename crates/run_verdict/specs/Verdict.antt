@@ -9,13 +9,14 @@ use Rattle.scan_story.specs.Spent.{reads, stopped_queries}
 use Rattle.scan_story.specs.Text.{story_text}
 use Rattle.scan_story.specs.Views.{past}
 use Rattle.scan_story.specs.Whole.{IsWhole}
-use Rattle.output_parts.specs.Ends.{BeginsAtLine, EndsWith}
+use Rattle.output_parts.specs.Ends.{BeginsAtLine}
 use Rattle.run_settings.specs.Apart.{reads_apart}
 use Rattle.run_inputs.specs.declared.inputs.Inputs.{Inputs}
 use Rattle.story_referee.specs.Counts.{AreCounts}
 use Rattle.story_referee.specs.Ruling.{IsRefused}
 use Rattle.story_referee.specs.declared.counts.Counts.{Counts}
 use Rattle.story_referee.specs.declared.ruling.Reason.{Reason}
+use Rattle.run_verdict.specs.Reading.{IsTrace}
 use Rattle.run_verdict.specs.Told.{IsRunTold, run_setting}
 use Rattle.run_verdict.specs.declared.verdict.Verdict.{Verdict}
 use Rattle.run_verdict.specs.declared.verdict.Verdict.TheVariants as verdict
@@ -35,34 +36,34 @@ pub record TellsRun (i : Inputs) (name : PolicyName) (out : List ℕ) (entries r
   pub little : (run_setting i name).groups ≡ 1 → stopped_queries (run_setting i name) (past story) ≡ 0 → reads_made ≤ apart
   pub counts_are : AreCounts story counts
 
--- no run is told: the text ends with a story whose entry at this place may not come, for this reason, and which goes on from
+-- no run is told: the trace is a story whose entry at this place may not come, for this reason, and which goes on from
 -- there at the line of this number
 pub record RefusesEntry (i : Inputs) (name : PolicyName) (out : List ℕ) (line place : ℕ) (reason : Reason) : Type 0 where
   pub none : TellsNoRun i name out
   pub story : List Entry
-  pub ends : EndsWith out (story_text story)
+  pub trace : IsTrace i out (story_text story)
   pub refused : IsRefused (run_setting i name) story place reason
   pub at_line : BeginsAtLine out (story_text (drop place story)) line
 
--- the text ends with the lines of some entries and then, from the line of this number on, what begins with no entry's line
-pub record HasNoEntryAt (out : List ℕ) (line : ℕ) : Type 0 where
+-- the trace has the lines of some entries and then, from the line of this number on, what begins with no entry's line
+pub record HasNoEntryAt (i : Inputs) (out : List ℕ) (line : ℕ) : Type 0 where
   pub entries : List Entry
   pub rest : List ℕ
   pub fit : AllByRecursion Fits entries
-  pub ends : EndsWith out (story_text entries ++ rest)
+  pub trace : IsTrace i out (story_text entries ++ rest)
   pub bad : BeginsBadly rest
   pub at_line : BeginsAtLine out rest line
 
 -- no run is told, since this line is no entry's
 pub record RefusesLine (i : Inputs) (name : PolicyName) (out : List ℕ) (line : ℕ) : Type 0 where
   pub none : TellsNoRun i name out
-  pub bad : HasNoEntryAt out line
+  pub bad : HasNoEntryAt i out line
 
--- no run is told: the text ends with a story that is legal, but not whole
+-- no run is told: the trace is a story that is legal, but not whole
 pub record LeavesOpen (i : Inputs) (name : PolicyName) (out : List ℕ) : Type 0 where
   pub none : TellsNoRun i name out
   pub story : List Entry
-  pub ends : EndsWith out (story_text story)
+  pub trace : IsTrace i out (story_text story)
   pub legal : Legal (run_setting i name) (past story)
   pub unfinished : IsWhole (run_setting i name) (past story) → ⊥
 
@@ -75,8 +76,8 @@ IsVerdict i name out verdict.NotWhole = LeavesOpen i name out
 IsVerdict i name out _ = TellsNoRun i name out
 
 -- what stands in the way of reading a story
-abbrev pub IsOfReading : List ℕ → Verdict → Type 0
-IsOfReading out (verdict.NotAnswered query) = Unit {0}
-IsOfReading out verdict.NoSummary = Unit {0}
-IsOfReading out (verdict.NotStory line) = HasNoEntryAt out line
-IsOfReading out _ = ⊥
+abbrev pub IsOfReading : Inputs → List ℕ → Verdict → Type 0
+IsOfReading i out (verdict.NotAnswered query) = Unit {0}
+IsOfReading i out verdict.NoSummary = Unit {0}
+IsOfReading i out (verdict.NotStory line) = HasNoEntryAt i out line
+IsOfReading i out _ = ⊥

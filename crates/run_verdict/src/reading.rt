@@ -11,7 +11,9 @@ ghost use Rattle.run_output.specs.Answers.{NamesColumns};
 ghost use Rattle.run_output.specs.Outcomes.{plans_of};
 ghost use Rattle.output_parts.specs.Ends.{BeginsAtLine, EndsWith};
 ghost use Rattle.plain_answers.specs.Parts.{IsPlainOrStopped};
-ghost use Rattle.run_verdict.specs.Reading.{HasRead, IsSummaryLine, IsToldIn, TellsStory};
+ghost use Rattle.run_inputs.specs.declared.inputs.Inputs.{Inputs as InputsOf};
+ghost use Rattle.run_verdict.specs.Plain.{ArePlain};
+ghost use Rattle.run_verdict.specs.Reading.{HasRead, IsSummaryLine, IsToldIn, IsTrace, TellsStory};
 ghost use Rattle.run_verdict.specs.Verdict.{IsOfReading};
 
 use crate::verdict::Verdict;
@@ -34,6 +36,7 @@ pub(crate) struct Told {
 
 // What stands behind the summary, where there is to be one.
 fn behind_summary(summary: bool, text: &[u8]) -> Option<&[u8]>
+    ensures line { IfSome result (λ r. (line : List ℕ) × IsSummaryLine summary line × (text.now ≡ line ++ r.now)) }
     ensures end { IfSome result (λ r. EndsWith text.now r.now) }
     ensures rest { (line rest : List ℕ) → IsSummaryLine summary line → text.now ≡ line ++ rest
         → MatchOption result ⊥ (λ r. r.now ≡ rest) }
@@ -75,7 +78,9 @@ fn told_at_end(
     requires short { length output.now ≤ 2 ^ 30 }
     ensures fits { IfOk result (λ r. IfOk r (λ t. AllByRecursion Fits t.story.items)) }
     ensures end { IfOk result (λ r. IfOk r (λ t. BeginsAtLine output.now (story_text t.story.items) t.first)) }
-    ensures bad { IfOk result (λ r. IfErr r (IsOfReading output.now)) }
+    ensures trace { IfOk result (λ r. IfOk r (λ t. trace.now ≡ story_text t.story.items)) }
+    ensures bad { IfOk result (λ r. IfErr r (λ v. (i : InputsOf) → IsTrace i output.now trace.now
+        → IsOfReading i output.now v)) }
     ensures told { IfOk result (λ r. (story : List EntryOf) → AllByRecursion Fits story
         → trace.now ≡ story_text story → IsToldIn lines.items story r) }
 {
@@ -109,12 +114,14 @@ pub(crate) fn read_output(
         (plans_of inputs.now.outcomes.items) }
     requires cells { AllZip (CanBeWritten inputs.now.loaded.dicts.items) (plans_of inputs.now.outcomes.items)
         plain.now }
+    requires plain { ArePlain inputs.now.loaded.table.rows (plans_of inputs.now.outcomes.items) plain.now }
     ensures fits { IfOk result (λ r. IfOk r (λ t. AllByRecursion Fits t.story.items)) }
     ensures read { IfOk result (λ r. (answers : List AnswerOf) (line : List ℕ) (story : List EntryOf)
         → AllZip IsPlainOrStopped plain.now answers
         → HasRead inputs.now answers line story output.now r) }
     ensures end { IfOk result (λ r. IfOk r (λ t. BeginsAtLine output.now (story_text t.story.items) t.first)) }
-    ensures none { IfOk result (λ r. IfErr r (IsOfReading output.now)) }
+    ensures trace { IfOk result (λ r. IfOk r (λ t. IsTrace inputs.now output.now (story_text t.story.items))) }
+    ensures none { IfOk result (λ r. IfErr r (IsOfReading inputs.now output.now)) }
 {
     let schema = inputs.loaded.table.schema();
     let parts = parts_of(alloc, schema, &inputs.loaded.dicts, &inputs.outcomes, plain)?;

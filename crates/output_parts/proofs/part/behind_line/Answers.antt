@@ -3,6 +3,9 @@ use Rattle.scan_story.proofs.Cuts.{cut_here, none_here, one_cut, no_cut}
 use Rattle.output_parts.proofs.Lines.{cut_end}
 use Rattle.output_parts.proofs.part.behind_line.Goals as goal
 
+pub returns-in-Some-clause-line : goal.returns-in-Some-clause-line
+returns-in-Some-clause-line c = (_, cut_here 10 c.args.text.now c.in-Some.end (sym c.in-Some.ensures.place))
+
 pub returns-in-Some-clause-end : goal.returns-in-Some-clause-end
 returns-in-Some-clause-end c = cut_end 10 _ _ _ (cut_here 10 c.args.text.now c.in-Some.end (sym c.in-Some.ensures.place))
 

@@ -1,6 +1,10 @@
 use Rattle.output_parts.proofs.Lines.{end_of_line}
+use Rattle.output_parts.proofs.Standing.{line_of_head}
 use Rattle.output_parts.proofs.Texts.{line_rest}
 use Rattle.output_parts.proofs.part.behind_line_with.Goals as goal
+
+pub returns-in-Some-clause-line : goal.returns-in-Some-clause-line
+returns-in-Some-clause-line c = line_of_head c.args.text.now c.args.head.now c.in-Some.words.now c.behind_line.result c.in-Some.ensures c.behind_line.ensures.line
 
 pub returns-in-Some-clause-end : goal.returns-in-Some-clause-end
 returns-in-Some-clause-end c = end_of_line c.args.text.now c.args.head.now c.in-Some.words.now c.behind_line.result c.in-Some.ensures c.behind_line.ensures.end

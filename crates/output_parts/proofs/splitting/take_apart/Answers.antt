@@ -3,6 +3,7 @@ use Rattle.std.proofs.lemmas.List.{drop_more}
 use Rattle.output_parts.specs.declared.part.Part.{Part}
 use Rattle.output_parts.proofs.Left.{keeps_more}
 use Rattle.output_parts.proofs.Lines.{end_of_end}
+use Rattle.output_parts.proofs.Standing.{behind_more}
 use Rattle.output_parts.proofs.splitting.take_apart.Goals as goal
 
 pub loop-part-preserved : goal.loop-part-preserved
@@ -15,5 +16,6 @@ loop-part-preserved c =
     record {
       keeps = keeps_more parts (drop i parts) (drop (i + 1) parts) p c.args.text.now c.loop-part.rest.now c.in-Some.behind.now c.in-Some.line c.loop-part.lines.items c.push.new.self.items
           next pushed c.in-Some.ensures.found c.loop-part.invariant.keeps;
+      behind = behind_more parts (drop i parts) (drop (i + 1) parts) p c.args.text.now c.loop-part.rest.now c.in-Some.behind.now next c.in-Some.ensures.stands c.loop-part.invariant.behind;
       end = end_of_end c.args.text.now c.loop-part.rest.now c.in-Some.behind.now c.loop-part.invariant.end c.in-Some.ensures.end;
     }

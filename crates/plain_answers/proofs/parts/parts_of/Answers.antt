@@ -6,8 +6,8 @@ use Rattle.run_output.specs.Answers.{NamesColumns}
 use Rattle.run_output.specs.Outcomes.{plans_of}
 use Rattle.run_output.specs.declared.outcome.Outcome.{Outcome}
 use Rattle.output_parts.specs.declared.part.Part.{Part}
-use Rattle.plain_answers.specs.Parts.{ArePartsFor, ArePartsFrom}
-use Rattle.plain_answers.proofs.Statements.{first_of, no_parts, none_left, plans_tail}
+use Rattle.plain_answers.specs.Parts.{ArePartsFrom, parts_in}
+use Rattle.plain_answers.proofs.Statements.{first_of, no_parts, none_left, parts_print, plans_tail}
 use Rattle.plain_answers.proofs.parts.parts_of.Goals as goal
 
 pub loop-statements-preserved : goal.loop-statements-preserved
@@ -30,18 +30,21 @@ loop-statements-preserved c =
       number = omega (arith, inv.number, count);
       plans = plans_tail (NamesColumns (length columns)) o more (subst Plans whole inv.plans);
       answers = told.left more (subst Answers whole inv.answers);
-      parts = λ ps rest.
-          let Mine = λ (xs : List Outcome). ArePartsFrom columns dicts (l.query + 1) xs l.left.now (part ∷ ps) in
-          let All = λ (xs : List Part). ArePartsFrom columns dicts 1 c.args.outcomes.now c.args.answers.now xs in
-          let same : l.parts.items ++ (part ∷ ps) ≡ c.push.new.self.items ++ ps = sym (ap (λ (xs : List Part). xs ++ ps) grown ∙ append_assoc l.parts.items (part ∷ []) ps) in
-          subst All same (inv.parts (part ∷ ps) (subst Mine (sym whole) (told.part more ps rest)));
+      parts =
+          ap (λ (xs : List Part). xs ++ parts_in columns dicts (l.query + 1 + 1) more c.in_ok-part.behind.now) grown
+          ∙ (append_assoc l.parts.items (part ∷ []) (parts_in columns dicts (l.query + 1 + 1) more c.in_ok-part.behind.now)
+          ∙ (ap (λ (xs : List Part). l.parts.items ++ xs) (sym (ap (λ (xs : List Outcome). parts_in columns dicts (l.query + 1) xs l.left.now) whole ∙ told.part more)) ∙ inv.parts));
     }
 
-pub returns : goal.returns
-returns c answers zip =
+pub returns-clause-parts : goal.returns-clause-parts
+returns-clause-parts c =
     let l = c.loop-statements in
+    sym (append-nil l.parts.items)
+    ∙ (ap (λ (xs : List Part). l.parts.items ++ xs) (sym (no_parts c.args.schema.now c.args.dicts.now (l.query + 1) l.statements.now l.left.now (none_left l.statements.now c.in_default.len_below))) ∙ l.invariant.parts)
+
+pub returns-clause-print : goal.returns-clause-print
+returns-clause-print c =
     let columns = c.args.schema.now in
     let dicts = c.args.dicts.now in
-    let For = λ (xs : List Part). ArePartsFor columns dicts 1 c.args.outcomes.now xs answers in
-    subst For (append-nil l.parts.items)
-    (l.invariant.parts [] (no_parts columns dicts (l.query + 1) l.statements.now l.left.now (none_left l.statements.now c.in_default.len_below)) answers zip)
+    let Are = λ (ps : List Part). ArePartsFrom columns dicts 1 c.args.outcomes.now c.args.answers.now ps in
+    subst Are (sym (returns-clause-parts c)) (parts_print columns dicts 1 c.args.outcomes.now c.args.answers.now)

@@ -1,10 +1,9 @@
-use Rattle.std.proofs.Common.{◌≡◌, ◌+◌, ◌++◌, List, length}
+use Rattle.std.proofs.Common.{◌≡◌, ◌+◌, ◌++◌, length}
 use Rattle.std.specs.List.{AllByRecursion, AllZip}
 use Rattle.query_gather.specs.Answer.{CanBeWritten}
 use Rattle.run_output.specs.Answers.{NamesColumns}
 use Rattle.run_output.specs.Outcomes.{plans_of}
-use Rattle.output_parts.specs.declared.part.Part.{Part}
-use Rattle.plain_answers.specs.Parts.{ArePartsFrom}
+use Rattle.plain_answers.specs.Parts.{parts_in}
 use Rattle.plain_answers.proofs.parts.parts_of.Given as goal
 
 abbrev pub invariant-loop-statements : goal.invariant-loop-statements
@@ -12,7 +11,7 @@ invariant-loop-statements l = record {
   number : l.query + length l.statements ≡ length l.fn.outcomes;
   plans : AllByRecursion (NamesColumns (length l.fn.schema)) (plans_of l.statements);
   answers : AllZip (CanBeWritten l.fn.dicts) (plans_of l.statements) l.left;
-  parts : (ps : List Part) → ArePartsFrom l.fn.schema l.fn.dicts (l.query + 1) l.statements l.left ps → ArePartsFrom l.fn.schema l.fn.dicts 1 l.fn.outcomes l.fn.answers (l.parts.items ++ ps);
+  parts : l.parts.items ++ parts_in l.fn.schema l.fn.dicts (l.query + 1) l.statements l.left ≡ parts_in l.fn.schema l.fn.dicts 1 l.fn.outcomes l.fn.answers;
 }
 
 abbrev pub decreases-loop-statements : goal.decreases-loop-statements

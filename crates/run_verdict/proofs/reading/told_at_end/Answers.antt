@@ -14,6 +14,6 @@ overflow_add-line c =
     omega (arith, low, c.requires.short)
 
 pub returns-in-Err-clause-bad : goal.returns-in-Err-clause-bad
-returns-in-Err-clause-bad c =
+returns-in-Err-clause-bad c i whole =
     let Bad = λ (r : Result (Vec Entry Global) ℕ). IfErr r (IsFirstBad c.args.trace.now) in
-    no_entry_at c.args.output.now c.args.trace.now c.line_of_end-first.result c.in-Err.line _ c.requires.end c.line_of_end-first.ensures (subst Bad c.in-Err.is c.in_ok-story.ensures.bad) refl
+    no_entry_at i c.args.output.now c.args.trace.now c.line_of_end-first.result c.in-Err.line _ whole c.line_of_end-first.ensures (subst Bad c.in-Err.is c.in_ok-story.ensures.bad) refl

@@ -19,7 +19,7 @@ use Rattle.run_decision.specs.Tasks.{tasks_in}
 use Rattle.run_decision.proofs.Tasked.{scans-few, zip-length}
 use Rattle.run_verdict.specs.Judged.{IsJudged}
 use Rattle.run_verdict.specs.Plain.{ArePlain, IsPlain}
-use Rattle.run_verdict.specs.Reading.{text_with}
+use Rattle.run_verdict.specs.Reading.{IsTrace, text_with}
 use Rattle.run_verdict.specs.Stops.{stop_of_task}
 use Rattle.run_verdict.specs.Told.{run_setting}
 use Rattle.run_verdict.specs.Verdict.{IsOfReading}
@@ -58,6 +58,15 @@ read_output-requires-clause-cells c =
     let are3 = subst Here (sym c.deref-3.ensures.value) are in
     written i can (plans_of os) d3 are3
 
+pub read_output-requires-clause-plain : goal.read_output-requires-clause-plain
+read_output-requires-clause-plain c =
+    let i = c.args.inputs.now in
+    let rows = i.loaded.table.rows in
+    let os = i.outcomes.items in
+    let Plain = λ (xs : List Outcome). ArePlain rows (plans_of xs) c.in_ok-plain.plain.items in
+    let Here = λ (gs : List Answer). ArePlain rows (plans_of os) gs in
+    subst Here (sym c.deref-3.ensures.value) (subst Plain c.deref-2.ensures.value c.in_ok-plain.ensures.plain)
+
 pub returns-in-Err : goal.returns-in-Err
 returns-in-Err c =
     let i = c.args.inputs.now in
@@ -72,7 +81,7 @@ returns-in-Err c =
     let r = c.in_ok-told.field-0 in
     let reads_all = c.in_ok-told.ensures.read in
     let v = c.in-Err.verdict in
-    let Not = λ (x : Result Told Verdict). IfErr x (IsOfReading c.args.output.now) in
+    let Not = λ (x : Result Told Verdict). IfErr x (IsOfReading i c.args.output.now) in
     record {
       verdict = none_told i c.args.policy c.args.output.now v (subst Not c.in-Err.is c.in_ok-told.ensures.none)
           (refused_none i can c.args.policy c.args.output.now c.requires.short d3 are3 r reads_all v c.in-Err.is);
@@ -108,6 +117,7 @@ returns-in-Illegal c =
     let refused = subst Refused c.in-Illegal.is is in
     let Begins = λ (x : Result Told Verdict). IfOk x (λ (k : Told). BeginsAtLine c.args.output.now (story_text k.story.items) k.first) in
     let begins = subst Begins c.in-Ok.is c.in_ok-told.ensures.end in
+    let Traces = λ (x : Result Told Verdict). IfOk x (λ (k : Told). IsTrace i c.args.output.now (story_text k.story.items)) in
     let Fit = λ (x : Result Told Verdict). IfOk x (λ (k : Told). AllByRecursion Fits k.story.items) in
     let fit = subst Fit c.in-Ok.is c.in_ok-told.ensures.fits in
     record {
@@ -115,7 +125,7 @@ returns-in-Illegal c =
         none = judged_none i can c.args.policy c.args.output.now c.requires.short d3 are3 r reads_all t c.in-Ok.is j is
             (λ n a e. let k : judged.Illegal c.in-Illegal.place c.in-Illegal.reason ≡ judged.Legal n a = sym c.in-Illegal.is ∙ e in absurd cc);
         story = t.story.items;
-        ends = record { before = begins.before; joined = begins.joined };
+        trace = subst Traces c.in-Ok.is c.in_ok-told.ensures.trace;
         refused = refused.refused;
         at_line = entry_at c.args.output.now t.story.items t.first c.in-Illegal.place fit refused.first.0 begins;
       };
@@ -140,14 +150,13 @@ returns-in-NotWhole c =
     let is = subst Judges c.deref-5.ensures.value c.in_ok-counts.ensures in
     let Left = λ (k : Judged). IsJudged (run_setting i c.args.policy) t.story.items k in
     let left = subst Left c.in-NotWhole.is is in
-    let Begins = λ (x : Result Told Verdict). IfOk x (λ (k : Told). BeginsAtLine c.args.output.now (story_text k.story.items) k.first) in
-    let begins = subst Begins c.in-Ok.is c.in_ok-told.ensures.end in
+    let Traces = λ (x : Result Told Verdict). IfOk x (λ (k : Told). IsTrace i c.args.output.now (story_text k.story.items)) in
     record {
       verdict = record {
         none = judged_none i can c.args.policy c.args.output.now c.requires.short d3 are3 r reads_all t c.in-Ok.is j is
             (λ n a e. let k : judged.NotWhole ≡ judged.Legal n a = sym c.in-NotWhole.is ∙ e in absurd cc);
         story = t.story.items;
-        ends = record { before = begins.before; joined = begins.joined };
+        trace = subst Traces c.in-Ok.is c.in_ok-told.ensures.trace;
         legal = left.0;
         unfinished = left.1;
       };
