@@ -2,8 +2,8 @@
 use Rattle.std.specs.Prelude.{◌⊎◌, codes}
 use Rattle.std.specs.declared.io.ErrorKind.{ErrorKind}
 use Rattle.std.specs.declared.io.ErrorKind.TheVariants as kind
-use Rattle.coop_inspect.specs.Replies.{IsFault, IsMemory}
-use Rattle.coop_inspect.specs.declared.reply.Reply.{Reply}
+use Rattle.inspect_calls.specs.Replies.{IsFault, IsMemory}
+use Rattle.inspect_calls.specs.declared.reply.Reply.{Reply}
 
 -- a word that isn't UTF-8 is a faulty command line, and all else is out of memory
 abbrev pub IsUnreadFor : ErrorKind → Reply → Type 0

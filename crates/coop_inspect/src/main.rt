@@ -1,32 +1,13 @@
 //! `coop_inspect`: explains a batch of coop_cli, judges the output of a run, or draws it. docs/INSPECT.md is its manual.
-//! `main` hands `inspect` the words, the files of the system, standard output and standard error; the theorem is
-//! `inspect`'s.
+//! `main` hands `inspect` of inspect_calls the words, the files of the system, standard output and standard error; the
+//! theorem is `inspect`'s.
 #![tactic(auto)]
 
-mod drawing;
-mod explaining;
-mod inspect;
-mod judging;
-mod lines;
-mod output;
-mod ranks;
-mod reasons;
-mod refusals;
-mod reply;
-#[cfg(test)]
-mod smallest_picture;
-mod statements;
-mod stderr_sink;
-#[cfg(test)]
-mod tests;
-mod verdicts;
 mod words;
 
-use crate::inspect::inspect;
-use crate::reply::say;
-use crate::stderr_sink::StderrSink;
 use crate::words::{all_words, behind_name, unread};
 use coop_outside::{DiskShelf, StdoutSink};
+use inspect_calls::{StderrSink, inspect, say};
 use std::hash::RandomState;
 use std::io;
 use std::process::ExitCode;

@@ -3,7 +3,7 @@ ghost use Rattle.std.specs.Prelude.{◌≡◌, drop};
 ghost use Rattle.std.specs.IoError.{error_kind};
 ghost use Rattle.coop_inspect.specs.Words.{IsUnreadFor};
 
-use crate::reply::Reply;
+use inspect_calls::Reply;
 use std::alloc::Global;
 use std::{env, io};
 

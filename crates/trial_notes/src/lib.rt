@@ -1,9 +1,11 @@
-//! Trials of what is told of a table and of a batch before it runs, the lines of profiles and those of notes; and of the
-//! picture of a story.
+//! Trials of what is told of a table and of a batch before it runs, the lines of profiles and those of notes; of the
+//! picture of a story; and of the whole texts that coop_inspect says.
 //!
 //! All of it is tests. docs/INSPECT.md tells the form of the lines.
 #![tactic(auto)]
 
+#[cfg(test)]
+mod calls;
 #[cfg(test)]
 mod loading;
 #[cfg(test)]

@@ -1,0 +1,68 @@
+-- What is said to `draw`.
+use Rattle.std.specs.Prelude.{◌≡◌, ◌≤◌, ◌⊎◌, ◌++◌, ℕ, false, List, [], codes, decimal}
+use Rattle.coop_outside.specs.Held.{Held}
+use Rattle.scan_story.specs.Text.{story_text}
+use Rattle.scan_story.specs.declared.entry.Entry.{Entry}
+use Rattle.story_picture.specs.Svg.{picture}
+use Rattle.story_picture.specs.Groups.{IsLeastGroups, fills_agree}
+use Rattle.story_picture.specs.Trace.{IsBadLine, trace}
+use Rattle.inspect_calls.specs.Output.{IsReadAs, IsUnread}
+use Rattle.inspect_calls.specs.Replies.{IsAnswer, IsFault, IsMemory}
+use Rattle.inspect_calls.specs.declared.reply.Reply.{Reply}
+
+abbrev pub no_trace_line : List ℕ
+no_trace_line = codes "stopped 3: no trace in the output\n"
+
+abbrev pub no_entry_line : ℕ → List ℕ
+no_entry_line line = codes "stopped 3: line " ++ (decimal line ++ codes " of the output is no entry\n")
+
+-- this line of OUTPUT is no entry, and it is told; or memory ran out
+abbrev pub IsNoEntry : ℕ → Reply → Type 0
+IsNoEntry line reply = IsFault 3 (no_entry_line line) reply ⊎ IsMemory reply
+
+-- a chunk has the least number of pieces by which the loads agree, or 1 where they agree by none
+abbrev pub AgreeByNone : List Entry → Type 0
+AgreeByNone entries = (g : ℕ) → 1 ≤ g → g ≤ 16 → fills_agree g 0 entries ≡ false
+
+abbrev pub IsGroupsIn : List Entry → ℕ → Type 0
+IsGroupsIn entries groups = IsLeastGroups entries groups ⊎ ((groups ≡ 1) × AgreeByNone entries)
+
+-- the picture of a story
+pub record IsPictureOf (entries : List Entry) (reply : Reply) : Type 0 where
+  pub groups : ℕ
+  pub groups_are : IsGroupsIn entries groups
+  pub answer : IsAnswer 0 (picture groups entries) reply
+
+abbrev pub IsDrawnAs : List Entry → Reply → Type 0
+IsDrawnAs entries reply = IsPictureOf entries reply ⊎ IsMemory reply
+
+-- the trace at the end of a text is this story's
+pub record IsOfStory (text : List ℕ) (reply : Reply) : Type 0 where
+  pub entries : List Entry
+  pub story : trace text ≡ story_text entries
+  pub drawn : IsDrawnAs entries reply
+
+-- there is no trace
+pub record LacksTrace (text : List ℕ) (reply : Reply) : Type 0 where
+  pub none : trace text ≡ []
+  pub told : IsFault 3 no_trace_line reply ⊎ IsMemory reply
+
+-- it is no story's, since this line is no entry
+pub record IsOfNoStory (text : List ℕ) (reply : Reply) : Type 0 where
+  pub line : ℕ
+  pub bad : IsBadLine text line
+  pub told : IsNoEntry line reply
+
+-- what is said of the text of OUTPUT
+abbrev pub IsPicture : List ℕ → Reply → Type 0
+IsPicture text reply = IsOfStory text reply ⊎ LacksTrace text reply ⊎ IsOfNoStory text reply ⊎ IsMemory reply
+
+-- OUTPUT was read as some text, and what is said is of it
+pub record IsOfText (held : Held) (name : List ℕ) (reply : Reply) : Type 0 where
+  pub text : List ℕ
+  pub read : IsReadAs held name text
+  pub picture : IsPicture text reply
+
+-- WHAT IS SAID to `draw`
+abbrev pub IsDrawing : Held → List ℕ → ℕ → ℕ → Reply → Type 0
+IsDrawing held name before now reply = IsOfText held name reply ⊎ IsUnread held name before now reply

@@ -1,0 +1,56 @@
+-- What is said to `judge`.
+use Rattle.std.specs.Prelude.{◌≡◌, ◌⊎◌, ℕ, List, Ok, Err, Result}
+use Rattle.coop_outside.specs.Held.{Held}
+use Rattle.command_words.specs.Options.{Request}
+use Rattle.run_inputs.specs.Ending.{IsRead}
+use Rattle.run_inputs.specs.declared.inputs.Inputs.{Inputs}
+use Rattle.run_output.specs.declared.stop.Stop.{Stop}
+use Rattle.run_verdict.specs.Verdict.{IsVerdict}
+use Rattle.run_verdict.specs.declared.verdict.Verdict.{Verdict}
+use Rattle.scan_story.specs.declared.setting.PolicyName.{PolicyName}
+use Rattle.inspect_calls.specs.Output.{IsReadAs, IsUnread}
+use Rattle.inspect_calls.specs.Replies.{IsAnswer, IsMemory, IsStop}
+use Rattle.inspect_calls.specs.Verdicts.{IsVerdictText, verdict_status}
+use Rattle.inspect_calls.specs.declared.reply.Reply.{Reply}
+
+-- the verdict is told with its status, or memory ran out
+pub record IsTextTold (v : Verdict) (reply : Reply) : Type 0 where
+  pub text : List ℕ
+  pub is : IsVerdictText v text
+  pub answer : IsAnswer (verdict_status v) text reply
+
+abbrev pub IsVerdictTold : Verdict → Reply → Type 0
+IsVerdictTold v reply = IsTextTold v reply ⊎ IsMemory reply
+
+-- the verdict on a text is told, or memory ran out
+pub record IsOfVerdict (i : Inputs) (policy : PolicyName) (text : List ℕ) (reply : Reply) : Type 0 where
+  pub verdict : Verdict
+  pub is : IsVerdict i policy text verdict
+  pub told : IsVerdictTold verdict reply
+
+abbrev pub IsJudgementOf : Inputs → PolicyName → List ℕ → Reply → Type 0
+IsJudgementOf i policy text reply = IsOfVerdict i policy text reply ⊎ IsMemory reply
+
+-- OUTPUT was read as some text, and what is said is of it
+pub record IsOfOutput (i : Inputs) (policy : PolicyName) (held : Held) (name : List ℕ) (reply : Reply) : Type 0 where
+  pub text : List ℕ
+  pub read : IsReadAs held name text
+  pub judged : IsJudgementOf i policy text reply
+
+-- OUTPUT is judged, or it isn't read
+abbrev pub IsJudgedFrom : Inputs → PolicyName → Held → List ℕ → ℕ → ℕ → Reply → Type 0
+IsJudgedFrom i policy held name before now reply = IsOfOutput i policy held name reply ⊎ IsUnread held name before now reply
+
+-- the request gives a run something, or stops it: then OUTPUT isn't read
+abbrev pub IsJudgedBy : Request → Held → List ℕ → ℕ → ℕ → Reply → Result Inputs Stop → Type 0
+IsJudgedBy r held name before now reply (Ok i) = IsJudgedFrom i r.policy held name before now reply
+IsJudgedBy r held name before now reply (Err stop) = IsStop stop reply
+
+-- WHAT IS SAID to `judge`: first what the table and the batch give is read, then OUTPUT from a shelf that holds the same
+pub record IsJudgement (r : Request) (held : Held) (name : List ℕ) (before now : ℕ) (reply : Reply) : Type 0 where
+  pub between : ℕ
+  pub then_held : Held
+  pub inputs : Result Inputs Stop
+  pub read : IsRead r held before between inputs
+  pub same : then_held ≡ held
+  pub judged : IsJudgedBy r then_held name between now reply inputs

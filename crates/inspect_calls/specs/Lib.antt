@@ -1,0 +1,11 @@
+pub mod Replies
+pub mod Saying
+pub mod Output
+pub mod Drawing
+pub mod Placing
+pub mod Telling
+pub mod Explaining
+pub mod Reasons
+pub mod Verdicts
+pub mod Judging
+pub mod Answers

@@ -1,0 +1,42 @@
+-- The text of a verdict.
+use Rattle.std.specs.Prelude.{◌≡◌, ◌++◌, ℕ, List, codes, decimal}
+use Rattle.run_verdict.specs.declared.verdict.Verdict.{Verdict}
+use Rattle.run_verdict.specs.declared.verdict.Verdict.TheVariants as verdict
+use Rattle.story_referee.specs.declared.counts.Counts.{Counts}
+use Rattle.story_referee.specs.declared.ruling.Reason.{Reason}
+use Rattle.inspect_calls.specs.Reasons.{reason_text}
+
+-- a text with a number behind some words
+abbrev pub with_number : List ℕ → ℕ → List ℕ → List ℕ
+with_number words n before = before ++ (words ++ decimal n)
+
+-- how many entries of each kind there are
+abbrev pub counts_text : Counts → List ℕ → List ℕ
+counts_text c before =
+    with_number (codes ", end ") c.ends (with_number (codes ", stop ") c.stops (with_number (codes ", release ") c.releases (with_number (codes ", deliver ") c.delivers
+    (with_number (codes ", failed ") c.failed (with_number (codes ", filled ") c.filled (with_number (codes ", fill ") c.fills (with_number (codes ", evict ") c.evicts
+    (with_number (codes ", plan ") c.plans (with_number (codes "\nregister ") c.registers before)))))))))
+
+-- how many entries there are and how many reads, and how many reads separate scans would make
+abbrev pub legal_text : ℕ → ℕ → ℕ → Counts → List ℕ
+legal_text entries reads apart c =
+    counts_text c (with_number (codes " reads, at most ") apart (with_number (codes ", ") reads (codes "legal: " ++ (decimal entries ++ codes " entries")))) ++ codes "\n"
+
+-- the line of an entry that may not come, and why
+abbrev pub illegal_text : ℕ → Reason → List ℕ
+illegal_text line why = codes "not legal: line " ++ (decimal line ++ (codes " " ++ (reason_text why ++ codes "\n")))
+
+-- the lines of a verdict
+abbrev pub IsVerdictText : Verdict → List ℕ → Type 0
+IsVerdictText (verdict.Legal entries reads apart counts) text = text ≡ legal_text entries reads apart counts
+IsVerdictText (verdict.NotAnswered query) text = text ≡ codes "not legal: query " ++ (decimal query ++ codes " has neither its answer nor the line of a stop\n")
+IsVerdictText verdict.NoSummary text = text ≡ codes "not legal: no summary stands behind the answers\n"
+IsVerdictText (verdict.NotStory line) text = text ≡ codes "not legal: line " ++ (decimal line ++ codes " is no entry\n")
+IsVerdictText (verdict.Illegal line place reason) text = text ≡ illegal_text line reason
+IsVerdictText verdict.NotWhole text = text ≡ codes "not legal: a query isn't over, or something is left open\n"
+IsVerdictText verdict.Differs text = text ≡ codes "not legal: the line of a stop, or the summary, isn't that of the story\n"
+
+-- 0 for yes, and 1 for no
+abbrev pub verdict_status : Verdict → ℕ
+verdict_status (verdict.Legal entries reads apart counts) = 0
+verdict_status _ = 1

@@ -1,0 +1,25 @@
+//! What `coop_inspect` says to its words: it explains a batch of coop_cli, judges the output of a run, or draws it.
+//! docs/INSPECT.md has the words.
+//!
+//!     let words = vec![in alloc; explain, table, batch]?;
+//!     let (mut out, mut err) = (StdoutSink::new(rt), StderrSink::new(rt));
+//!     let status = inspect(alloc, keys, &words, &mut DiskShelf::new(rt), &mut out, &mut err);
+#![tactic(auto)]
+
+mod calls;
+mod drawing;
+mod explaining;
+mod judging;
+mod lines;
+mod output;
+mod ranks;
+mod reasons;
+mod refusals;
+mod reply;
+mod statements;
+mod stderr_sink;
+mod verdicts;
+
+pub use calls::inspect;
+pub use reply::{Reply, say};
+pub use stderr_sink::StderrSink;

@@ -1,0 +1,106 @@
+// The text of a verdict.
+ghost use Rattle.std.specs.Prelude.{◌≡◌, ◌++◌, IfOk, OnOk, decimal};
+ghost use Rattle.inspect_calls.specs.Verdicts.{IsVerdictText, counts_text, illegal_text, legal_text, verdict_status};
+
+use crate::lines::{numbered, push_number};
+use crate::reasons::ShownReason;
+use run_verdict::Verdict;
+use std::alloc::{AllocError, Global};
+use story_referee::{Counts, Reason};
+
+/// 0 where the output is that of a legal run, else 1.
+pub(crate) fn status_of(verdict: &Verdict) -> u8
+    ensures { result ≡ verdict_status verdict.now }
+{
+    match verdict {
+        Verdict::Legal { .. } => 0,
+        _ => 1,
+    }
+}
+
+/// The lines that tell a verdict.
+pub(crate) fn text_of(alloc: Global, verdict: &Verdict) -> Result<Vec<u8>, AllocError>
+    ensures { IfOk result (λ text. IsVerdictText verdict.now text.items) }
+{
+    match verdict {
+        Verdict::Legal {
+            entries,
+            reads,
+            apart,
+            counts,
+        } => legal_text(alloc, *entries as u64, *reads, *apart, counts),
+        Verdict::NotAnswered { query } => numbered(
+            alloc,
+            b"not legal: query ",
+            *query as u64,
+            b" has neither its answer nor the line of a stop\n",
+        ),
+        Verdict::NoSummary => Vec::from_slice(
+            alloc,
+            b"not legal: no summary stands behind the answers\n",
+        ),
+        Verdict::NotStory { line } => numbered(
+            alloc,
+            b"not legal: line ",
+            *line,
+            b" is no entry\n",
+        ),
+        Verdict::Illegal { line, reason, .. } => illegal_text(alloc, *line, *reason),
+        Verdict::NotWhole => {
+            Vec::from_slice(
+                alloc,
+                b"not legal: a query isn't over, or something is left open\n",
+            )
+        }
+        Verdict::Differs => Vec::from_slice(
+            alloc,
+            b"not legal: the line of a stop, or the summary, isn't that of the story\n",
+        ),
+    }
+}
+
+// The line of an entry that may not come.
+fn illegal_text(alloc: Global, line: u64, reason: Reason) -> Result<Vec<u8>, AllocError>
+    ensures { IfOk result (λ text. text.items ≡ illegal_text line reason) }
+{
+    let why = ShownReason { reason };
+    match format!(in alloc; "not legal: line {line} {why}\n") {
+        Ok(text) => Ok(text.into_bytes()),
+        Err(_) => Err(AllocError),
+    }
+}
+
+// The lines of a legal run.
+fn legal_text(
+    alloc: Global,
+    entries: u64,
+    reads: u64,
+    apart: u64,
+    counts: &Counts,
+) -> Result<Vec<u8>, AllocError>
+    ensures { IfOk result (λ text. text.items ≡ legal_text entries reads apart counts.now) }
+{
+    let mut text = numbered(alloc, b"legal: ", entries, b" entries")?;
+    push_number(&mut text, b", ", reads)?;
+    push_number(&mut text, b" reads, at most ", apart)?;
+    push_counts(&mut text, counts)?;
+    text.extend_from_slice(b"\n")?;
+    Ok(text)
+}
+
+// Puts how many entries of each kind there are at the end.
+fn push_counts(text: &mut Vec<u8>, counts: &Counts) -> Result<(), AllocError>
+    ensures { OnOk result (text.new.items ≡ counts_text counts.now text.old.items) }
+{
+    push_number(text, b"\nregister ", counts.registers as u64)?;
+    push_number(text, b", plan ", counts.plans as u64)?;
+    push_number(text, b", evict ", counts.evicts as u64)?;
+    push_number(text, b", fill ", counts.fills as u64)?;
+    push_number(text, b", filled ", counts.filled as u64)?;
+    push_number(text, b", failed ", counts.failed as u64)?;
+    push_number(text, b", deliver ", counts.delivers as u64)?;
+    push_number(text, b", release ", counts.releases as u64)?;
+    push_number(text, b", stop ", counts.stops as u64)?;
+    push_number(text, b", end ", counts.ends as u64)?;
+    Ok(())
+}

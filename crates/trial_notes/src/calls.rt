@@ -1,0 +1,206 @@
+// What coop_inspect says, over files in memory: whole texts.
+use crate::smallest_picture::SMALLEST_PICTURE;
+use coop_outside::{Bytes, MemShelf, MemSink};
+use inspect_calls::inspect;
+use std::alloc::Global;
+use std::hash::RandomState;
+use std::test::Fail;
+
+// Files by their names.
+const FILES: &[(&str, &[u8])] = &[
+    ("table", b"id,dept,pay\n1,a,10\n2,b,20\n3,a,\n"),
+    ("other", b"id,dept,pay\n1,a,10\n2,b,20\n"),
+    ("batch", b"SELECT COUNT(*) FROM t;\n"),
+    ("query", b"SELECT SUM(pay) FROM t WHERE id > 1;\n"),
+    (
+        "mistakes",
+        b"SELECT dept, SUM(pay) FROM t GROUP BY dept;\nSELECT COUNT(*)\n  FORM t;\n",
+    ),
+    // What coop_cli prints of the batch with one worker and the whole table in one chunk.
+    (
+        "out",
+        b"query 1\n3\nregister 0 1\nplan 0 1 0\nfill 0 0 0\nfilled 0 0 0\ndeliver 0 1 0\nrelease 0 1 0\nend 0 1\n",
+    ),
+    // The same, cut inside of a line, cut behind one, and with a line changed.
+    ("cut", b"query 1\n3\nregister 0 1\nplan 0 1 0\nfill 0 0 0"),
+    (
+        "short",
+        b"query 1\n3\nregister 0 1\nplan 0 1 0\nfill 0 0 0\n",
+    ),
+    (
+        "changed",
+        b"query 1\n3\nregister 0 1\nplan 0 1 0\nfill 0 4 0\n",
+    ),
+    (
+        "wrong",
+        b"query 1\n4\nregister 0 1\nplan 0 1 0\nfill 0 0 0\n",
+    ),
+    ("bytes", b"query 1\n3\nregister 0 1\nplan 0 1 \xff\n"),
+    ("answers", b"query 1\n3\n"),
+    ("empty", b""),
+];
+
+// Words, the status, and what goes to standard output and to standard error.
+const SAID: &[(&str, u8, &str, &str)] = &[
+    ("draw|out", 0, SMALLEST_PICTURE, ""),
+    ("draw|none", 4, "", "stopped 4: output read fault\n"),
+    (
+        "draw|cut",
+        3,
+        "",
+        "stopped 3: line 5 of the output is no entry\n",
+    ),
+    (
+        "draw|bytes",
+        3,
+        "",
+        "stopped 3: line 4 of the output is no entry\n",
+    ),
+    ("draw|answers", 3, "", "stopped 3: no trace in the output\n"),
+    ("draw|empty", 3, "", "stopped 3: no trace in the output\n"),
+    (
+        "judge|--threads|1|table|batch|out",
+        0,
+        "legal: 7 entries, 1 reads, at most 1\nregister 1, plan 1, evict 0, fill 1, filled 1, failed 0, deliver 1, release 1, stop 0, end 1\n",
+        "",
+    ),
+    (
+        "judge|--threads|1|table|batch|cut",
+        1,
+        "not legal: line 5 is no entry\n",
+        "",
+    ),
+    (
+        "judge|--threads|1|table|batch|bytes",
+        1,
+        "not legal: line 4 is no entry\n",
+        "",
+    ),
+    (
+        "judge|--threads|1|table|batch|short",
+        1,
+        "not legal: a query isn't over, or something is left open\n",
+        "",
+    ),
+    (
+        "judge|--threads|1|table|batch|changed",
+        1,
+        "not legal: line 5 may not come: there is no such frame\n",
+        "",
+    ),
+    (
+        "judge|--threads|1|table|batch|wrong",
+        1,
+        "not legal: query 1 has neither its answer nor the line of a stop\n",
+        "",
+    ),
+    (
+        "judge|--threads|1|other|batch|out",
+        1,
+        "not legal: query 1 has neither its answer nor the line of a stop\n",
+        "",
+    ),
+    (
+        "judge|--threads|1|table|batch|empty",
+        1,
+        "not legal: query 1 has neither its answer nor the line of a stop\n",
+        "",
+    ),
+    (
+        "judge|--threads|1|--summary|table|batch|answers",
+        1,
+        "not legal: no summary stands behind the answers\n",
+        "",
+    ),
+    (
+        "judge|none|batch|out",
+        4,
+        "",
+        "stopped 4: table read fault\n",
+    ),
+    (
+        "explain|table|query",
+        0,
+        "rows 3
+column 1 \"id\": INT, 0 NULL, least 1, greatest 3
+column 2 \"dept\": TEXT, 0 NULL, 2 distinct, least 'a', greatest 'b'
+column 3 \"pay\": INT, 1 NULL, least 10, greatest 20
+1: SELECT SUM ( \"pay\" ) FROM \"t\" WHERE \"id\" > 1
+  reads \"id\", \"pay\"
+  chunks 1 of 1
+  nothing is left out: column 1 is compared with a number that its zone in each chunk allows
+",
+        "",
+    ),
+    (
+        "explain|table|mistakes",
+        1,
+        "rows 3
+column 1 \"id\": INT, 0 NULL, least 1, greatest 3
+column 2 \"dept\": TEXT, 0 NULL, 2 distinct, least 'a', greatest 'b'
+column 3 \"pay\": INT, 1 NULL, least 10, greatest 20
+1: SELECT \"dept\" , SUM ( \"pay\" ) FROM \"t\" GROUP BY \"dept\"
+  reads \"dept\", \"pay\"
+  chunks 1 of 1
+  nothing is left out: there is no WHERE
+refused 2: syntax
+  at 3:3 FORM
+  could stand there: FROM or ','
+",
+        "",
+    ),
+];
+
+fn words_of(alloc: Global, line: &str) -> Result<Vec<String>, Fail> {
+    let mut words = Vec::new(alloc);
+    for word in line.split('|') {
+        words.push(String::from_str(alloc, word)?)?;
+    }
+    Ok(words)
+}
+
+fn shelf_of(alloc: Global) -> Result<MemShelf, Fail> {
+    let mut files = Vec::new(alloc);
+    for (name, text) in FILES {
+        let bytes = Bytes::new(Vec::from_slice(alloc, *text)?);
+        files.push((String::from_str(alloc, *name)?, bytes))?;
+    }
+    Ok(MemShelf {
+        files,
+        fail_reads: Vec::new(alloc),
+        calls: 0,
+        faults: 0,
+    })
+}
+
+fn sink(alloc: Global) -> MemSink {
+    MemSink {
+        taken: Bytes::new(Vec::new(alloc)),
+        per_call: 4096,
+        fail_writes: Vec::new(alloc),
+        calls: 0,
+        faults: 0,
+    }
+}
+
+#[test]
+fn each_call_says_just_its_text(rt: HostRuntime) -> Result<(), Fail> {
+    let alloc = rt.alloc();
+    for (line, status, text, fault) in SAID {
+        let (mut out, mut err) = (sink(alloc), sink(alloc));
+        let words = words_of(alloc, *line)?;
+        let keys = RandomState::new(&rt)?;
+        let ended = inspect(
+            alloc,
+            keys,
+            &words,
+            &mut shelf_of(alloc)?,
+            &mut out,
+            &mut err,
+        );
+        assert!(rt; ended == *status, "{line}");
+        assert!(rt; out.taken.as_slice() == text.as_bytes(), "{line}");
+        assert!(rt; err.taken.as_slice() == fault.as_bytes(), "{line}");
+    }
+    Ok(())
+}
