@@ -9,13 +9,15 @@ use Rattle.std.proofs.lemmas.List.FromFn.{length-range_with_len}
 use Rattle.std.proofs.lemmas.Nat.{div-mul-add}
 use Rattle.table_core.specs.declared.cell.Cell.{Cell}
 use Rattle.piece_format.specs.Shape.{TableShape, rows_in}
+use Rattle.row_blocks.specs.Blocks.{BlockView}
+use Rattle.top_rows.specs.Blocks.{numbered_at, numbered_rows}
 use Rattle.top_rows.specs.Rows.{Numbered, has_number}
 use Rattle.scan_story.specs.Counting.{has}
 use Rattle.sql_bind.specs.declared.plan.Plan.{Plan}
 use Rattle.sql_bind.specs.Meaning.{matches}
 use Rattle.query_gather.specs.declared.partial.Partial.{Partial}
 use Rattle.query_gather.specs.declared.partial.Partial.TheVariants.{Groups, Top}
-use Rattle.query_gather.specs.Partial.{IsNew, matching}
+use Rattle.query_gather.specs.Partial.{MayJoin, matching}
 use Rattle.story_laws.specs.Lists.{NoneTwice}
 use Rattle.story_laws.proofs.Bools.{either, if_not, not_both, or_false, or_left, or_off, same_number, equal_number, flipped, or_right, self_number}
 use Rattle.story_laws.proofs.Lists.{length_below}
@@ -90,15 +92,15 @@ module _ (z : TableShape) (some : 1 ≤ z.per) where
   pub few_numbers : (cs : List ℕ) → NoneTwice cs → length (numbers_of_chunks z cs) ≤ z.rows
   few_numbers cs once = length_below z.rows (numbers_of_chunks z cs) (numbers_once cs once) (λ n there. (in_chunks cs n there).1)
 
-  -- the next row of a chunk that isn't among these
-  pub new_number : (cs : List ℕ) (c row : ℕ) → has cs c ≡ false → row < rows_in z c → has (numbers_of_chunks z cs ++ range_with_len (c * z.per) row) (c * z.per + row) ≡ false
-  new_number cs c row fresh low =
+  -- a later row of a chunk that isn't among these
+  pub new_number : (cs : List ℕ) (c count row : ℕ) → has cs c ≡ false → count ≤ row → row < rows_in z c → has (numbers_of_chunks z cs ++ range_with_len (c * z.per) count) (c * z.per + row) ≡ false
+  new_number cs c count row fresh later low =
       let n = c * z.per + row in
       let is : n / z.per ≡ c = chunk_of_number c row (omega (arith, low, rows_within c)) in
-      has-append (numbers_of_chunks z cs) (range_with_len (c * z.per) row) n
-      ∙ or_off (has (numbers_of_chunks z cs) n) (has (range_with_len (c * z.per) row) n)
+      has-append (numbers_of_chunks z cs) (range_with_len (c * z.per) count) n
+      ∙ or_off (has (numbers_of_chunks z cs) n) (has (range_with_len (c * z.per) count) n)
       (if_not (has (numbers_of_chunks z cs) n) (λ there. not_both (has cs c) (subst (λ (d : ℕ). has cs d ≡ true) is (in_chunks cs n there).0) fresh))
-      (if_not (has (range_with_len (c * z.per) row) n) (λ there. (let i = in_range (c * z.per) row n there in omega (arith, i.1))))
+      (if_not (has (range_with_len (c * z.per) count) n) (λ there. (let i = in_range (c * z.per) count n there in omega (arith, i.1, later))))
 
 -- one more chunk
 pub numbers_more : (z : TableShape) (cs : List ℕ) (c : ℕ) → numbers_of_chunks z cs ++ chunk_numbers z c ≡ numbers_of_chunks z (cs ++ c ∷ [])
@@ -123,6 +125,18 @@ lacks_number p (r ∷ rows) n not =
     step true differs rest = or_off (n == r.0) (has_number (matching p rows) n) (flipped r.0 n differs) rest
     step false differs rest = rest
 
-pub is_new : (a : Partial) (p : Plan) (rows : List (Numbered Cell)) (n : ℕ) → has (numbers_of rows) n ≡ false → IsNew a (matching p rows) n
-is_new (Groups g) p rows n not = tt
-is_new (Top t) p rows n not = lacks_number p rows n not
+-- the numbers of the rows of a block
+in_block : (first : ℕ) (b : BlockView) (i k n : ℕ) → has_number (map (numbered_at first b) (range_with_len i k)) n ≡ true → (first + i ≤ n) × (n < first + i + k)
+in_block first b i zero n there = absurd (not_both false there refl)
+in_block first b i (suc k) n there =
+    either (n == first + i) (has_number (map (numbered_at first b) (range_with_len (i + 1) k)) n) there (λ e. (let is = same_number n (first + i) e in (omega (arith, is), omega (arith, is))))
+    (λ r. (let later = in_block first b (i + 1) k n r in (omega (arith, later.0), omega (arith, later.1))))
+
+-- the rows of a block are new among these, where none of these has one of their numbers
+pub may_join : (a : Partial) (p : Plan) (rows : List (Numbered Cell)) (first : ℕ) (b : BlockView) → ((i : ℕ) → i < b.count → has (numbers_of rows) (first + i) ≡ false) → MayJoin a (matching p rows) (numbered_rows first b)
+may_join (Groups g) p rows first b new = tt
+may_join (Top t) p rows first b new = λ n among. if_not (has_number (numbered_rows first b) n) (λ there.
+    let among_these = in_block first b 0 b.count n there in
+    let i : ℕ = n - first in
+    let is : first + i ≡ n = omega (arith, among_these.0) in
+    not_both (has_number (matching p rows) n) among (lacks_number p rows n (subst (λ (m : ℕ). has (numbers_of rows) m ≡ false) is (new i (omega (arith, among_these.0, among_these.1))))))

@@ -14,13 +14,14 @@ use frame_pool::Content;
 use piece_format::Shape;
 use query_gather::Partial;
 use relevance::Policy;
+use row_blocks::{Block, MOST_BLOCK_ROWS};
 use scan_story::Origin;
 use sql_bind::Plan;
-use table_core::{Cell, Memory};
+use table_core::Memory;
 
 /// Adds the rows of the chunk that is out, by their numbers in the table, until memory runs out.
 ///
-/// A row is read into one place for all rows, the columns of the plan alone.
+/// Rows are read some at a time, into one block for all of them, the columns of the plan alone.
 pub(crate) fn add_rows<S: Origin, C: Content, P: Policy, D: Depot>(
     scan: &mut CScan<'_, S, C, P, D>,
     held: &Held,
@@ -42,11 +43,13 @@ pub(crate) fn add_rows<S: Origin, C: Content, P: Policy, D: Depot>(
         → Gathered shape.now plan.now S.origin.held C.pieces (cs ++ held.now.given.chunk ∷ []) partial.new) }
 {
     let first = held.chunk() * shape.per;
-    let mut cells = [Cell::Null; 16];
-    let cells = &mut cells[..shape.kinds.len()];
-    for row in 0..held.rows() {
-        held.row(scan, row, &plan.columns, cells);
-        partial.add_row(plan, first + row, cells)?;
+    let rows = held.rows();
+    let mut block = Block::new();
+    for turn in 0..rows.div_ceil(MOST_BLOCK_ROWS) {
+        let start = turn * MOST_BLOCK_ROWS;
+        let count = MOST_BLOCK_ROWS.min(rows - start);
+        held.block(scan, start, count, &plan.columns, &mut block);
+        partial.add_block(plan, first + start, &block)?;
     }
     Ok(())
 }

@@ -1,15 +1,19 @@
-use Rattle.std.proofs.Common.{◌≡◌, ◌∙◌, ◌<◌, ◌≤◌, ◌+◌, ◌*◌, ◌++◌, ◌∷◌, [], ℕ, List, Option, length, arith, ap, subst}
+use Rattle.std.proofs.Common.{◌≡◌, ◌∙◌, ◌<◌, ◌≤◌, ◌+◌, ◌-◌, ◌*◌, ◌++◌, ℕ, List, Option, length, min, arith, ap, subst}
+use Rattle.std.proofs.lemmas.Grind.{div_ceil_times}
 use Rattle.scan_story.specs.Views.{past}
 use Rattle.table_core.specs.Chunk.{chunk}
 use Rattle.table_core.specs.declared.cell.Cell.{Cell}
 use Rattle.piece_format.specs.Shape.{TableShape, rows_in}
+use Rattle.row_blocks.specs.Blocks.{row_at}
+use Rattle.row_blocks.proofs.Rows.{length-row}
+use Rattle.top_rows.specs.Blocks.{numbered_rows}
 use Rattle.top_rows.specs.Rows.{Numbered}
-use Rattle.query_gather.specs.Partial.{IsNew, Stands, matching}
+use Rattle.query_gather.specs.Partial.{MayJoin, Stands, matching}
 use Rattle.cscan.specs.declared.given.Given.{Given}
 use Rattle.cscan.specs.Rows.{FitColumns, HasCellsOf}
 use Rattle.cscan.specs.Scans.{IsOut}
 use Rattle.cscan.specs.Tables.{HoldsTable}
-use Rattle.multi_scan.proofs.Gathering.{GatheredFirst, gathered_chunk, gathered_more}
+use Rattle.multi_scan.proofs.Gathering.{GatheredFirst, gathered_block, gathered_chunk}
 use Rattle.multi_scan.proofs.Reading.{chunk_long, read_agrees, read_fits}
 use Rattle.multi_scan.proofs.rows.add_rows.Goals as goal
 use Rattle.multi_scan.proofs.rows.add_rows.Goals.{Start}
@@ -21,32 +25,56 @@ rows_out g c =
     let out = subst (λ (o : Option Given). IsOut g.S.Origin.origin.setting scan.shape.now (past scan.station.now.pass.seen) scan.query o) c.requires.out c.requires.scan.given in
     out.rows ∙ ap (λ (z : TableShape). rows_in z c.args.held.now.given.chunk) c.requires.shape
 
-pub loop-row-preserved : goal.loop-row-preserved
-loop-row-preserved g c =
+-- the cells of each row of the block are such as the columns of the shape may have
+pub add_block-requires-clause-cond : goal.add_block-requires-clause-cond
+add_block-requires-clause-cond g c = λ i inside.
+    let z = c.args.shape.now in
+    let p = c.args.plan.now in
+    let b = c.block.new.block in
+    let is : c.loop-turn.scan.shape.now ≡ z = ap (λ s. s.shape.now) c.loop-turn.invariant.same ∙ c.requires.shape in
+    let wide : b.width ≡ length z.kinds = subst (λ (t : TableShape). b.width ≡ length t.kinds) is c.block.ensures.width in
+    c.requires.plan.cond (row_at b i)
+    (read_fits z p.columns (row_at b i) (length-row b i ∙ wide) (subst (λ (t : TableShape). FitColumns t p.columns (row_at b i)) is (c.block.ensures.fits i inside)) (c.block.ensures.others i inside))
+
+pub loop-turn-preserved : goal.loop-turn-preserved
+loop-turn-preserved g c =
     let z = c.args.shape.now in
     let p = c.args.plan.now in
     let held = g.S.Origin.origin.held in
     let told = g.C.Content.pieces in
     let k = c.args.held.now.given.chunk in
-    let row = c.loop-row.row in
-    let cells = c.row.new.cells in
-    let before = c.loop-row.invariant in
-    let is : c.loop-row.scan.shape.now ≡ z = ap (λ s. s.shape.now) before.same ∙ c.requires.shape in
-    let width : length cells ≡ length z.kinds = c.row.ensures.width ∙ before.width in
-    let low : row < rows_in z k = omega (arith, c.loop-row-test.true, c.loop-row.auto.row-end, c.rows-row-end.ensures, rows_out g (goal.at.loop-row-preserved g c).Start) in
+    let rows : ℕ = c.args.held.now.given.rows in
+    let turn : ℕ = c.loop-turn.turn in
+    let start : ℕ = turn * 64 in
+    let b = c.block.new.block in
+    let old = c.loop-turn.partial in
+    let new = c.add_block.new.self in
+    let before = c.loop-turn.invariant in
+    let is : c.loop-turn.scan.shape.now ≡ z = ap (λ s. s.shape.now) before.same ∙ c.requires.shape in
+    let wide : b.width ≡ length z.kinds = subst (λ (t : TableShape). b.width ≡ length t.kinds) is c.block.ensures.width in
+    let there = rows_out g (goal.at.loop-turn-preserved g c).Start in
     let some : 1 ≤ z.per = subst (λ (t : TableShape). 1 ≤ t.per) c.requires.shape c.requires.scan.fits.shape.some_rows in
+    let turns = div_ceil_times rows 64 (omega arith) in
+    let early : start < rows = omega (arith, c.loop-turn-test.true, c.loop-turn.auto.turn-end, c.div_ceil-turn-end.ensures, c.rows-rows.ensures, turns.1) in
+    let count : b.count ≡ min 64 (rows - start) = omega (arith, c.block.ensures.count, c.min-count.ensures, c.rows-rows.ensures) in
+    let at : min start rows ≡ start = omega (arith, early) in
+    let next : start + b.count ≡ min ((turn + 1) * 64) rows = omega (arith, early, count) in
+    let low : start + b.count ≤ rows_in z k = omega (arith, early, count, there) in
     let first : c.chunk.result * c.shape.inside.per ≡ k * z.per = ap (λ (n : ℕ). n * c.shape.inside.per) c.chunk.ensures ∙ ap (λ (t : TableShape). k * t.per) c.shape.view_is in
-    let Adds = λ (n : ℕ). (rows : List (Numbered Cell)) → Stands c.loop-row.partial rows → IsNew c.loop-row.partial rows (n + row) → Stands c.add_row.new.self (rows ++ matching p ((n + row, cells) ∷ [])) in
-    let fits = c.add_row.ensures.plan p before.fits in
+    let Adds : ℕ → Type 0 = λ n. (rows : List (Numbered Cell)) → Stands old rows → MayJoin old rows (numbered_rows (n + start) b) → Stands new (rows ++ matching p (numbered_rows (n + start) b)) in
+    let fits = c.add_block.ensures.plan p before.fits in
     record {
-      same = c.row.ensures.same ∙ before.same;
-      width = width;
+      same = c.block.ensures.same ∙ before.same;
       fits = fits;
-      few = omega (arith, before.few, c.add_row.ensures.count);
+      few = omega (arith, before.few, c.add_block.ensures.count, at, next);
       gathered = λ cs fresh from.
-          gathered_more z p held told cs k c.loop-row.partial c.add_row.new.self row cells some fresh low (before.gathered cs fresh from) fits c.add_row.ensures.count (subst Adds first c.in_ok-add_row.ensures.ok)
-          (read_fits z p.columns cells width (subst (λ (t : TableShape). FitColumns t p.columns cells) is c.row.ensures.fits) c.row.ensures.others)
-          (λ table wide holds. read_agrees z table wide k p.columns row cells width low (subst (λ (t : TableShape). HoldsTable held told t table → HasCellsOf (chunk table t.per k) row p.columns cells) is (c.row.ensures.cells table) holds));
+          let firsts : GatheredFirst z p held told cs k start old = subst (λ (n : ℕ). GatheredFirst z p held told cs k n old) at (before.gathered cs fresh from) in
+          subst (λ (n : ℕ). GatheredFirst z p held told cs k n new) next
+          (gathered_block z p held told cs k start b
+          (λ i inside. read_fits z p.columns (row_at b i) (length-row b i ∙ wide) (subst (λ (t : TableShape). FitColumns t p.columns (row_at b i)) is (c.block.ensures.fits i inside)) (c.block.ensures.others i inside))
+          (λ i inside table shaped holds. read_agrees z table shaped k p.columns (start + i) (row_at b i) (length-row b i ∙ wide) (omega (arith, low, inside))
+          (subst (λ (t : TableShape). HoldsTable held told t table → HasCellsOf (chunk table t.per k) (start + i) p.columns (row_at b i)) is (λ h. c.block.ensures.cells table h i inside) holds))
+          old new some fresh low firsts fits c.add_block.ensures.count (subst Adds first c.in_ok-add_block.ensures.ok));
     }
 
 pub returns-clause-gathered : goal.returns-clause-gathered
@@ -56,5 +84,9 @@ returns-clause-gathered g c = λ cs fresh from.
     let held = g.S.Origin.origin.held in
     let told = g.C.Content.pieces in
     let k = c.args.held.now.given.chunk in
-    let all : c.loop-row.row ≡ rows_in z k = omega (arith, c.loop-row-test.false, c.loop-row.auto.row-end, c.rows-row-end.ensures, rows_out g (goal.at.returns-clause-gathered g c).Start) in
-    gathered_chunk z p held told cs k c.loop-row.partial (λ table wide. omega (arith, chunk_long z table wide k)) (subst (λ (n : ℕ). GatheredFirst z p held told cs k n c.loop-row.partial) all (c.loop-row.invariant.gathered cs fresh from))
+    let rows : ℕ = c.args.held.now.given.rows in
+    let turns = div_ceil_times rows 64 (omega arith) in
+    let all : min (c.loop-turn.turn * 64) rows ≡ rows_in z k =
+    omega (arith, c.loop-turn-test.false, c.loop-turn.auto.turn-end, c.div_ceil-turn-end.ensures, c.rows-rows.ensures, turns.0, rows_out g (goal.at.returns-clause-gathered g c).Start) in
+    gathered_chunk z p held told cs k c.loop-turn.partial (λ table wide. omega (arith, chunk_long z table wide k))
+    (subst (λ (n : ℕ). GatheredFirst z p held told cs k n c.loop-turn.partial) all (c.loop-turn.invariant.gathered cs fresh from))
