@@ -11,16 +11,8 @@ ghost use Rattle.agg_groups.specs.Blocks.{AreInBlock, HaveValues, cells_in, chos
 
 use crate::item::Item;
 use crate::running::{Running, greater, join, lesser};
-use row_blocks::{Block, Holds, Lane};
+use row_blocks::{Block, Holds, Lane, is_chosen};
 use table_core::{Cell, MOST_ROWS};
-
-// Whether a row is chosen.
-fn is_chosen(word: u64, row: u32) -> bool
-    requires { row < 64 }
-    ensures { result ≡ (bit_at word row == 1) }
-{
-    word >> row & 1 == 1
-}
 
 /// The bits of a block's rows, without those past them.
 pub(crate) fn in_block(block: &Block, word: u64) -> u64

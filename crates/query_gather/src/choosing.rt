@@ -20,14 +20,6 @@ pub(crate) fn matches(cond: &Option<Cond>, row: &[Cell]) -> bool
     }
 }
 
-/// Whether a row of a block is chosen.
-pub(crate) fn is_chosen(chosen: u64, row: u32) -> bool
-    requires { row < 64 }
-    ensures { result ≡ (bit_at chosen row == 1) }
-{
-    chosen >> row & 1 == 1
-}
-
 /// The word in which the bit of each row of a block that matches is set, and no other.
 pub(crate) fn chosen_of(cond: &Option<Cond>, block: &Block) -> u64
     requires { spec.FitsCondOver cond.now block.now }

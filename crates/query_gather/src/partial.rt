@@ -14,9 +14,9 @@ ghost use Rattle.query_gather.specs.Partial as spec;
 ghost use Rattle.sql_bind.specs.Meaning as meaning;
 
 use crate::answer::Answer;
-use crate::choosing::{chosen_of, is_chosen, matches};
+use crate::choosing::{chosen_of, matches};
 use agg_groups::{FinishFault, Groups};
-use row_blocks::Block;
+use row_blocks::{Block, is_chosen};
 use scan_story::Cause;
 use sql_bind::Plan;
 use std::alloc::Global;

@@ -11,8 +11,10 @@
 //! docs/TABLES.md has the rules.
 #![tactic(auto)]
 
+mod bits;
 mod block;
 mod lane;
 
+pub use bits::is_chosen;
 pub use block::{Block, MOST_BLOCK_ROWS};
 pub use lane::{Holds, Lane};

@@ -1,7 +1,6 @@
 // The first rows in the order that a rows query asks for.
-ghost use Rattle.std.specs.Prelude.{◌≡◌, ◌<◌, ◌≤◌, ◌==◌, ◌+◌, ◌++◌, ◌∷◌, ℕ, List, [], length, map, take, false, OnOk, OnErr, IfOk, IfErr, IsOk};
+ghost use Rattle.std.specs.Prelude.{◌≡◌, ◌≤◌, ◌+◌, ◌++◌, ◌∷◌, ℕ, List, [], length, map, take, false, OnOk, OnErr, IfOk, IfErr, IsOk};
 ghost use Rattle.std.specs.Bool.{OnTrue, OnFalse};
-ghost use Rattle.std.specs.Int.{bit_at};
 ghost use Rattle.table_core.specs.declared.cell.Cell.{Cell};
 ghost use Rattle.agg_groups.specs.Cells.{codes};
 ghost use Rattle.agg_groups.specs.Meaning.{cell};
@@ -16,7 +15,7 @@ use crate::Picked;
 use crate::order::Order;
 use crate::plan::RowPlan;
 use crate::standing::{Standing, cell_at, is_before, places_of, standing_order};
-use row_blocks::Block;
+use row_blocks::{Block, is_chosen};
 use std::alloc::{AllocError, Global};
 use std::collections::BTreeMap;
 use std::marker::Model;
@@ -130,14 +129,6 @@ fn absorb(top: &mut TopRows, rows: &Ranked) -> Result<(), Memory>
         top.add(standing.number, row)?;
     }
     Ok(())
-}
-
-// Whether a row of a block is chosen.
-fn is_chosen(chosen: u64, row: u32) -> bool
-    requires { row < 64 }
-    ensures { result ≡ (bit_at chosen row == 1) }
-{
-    chosen >> row & 1 == 1
 }
 
 // The values of the named columns of a row.
