@@ -1,16 +1,17 @@
 -- The chosen rows of a block, added one after another.
 use Rattle.std.proofs.Common.{◌≡◌, ◌∙◌, ◌<◌, ◌+◌, ◌==◌, ◌++◌, ◌∷◌, [], ℕ, zero, suc, true, false, if◌then◌else◌, List, length, map, take, refl, sym, ap, subst, arith, append_assoc, append-nil}
-use Rattle.std.specs.Prelude.{OnErr, Result, Ok, Err}
+use Rattle.std.specs.Prelude.{All, OnErr, Result, Ok, Err}
 use Rattle.std.specs.Int.{bit_at}
 use Rattle.std.specs.List.{range_with_len}
 use Rattle.std.proofs.Math.Seq.{take-length}
 use Rattle.std.proofs.lemmas.Bool.{ne_eqb, or_from}
 use Rattle.std.proofs.lemmas.List.{take-append-le}
+use Rattle.std.proofs.lemmas.List.Elements.{All-head, All-tail}
 use Rattle.row_blocks.specs.Blocks.{BlockView}
 use Rattle.row_blocks.specs.Chosen.{chosen_from}
 use Rattle.top_rows.specs.Blocks.{HoldsInPart, numbered_at}
 use Rattle.top_rows.specs.Rows.{AreDistinct, has_number}
-use Rattle.top_rows.specs.Top.{Kept, Stands}
+use Rattle.top_rows.specs.Top.{IsBehind, Kept, Stands}
 use Rattle.top_rows.proofs.Before.{Row}
 use Rattle.top_rows.proofs.Stands.{distinct_behind}
 
@@ -53,6 +54,19 @@ pub stands_on : (t new : Kept) (r : Row) (rows left more : List Row) → ((rows 
 stands_on t new r rows left more h d done same s =
     let whole : rows ++ more ≡ (rows ++ done) ++ r ∷ left = ap (λ l. rows ++ l) (sym same) ∙ sym (append_assoc rows done (r ∷ left)) in
     h (rows ++ done) s (distinct_behind (rows ++ done) r left (subst (λ rs. AreDistinct rs) whole d))
+
+-- nothing was added, and each row that is left can't be among the first ones either
+pub record IsSpared (old new : Kept) (left : List Row) : Type 0 where
+  pub same : new ≡ old
+  pub behind : All (IsBehind old.plan.limit old.plan.order old.rows) left
+
+module _ (old new : Kept) (r : Row) (left : List Row) (spared : IsSpared old new (r ∷ left)) where
+  pub spared_first : IsBehind new.plan.limit new.plan.order new.rows r
+  spared_first =
+      subst (λ (k : Kept). IsBehind k.plan.limit k.plan.order k.rows r) (sym spared.same) (All-head (IsBehind old.plan.limit old.plan.order old.rows) r left spared.behind)
+
+  pub spared_rest : IsSpared old new left
+  spared_rest = record { same = spared.same; behind = All-tail (IsBehind old.plan.limit old.plan.order old.rows) r left spared.behind }
 
 module _ (first : ℕ) (b : BlockView) (word : ℕ) where
   -- the chosen ones among so many rows, from one on

@@ -1,6 +1,9 @@
 -- A map of rows as a plain list: where an insertion puts a row, and what stands behind the last one.
-use Rattle.std.proofs.Common.{◌≡◌, ℕ, Bool, true, false, List, [], ◌∷◌, ◌++◌, take, refl, sym, ap, subst, ◌∙◌, zero, suc}
-use Rattle.std.specs.Prelude.{◌==◌, Some, if◌then◌else◌, Vec, slice_get, All}
+use Rattle.std.proofs.Common.{◌≡◌, ℕ, Bool, true, false, List, [], ◌∷◌, ◌++◌, take, length, refl, sym, ap, subst, ◌∙◌, zero, suc, arith}
+use Rattle.std.specs.Prelude.{◌==◌, Some, if◌then◌else◌, Vec, slice_get, All, not}
+use Rattle.std.specs.Bool.{OnTrue, OnFalse}
+use Rattle.std.proofs.Math.Seq.{take-length}
+use Rattle.std.proofs.lemmas.List.{length-map, take-append-le}
 use Rattle.std.specs.Global.{Global}
 use Rattle.std.proofs.lemmas.Bool.{false≢true, or_parts}
 use Rattle.std.specs.declared.cmp.Ordering.{Ordering}
@@ -23,6 +26,16 @@ use Rattle.top_rows.specs.Rows.{has_number, insert_row, order_cmp, orders_cmp, r
 use Rattle.top_rows.specs.Standing.{Entry, IsKeyed, AreKeyed, numbered, place_cmp, places_of, standing_cmp}
 use Rattle.top_rows.specs.Top.{StandsBeforeNone}
 use Rattle.top_rows.proofs.Before.{Row, before, before_none, row_tie, then_both}
+
+-- ---- tests
+
+pub unless : (b : Bool) {P : Type 0} → (b ≡ false → P) → OnTrue (not b) P
+unless true h = tt
+unless false h = h refl
+
+pub when : (b : Bool) {P : Type 0} → (b ≡ true → P) → OnFalse (not b) P
+when true h = h refl
+when false h = tt
 
 -- ---- standings
 
@@ -105,6 +118,14 @@ module _ (orders : List Order) where
     pub behind_all : (es : List Entry) (r : Row) (l : Entry) → IsKeyed orders l → AreKeyed orders es → All (λ q. is_lt (R l.0 q) ≡ false) (keys_of es) → before orders r (row_of l) ≡ false
         → insert_row codes orders r (numbered es) ≡ numbered es ++ r ∷ []
     behind_all es r l k ks a b = behind_each es r l k ks (recursion_from_All (λ q. is_lt (R l.0 q) ≡ false) (keys_of es) a) b
+
+    -- where there are as many as are wanted, it changes nothing
+    pub changes_nothing : (limit : ℕ) (es : List Entry) (r : Row) (l : Entry) → limit ≡ length es → IsKeyed orders l → AreKeyed orders es → All (λ q. is_lt (R l.0 q) ≡ false) (keys_of es)
+        → before orders r (row_of l) ≡ false → take limit (insert_row codes orders r (numbered es)) ≡ numbered es
+    changes_nothing limit es r l full k ks a b =
+        let long : limit ≡ length (numbered es) = omega (arith, full, length-map es row_of) in
+        ap (take limit) (behind_all es r l k ks a b) ∙ take-append-le limit (numbered es) (r ∷ []) (omega (arith, long))
+        ∙ ap (λ n. take n (numbered es)) long ∙ take-length (numbered es)
 
 pub keyed_at : (orders : List Order) (es : List Entry) (i : ℕ) (e : Entry) → AreKeyed orders es → slice_get es i ≡ Some e → IsKeyed orders e
 keyed_at orders [] i e ks g = cc

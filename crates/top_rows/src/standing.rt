@@ -1,12 +1,14 @@
 // Where a row stands among others.
-ghost use Rattle.std.specs.Prelude.{◌≡◌, IfOk};
-ghost use Rattle.std.specs.Ordering.{is_lt};
+ghost use Rattle.std.specs.Prelude.{◌≡◌, ◌<◌, IfOk, if◌then◌else◌};
+ghost use Rattle.std.specs.Ordering.{is_lt, ordering_then, nat_cmp};
 ghost use Rattle.agg_groups.specs.Cells.{codes};
 ghost use Rattle.agg_groups.specs.Meaning as meaning;
+ghost use Rattle.row_blocks.specs.Blocks.{row_at};
 ghost use Rattle.top_rows.specs.Rows as rows;
 ghost use Rattle.top_rows.specs.Standing as spec;
 
 use crate::order::Order;
+use row_blocks::Block;
 use std::alloc::{AllocError, Global};
 use std::cmp::{Ordering, Reverse};
 use table_core::Cell;
@@ -46,6 +48,19 @@ pub(crate) fn cell_at(row: &[Cell], column: u32) -> Cell
     }
 }
 
+// The cell of a column in a row of a block; NULL behind the row's end.
+fn cell_in(block: &Block, row: u32, column: u32) -> Cell
+    requires row { row < block.now.count }
+    requires place { row < 64 }
+    ensures { result ≡ meaning.cell codes (row_at block.now row) column }
+{
+    if column < block.width() {
+        block.lane(column).cell(row)
+    } else {
+        Cell::Null
+    }
+}
+
 fn place_of(order: Order, row: &[Cell]) -> Place
     ensures { result ≡ spec.place_of order row.now }
 {
@@ -74,11 +89,10 @@ fn cell_cmp(a: Cell, b: Cell) -> Ordering
     a.cmp(&b)
 }
 
-// How two rows stand in one order.
-fn order_cmp(order: Order, a: &[Cell], b: &[Cell]) -> Ordering
-    ensures { result ≡ rows.order_cmp codes order a.now b.now }
+// How two cells stand in an order: the greater one first where it is descending.
+fn order_cmp(order: Order, a: Cell, b: Cell) -> Ordering
+    ensures { result ≡ (if order.descending then codes.order b a else codes.order a b) }
 {
-    let (a, b) = (cell_at(a, order.column), cell_at(b, order.column));
     if order.descending {
         cell_cmp(b, a)
     } else {
@@ -91,12 +105,39 @@ fn orders_cmp(orders: &[Order], a: &[Cell], b: &[Cell]) -> Ordering
     ensures { result ≡ rows.orders_cmp codes orders.now a.now b.now }
 {
     for order in orders {
-        let stand = order_cmp(*order, a, b);
+        let stand = order_cmp(*order, cell_at(a, order.column), cell_at(b, order.column));
         if stand.is_ne() {
             return stand;
         }
     }
     Ordering::Equal
+}
+
+// How a row of a block and another row stand in the first order in which they differ.
+fn orders_cmp_in(orders: &[Order], block: &Block, row: u32, other: &[Cell]) -> Ordering
+    requires row { row < block.now.count }
+    requires place { row < 64 }
+    ensures { result ≡ rows.orders_cmp codes orders.now (row_at block.now row) other.now }
+{
+    for order in orders {
+        let cell = cell_in(block, row, order.column);
+        let stand = order_cmp(*order, cell, cell_at(other, order.column));
+        if stand.is_ne() {
+            return stand;
+        }
+    }
+    Ordering::Equal
+}
+
+// Whether a row stands before another, by how they stand in the orders and by their numbers.
+fn leads(stand: Ordering, number: u32, other: u32) -> bool
+    ensures { result ≡ is_lt (ordering_then stand (nat_cmp number other)) }
+{
+    match stand {
+        Ordering::Less => true,
+        Ordering::Equal => number < other,
+        Ordering::Greater => false,
+    }
 }
 
 /// Whether a row stands before another; both are given as their numbers and cells.
@@ -109,9 +150,26 @@ pub(crate) fn is_before(
 ) -> bool
     ensures { result ≡ is_lt (rows.row_cmp codes orders.now (number, row.now) (other_number, other.now)) }
 {
-    match orders_cmp(orders, row, other) {
-        Ordering::Less => true,
-        Ordering::Equal => number < other_number,
-        Ordering::Greater => false,
-    }
+    leads(orders_cmp(orders, row, other), number, other_number)
+}
+
+/// Whether a row of a block stands before another row: of the block it reads the lanes of the orders alone.
+pub(crate) fn is_before_in(
+    orders: &[Order],
+    number: u32,
+    block: &Block,
+    row: u32,
+    other_number: u32,
+    other: &[Cell],
+) -> bool
+    requires row { row < block.now.count }
+    requires place { row < 64 }
+    ensures { result ≡ is_lt
+        (rows.row_cmp codes orders.now (number, row_at block.now row) (other_number, other.now)) }
+{
+    leads(
+        orders_cmp_in(orders, block, row, other),
+        number,
+        other_number,
+    )
 }

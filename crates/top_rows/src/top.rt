@@ -1,10 +1,11 @@
 // The first rows in the order that a rows query asks for.
-ghost use Rattle.std.specs.Prelude.{◌≡◌, ◌≤◌, ◌+◌, ◌++◌, ◌∷◌, ℕ, List, [], length, map, take, false, OnOk, OnErr, IfOk, IfErr, IsOk};
+ghost use Rattle.std.specs.Prelude.{◌≡◌, ◌<◌, ◌≤◌, ◌+◌, ◌++◌, ◌∷◌, ℕ, List, [], length, map, take, false, All, OnOk, OnErr, IfOk, IfErr, IsOk};
 ghost use Rattle.std.specs.Bool.{OnTrue, OnFalse};
 ghost use Rattle.table_core.specs.declared.cell.Cell.{Cell};
 ghost use Rattle.agg_groups.specs.Cells.{codes};
 ghost use Rattle.agg_groups.specs.Meaning.{cell};
 ghost use Rattle.table_core.specs.Lists.{lists};
+ghost use Rattle.row_blocks.specs.Blocks.{row_at};
 ghost use Rattle.row_blocks.specs.Chosen.{chosen as chosen_rows};
 ghost use Rattle.top_rows.specs.Blocks.{HoldsInPart, numbered_rows};
 ghost use Rattle.top_rows.specs.Rows.{Numbered, AreApart, AreDistinct, has_number, insert_row, rows_meaning};
@@ -14,7 +15,7 @@ ghost use Rattle.top_rows.specs.Top.{IsBehind, Kept, Stands, StandsInSomeOrder};
 use crate::Picked;
 use crate::order::Order;
 use crate::plan::RowPlan;
-use crate::standing::{Standing, cell_at, is_before, places_of, standing_order};
+use crate::standing::{Standing, cell_at, is_before, is_before_in, places_of, standing_order};
 use row_blocks::{Block, is_chosen};
 use std::alloc::{AllocError, Global};
 use std::collections::BTreeMap;
@@ -57,6 +58,34 @@ fn is_behind(rows: &Ranked, order: &[Order], limit: u32, number: u32, row: &[Cel
     }
     match rows.last_key_value() {
         Some((last, cells)) => !is_before(order, number, row, last.number, cells),
+        None => true,
+    }
+}
+
+// Whether a row of a block can't be among the first ones: its other columns aren't read.
+fn is_behind_in(
+    rows: &Ranked,
+    order: &[Order],
+    limit: u32,
+    number: u32,
+    block: &Block,
+    row: u32,
+) -> bool
+    requires row { row < block.now.count }
+    requires place { row < 64 }
+    requires keyed { AreKeyed order.now rows.now.entries }
+    requires few { length rows.now.entries ≤ limit }
+    ensures behind { OnTrue result (take limit (insert_row codes order.now
+        (number, row_at block.now row) (numbered rows.now.entries)) ≡ numbered rows.now.entries) }
+    ensures among { OnFalse result
+        (IsBehind limit order.now (numbered rows.now.entries) (number, row_at block.now row) → ⊥) }
+{
+    standing_order();
+    if rows.len() < limit as usize {
+        return false;
+    }
+    match rows.last_key_value() {
+        Some((last, cells)) => !is_before_in(order, number, block, row, last.number, cells),
         None => true,
     }
 }
@@ -186,14 +215,30 @@ impl TopRows {
         Ok(())
     }
 
+    // Whether a row of a block can't be among the first ones, which its order columns alone tell.
+    fn passes_over(&self, number: u32, block: &Block, row: u32) -> bool
+        requires row { row < block.now.count }
+        requires place { row < 64 }
+        ensures behind { OnTrue result (take self.now.plan.limit (insert_row codes self.now.plan.order
+            (number, row_at block.now row) self.now.rows) ≡ self.now.rows) }
+        ensures among { OnFalse result
+            (IsBehind self.now.plan.limit self.now.plan.order self.now.rows (number, row_at block.now row) → ⊥) }
+    {
+        is_behind_in(&self.rows, &self.order, self.limit, number, block, row)
+    }
+
     /// Adds the chosen rows of a block, those whose bits are set, numbered on from the first row of the block.
     ///
-    /// Out of memory, the first ones of the chosen rows may have been added, and no other row.
+    /// A row that can't be among the first ones is passed over by its order columns alone: it costs one comparison and
+    /// takes no memory, so a block of such rows is never refused. Out of memory, the first ones of the chosen rows may
+    /// have been added, and no other row.
     pub fn add_block(&mut self, first: u32, block: &Block, chosen: u64) -> Result<(), Memory>
         requires numbers { first + block.now.count ≤ 4294967296 }
         ensures ok { OnOk result ((rows : List (Numbered Cell)) → Stands self.old rows
             → AreApart rows (chosen_rows chosen (numbered_rows first block.now))
             → Stands self.new (rows ++ chosen_rows chosen (numbered_rows first block.now))) }
+        ensures free { All (IsBehind self.old.plan.limit self.old.plan.order self.old.rows)
+            (chosen_rows chosen (numbered_rows first block.now)) → IsOk result }
         ensures plan { self.new.plan ≡ self.old.plan }
         ensures err { OnErr result ((rows : List (Numbered Cell)) → Stands self.old rows
             → AreApart rows (chosen_rows chosen (numbered_rows first block.now))
@@ -203,6 +248,9 @@ impl TopRows {
         let cells = &mut cells[..block.width() as usize];
         for row in 0..block.len() {
             if !is_chosen(chosen, row) {
+                continue;
+            }
+            if self.passes_over(first + row, block, row) {
                 continue;
             }
             block.row(row, cells);
