@@ -1,16 +1,14 @@
 // The truths of a condition over a block are those on each of its rows.
+use crate::drawn::{drawn_block, next};
 use crate::fitting::{fits_block, fits_row};
 use filter_zones::{Bound, Cond, Truth, truth_of, truths_of};
-use row_blocks::{Block, Holds, Lane, MOST_BLOCK_ROWS};
+use row_blocks::Block;
 use std::alloc::{AllocError, Global};
 use std::process::Abort;
 use std::test::Fail;
 use table_core::{Cell, Op};
 
 const OPS: [Op; 6] = [Op::Eq, Op::Ne, Op::Lt, Op::Le, Op::Gt, Op::Ge];
-
-// Words of numbers: small ones, and those at the ends of 64 bits.
-const NUMBERS: [u64; 8] = [0, 1, 9, 10, 11, u64::MAX, 1 << 63, (1 << 63) - 1];
 
 // Columns and values with which their cells are compared: at a number and between two, at the ends of 64 bits and
 // past them, at a code and between two.
@@ -33,42 +31,21 @@ const VALUES: [(u32, Bound); 16] = [
     (2, Bound::Gap(1)),
 ];
 
-// The next number of a sequence that looks drawn.
-fn next(state: u64) -> u64 {
-    state
-        .wrapping_mul(6364136223846793005)
-        .wrapping_add(1442695040888963407)
-}
-
-// A word of the table above, or one whose low half is a small code.
-fn drawn_word(holds: Holds, state: u64) -> u64 {
-    match holds {
-        Holds::Numbers => NUMBERS[(state >> 33) as usize % 8],
-        Holds::Codes => state >> 40 << 32 | (state >> 33) % 5,
-    }
-}
-
-// A lane of drawn words, of which about one in four is NULL.
-fn drawn_lane(holds: Holds, seed: u64) -> Lane {
-    let mut lane = Lane::empty(holds);
-    let mut state = next(seed);
-    lane.nulls = state & next(state);
-    for i in 0..64_usize {
-        state = next(state);
-        lane.words[i] = drawn_word(holds, state);
-    }
-    lane
-}
-
-// So many rows of numbers, codes, and a column that got no lane.
-fn drawn_block(rt: &impl Abort, seed: u64, count: u32) -> Block {
-    assert!(rt; count <= MOST_BLOCK_ROWS);
-    let mut block = Block::new();
-    block.begin(3, count);
-    block.put(0, &drawn_lane(Holds::Numbers, seed));
-    block.put(1, &drawn_lane(Holds::Codes, next(seed)));
-    block
-}
+// Seeds, and how many rows and leaves are drawn: 100 leaves make a condition of some 250 nodes.
+const DRAWN: [(u64, u32, u32); 12] = [
+    (11, 64, 2),
+    (12, 64, 3),
+    (13, 63, 3),
+    (14, 1, 4),
+    (15, 0, 4),
+    (16, 64, 5),
+    (17, 64, 8),
+    (18, 63, 8),
+    (19, 64, 20),
+    (20, 64, 100),
+    (21, 63, 100),
+    (22, 64, 100),
+];
 
 // The truths of the condition over the block are those that a visit of each row gives, and no other bit is set.
 fn check(rt: &impl Abort, cond: &Cond, block: &Block) {
@@ -163,6 +140,52 @@ fn check_block(rt: &impl Abort, alloc: Global, block: &Block) -> Result<(), Fail
 fn a_condition_has_the_truths_of_each_row_over_a_block(rt: HostRuntime) -> Result<(), Fail> {
     for (seed, count) in [(1, 64), (2, 63), (3, 1), (4, 0), (5, 40)] {
         check_block(&rt, rt.alloc(), &drawn_block(&rt, seed, count))?;
+    }
+    Ok(())
+}
+
+#[test]
+fn a_condition_has_the_truths_of_each_row_over_a_block_of_nulls(
+    rt: HostRuntime,
+) -> Result<(), Fail> {
+    let mut block = Block::new();
+    block.begin(3, 64);
+    check_block(&rt, rt.alloc(), &block)
+}
+
+// A comparison, or now and then IS NULL.
+fn drawn_leaf(state: u64) -> Cond {
+    if state >> 61 == 0 {
+        return Cond::IsNull {
+            column: (state >> 33) as u32 % 3,
+            negated: state >> 36 & 1 == 1,
+        };
+    }
+    compare(OPS[(state >> 36) as usize % 6], (state >> 42) as usize)
+}
+
+// So many leaves, joined by AND, OR and NOT.
+fn drawn_cond(alloc: Global, seed: u64, leaves: u32) -> Result<Cond, AllocError> {
+    let mut state = next(seed);
+    let mut cond = drawn_leaf(state);
+    for _ in 1..leaves {
+        state = next(state);
+        let leaf = drawn_leaf(state);
+        cond = match (state >> 48) % 4 {
+            0 => both(alloc, cond, leaf)?,
+            1 => either(alloc, cond, leaf)?,
+            2 => both(alloc, leaf, not(alloc, cond)?)?,
+            _ => either(alloc, not(alloc, leaf)?, cond)?,
+        };
+    }
+    Ok(cond)
+}
+
+#[test]
+fn a_drawn_condition_has_the_truths_of_each_row(rt: HostRuntime) -> Result<(), Fail> {
+    for (seed, count, leaves) in DRAWN {
+        let block = drawn_block(&rt, seed, count);
+        check(&rt, &drawn_cond(rt.alloc(), next(seed), leaves)?, &block);
     }
     Ok(())
 }
