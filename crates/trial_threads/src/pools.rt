@@ -1,4 +1,5 @@
-//! The pool in use: by two berths, by two threads, and by eight.
+//! The pool in use: by one berth, by two, by two threads, and by eight.
 mod eight;
 mod halves;
+mod many;
 mod two;

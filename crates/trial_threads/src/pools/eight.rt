@@ -55,13 +55,19 @@ struct Game<'a, C: Content> {
     counts: &'a Counts,
 }
 
-// No two pieces have a word in common.
-fn word_of_piece(piece: u32, i: u32) -> u64 {
+/// The word of a piece at a place; no two pieces have a word in common.
+pub(crate) fn word_of_piece(piece: u32, i: u32) -> u64 {
     u64::from(piece) * 4294967296 + u64::from(i)
 }
 
-// Fills a frame with the piece, once nobody pins it.
-fn refill<C: Content, R: Wait>(rt: &R, pool: &Pool<C>, berth: &mut Berth<C>, frame: u32, piece: u32)
+/// Fills a frame with the piece, once nobody pins it.
+pub(crate) fn refill<C: Content, R: Wait>(
+    rt: &R,
+    pool: &Pool<C>,
+    berth: &mut Berth<C>,
+    frame: u32,
+    piece: u32,
+)
     requires { IsPlayer C.pieces pool.now berth.old × (frame < 3) }
     ensures { berth.new ≡ berth.old }
 {
