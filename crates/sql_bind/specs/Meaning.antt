@@ -1,13 +1,12 @@
 -- WHAT A QUERY MEANS over rows of values, and what a plan means over rows of cells.
-use Rattle.std.specs.Prelude.{◌≡◌, ◌+◌, ℕ, Bool, true, false, List, [], ◌∷◌, map, filter, All, Option, Some, None, ℤ}
+use Rattle.std.specs.Prelude.{◌≡◌, ◌+◌, ℕ, Bool, true, List, [], ◌∷◌, map, filter, All, Option, Some, None, ℤ}
 use Rattle.table_core.specs.Fitting.{FitsRow}
 use Rattle.table_core.specs.Value.{Value, row_values}
 use Rattle.table_core.specs.declared.cell.Cell.{Cell}
 use Rattle.table_core.specs.declared.schema.Column.{Column}
 use Rattle.filter_zones.specs.Truth.{truth_of}
 use Rattle.filter_zones.specs.declared.cond.Cond.{Cond}
-use Rattle.filter_zones.specs.declared.truth.Truth.{Truth}
-use Rattle.filter_zones.specs.declared.truth.Truth.TheVariants.{False, Unknown, True}
+pub use Rattle.filter_zones.specs.Truths.{is_true}
 use Rattle.table_core.specs.Answer.{values_of, AreCellsOf}
 use Rattle.agg_groups.specs.Cells.{codes}
 use Rattle.agg_groups.specs.Meaning.{meaning, overflow}
@@ -19,11 +18,6 @@ use Rattle.sql_text.specs.Grammar.{Tree, QueryTree}
 use Rattle.sql_bind.specs.declared.plan.Plan.{Plan}
 use Rattle.sql_bind.specs.Truth.{truth_over}
 use Rattle.sql_bind.specs.Plans.{columns_of, items_of, row_query}
-
-abbrev pub is_true : Truth → Bool
-is_true True = true
-is_true Unknown = false
-is_true False = false
 
 -- rows with their numbers, the first one with this number
 abbrev pub numbered : {C : Type 0} → ℕ → List (List C) → List (Numbered C)
