@@ -38,21 +38,21 @@ filter-append p [] ys = refl
 filter-append p (x ∷ xs) ys = elim (cases_Bool (p x)) [ inl t ↦ rw t (ap (λ zs. x ∷ zs) (filter-append p xs ys)) | inr t ↦ rw t (filter-append p xs ys) ]
 
 -- one more row in the group of its key, and in no other
-group-push : (p : Row → Bool) (rows : List Row) (row : Row) → p row ≡ true → filter p (rows ++ row ∷ []) ≡ filter p rows ++ row ∷ []
+pub group-push : (p : Row → Bool) (rows : List Row) (row : Row) → p row ≡ true → filter p (rows ++ row ∷ []) ≡ filter p rows ++ row ∷ []
 group-push p [] row e = rw e refl
 group-push p (r ∷ rows) row e = elim (cases_Bool (p r)) [
   | inl t ↦ rw (t, group-push p rows row e) refl
   | inr t ↦ rw t (group-push p rows row e)
 ]
 
-group-other : (p : Row → Bool) (rows : List Row) (row : Row) → p row ≡ false → filter p (rows ++ row ∷ []) ≡ filter p rows
+pub group-other : (p : Row → Bool) (rows : List Row) (row : Row) → p row ≡ false → filter p (rows ++ row ∷ []) ≡ filter p rows
 group-other p [] row e = rw e refl
 group-other p (r ∷ rows) row e = elim (cases_Bool (p r)) [
   | inl t ↦ rw (t, group-other p rows row e) refl
   | inr t ↦ rw t (group-other p rows row e)
 ]
 
-has-push : (xs : List (List Cell)) (f : Row → List Cell) (rows : List Row) (row : Row) (q : List Cell) → has_key (xs ++ map f (rows ++ row ∷ [])) q ≡ (has_key (xs ++ map f rows) q || same_key q (f row))
+pub has-push : (xs : List (List Cell)) (f : Row → List Cell) (rows : List Row) (row : Row) (q : List Cell) → has_key (xs ++ map f (rows ++ row ∷ [])) q ≡ (has_key (xs ++ map f rows) q || same_key q (f row))
 has-push [] f [] row q = or-false (same_key q (f row))
 has-push [] f (r ∷ rows) row q = elim (cases_Bool (same_key q (f r))) [
   | inl t ↦ rw t refl
@@ -74,7 +74,7 @@ group-none (x ∷ xs) keys rows q e = elim (cases_Bool (same_key q x)) [
   | inr t ↦ group-none xs keys rows q (sym (ap (λ b. b || has_key (xs ++ map (key_of keys) rows) q) t) ∙ e)
 ]
 
-base-state : (items : List Item) (keys : List ℕ) (rows : List Row) (q : List Cell) → base items (state_of items keys rows q) ≡ runnings items (group keys q rows)
+pub base-state : (items : List Item) (keys : List ℕ) (rows : List Row) (q : List Cell) → base items (state_of items keys rows q) ≡ runnings items (group keys q rows)
 base-state items keys rows q = elim (cases_Bool (has_key (first_keys keys ++ map (key_of keys) rows) q)) [
   | inl t ↦ rw t refl
   | inr t ↦ rw (t, group-none (first_keys keys) keys rows q t) refl
@@ -150,7 +150,7 @@ is_some-if : {A : Type 0} (b : Bool) (a : A) → is_some (if b then Some a else 
 is_some-if true a = refl
 is_some-if false a = refl
 
-same_entries : (F : List Cell → List Running) (gs : List Group) → Rising (names gs) → ((q : List Cell) (vs : List Running) → at gs q ≡ Some vs → vs ≡ F q) → gs ≡ map (λ q. (q, F q)) (names gs)
+pub same_entries : (F : List Cell → List Running) (gs : List Group) → Rising (names gs) → ((q : List Cell) (vs : List Running) → at gs q ≡ Some vs → vs ≡ F q) → gs ≡ map (λ q. (q, F q)) (names gs)
 same_entries F [] r h = refl
 same_entries F (g ∷ gs) r h =
     let head : g.1 ≡ F g.0 = h g.0 g.1 (ap (λ b. if b then Some g.1 else at gs g.0) (itself g.0)) in
@@ -177,3 +177,10 @@ groups_are items keys gs rows r s =
         by : (b : Bool) → has_key (first_keys keys ++ map (key_of keys) rows) q ≡ b → vs ≡ runnings items (group keys q rows)
         by true e = (let p : Some vs ≡ Some (runnings items (group keys q rows)) = sym g ∙ s q ∙ ap (λ b. if b then Some (runnings items (group keys q rows)) else None) e in cc)
         by false e = absurd (let p : Some vs ≡ None = sym g ∙ s q ∙ ap (λ b. if b then Some (runnings items (group keys q rows)) else None) e in cc)
+
+-- rising groups with the same values at each key are the same
+pub same_groups : (gs hs : List Group) → Rising (names gs) → Rising (names hs) → ((q : List Cell) → at gs q ≡ at hs q) → gs ≡ hs
+same_groups gs hs r s h =
+    let F : List Cell → List Running = λ q. base [] (at hs q) in
+    let ns : names gs ≡ names hs = rising_same (names gs) (names hs) r s (λ q. sym (at_names gs q) ∙ ap is_some (h q) ∙ at_names hs q) in
+    same_entries F gs r (λ q vs e. ap (base []) (sym e ∙ h q)) ∙ ap (map (λ q. (q, F q))) ns ∙ sym (same_entries F hs s (λ q vs e. ap (base []) (sym e)))

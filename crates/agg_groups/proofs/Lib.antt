@@ -8,3 +8,5 @@ pub mod Shows
 pub mod Columns
 pub mod Stands
 pub mod One
+pub mod Grown
+pub mod Placing

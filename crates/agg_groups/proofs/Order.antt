@@ -16,6 +16,7 @@ use Rattle.agg_groups.specs.Cells.{codes, int_of}
 use Rattle.agg_groups.specs.Meaning as meaning
 use Rattle.agg_groups.specs.Meaning.{insert_key, distinct}
 use Rattle.agg_groups.specs.Table.{Below, Rising}
+pub use Rattle.agg_groups.specs.Table.{has_key}
 
 abbrev pub key_cmp : List Cell → List Cell → Ordering
 key_cmp = meaning.key_cmp codes
@@ -98,11 +99,6 @@ other q k l e d = elim (cases_Bool (same_key q l)) [
   | inl t ↦ let p = sym (same q l t) ∙ same q k e in absurd (false≢true (sym d ∙ ap (λ x. same_key x k) p ∙ itself k))
   | inr t ↦ t
 ]
-
--- whether a key stands in a list
-abbrev pub has_key : List (List Cell) → List Cell → Bool
-has_key [] q = false
-has_key (p ∷ ps) q = same_key q p || has_key ps q
 
 pub below_apart : (k : List Cell) (qs : List (List Cell)) → Below k qs → has_key qs k ≡ false
 below_apart k [] b = refl

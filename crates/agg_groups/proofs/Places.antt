@@ -1,7 +1,7 @@
 -- A map of keys and places as a plain list: what a search finds, and what an insertion leaves.
-use Rattle.std.proofs.Common.{◌≡◌, ℕ, ◌+◌, ◌<◌, Bool, true, false, List, [], ◌∷◌, length, zero, suc, refl, sym, ap, subst, ◌∙◌, arith, inl, inr}
-use Rattle.std.specs.Prelude.{Contains, Some, None, slice_index_or, if◌then◌else◌, Vec}
-use Rattle.std.proofs.lemmas.Bool.{cases_Bool}
+use Rattle.std.proofs.Common.{◌≡◌, ℕ, ◌+◌, ◌<◌, Bool, true, false, List, [], ◌∷◌, length, length-take-le, take, filter, ◌≤◌, zero, suc, refl, sym, ap, subst, ◌∙◌, arith, inl, inr}
+use Rattle.std.specs.Prelude.{◌||◌, Contains, Some, None, is_some, nat_lt, Option, slice_index_or, if◌then◌else◌, Vec}
+use Rattle.std.proofs.lemmas.Bool.{cases_Bool, false≢true, ltb-true}
 use Rattle.std.specs.declared.cmp.Ordering.{Ordering}
 use Rattle.std.specs.declared.cmp.Ordering.TheVariants.{Less, Equal, Greater}
 use Rattle.std.specs.Ordering.{is_eq}
@@ -13,8 +13,8 @@ use Rattle.std.specs.List.Sorted.{IsStrictlySortedBy}
 use Rattle.std.specs.Global.{Global}
 use Rattle.table_core.specs.declared.cell.Cell.{Cell}
 use Rattle.table_core.specs.Cell.{cell_cmp}
-use Rattle.agg_groups.specs.Table.{place_at, plain_places, names, Below, Rising, AreBelow}
-use Rattle.agg_groups.proofs.Order.{key_cmp, same_key, key_exact, same, other, itself}
+use Rattle.agg_groups.specs.Table.{Placed, IsPlaced, place_at, plain_places, first_places, names, Below, Rising, AreBelow}
+use Rattle.agg_groups.proofs.Order.{key_cmp, same_key, key_exact, same, other, itself, has_key, below_apart}
 
 abbrev pub Entry : Type 0
 Entry = Vec Cell Global × ℕ
@@ -124,3 +124,85 @@ inserted_apart es fs k n b h a p q i e f = elim (cases_Bool (same_key p k)) [
 
   clash : (x y : List Cell) → same_key x k ≡ true → same_key y k ≡ false → place_at fs x ≡ Some i → place_at fs y ≡ Some i → ⊥
   clash x y t u g j = let l : i < n = place_below n es y i b (old y u j) in let m : n ≡ i = new x t g in absurd (omega arith)
+
+-- a key that is none of the keys has no place
+no_place : (es : List (List Cell × ℕ)) (q : List Cell) → has_key (names es) q ≡ false → place_at es q ≡ None
+no_place [] q h = refl
+no_place (e ∷ es) q h = elim (cases_Bool (same_key q e.0)) [
+  | inl t ↦ absurd (false≢true (sym h ∙ ap (λ b. b || has_key (names es) q) t))
+  | inr t ↦ rw t (no_place es q (sym (ap (λ b. b || has_key (names es) q) t) ∙ h))
+]
+
+-- a key that is one of the keys has a place
+pub known_place : (es : List (List Cell × ℕ)) (q : List Cell) → Contains (names es) q → is_some (place_at es q) ≡ true
+known_place es q known = by (place_at es q) refl where
+  by : (o : Option ℕ) → place_at es q ≡ o → is_some o ≡ true
+  by None e = absurd (unplaced es q e known)
+  by (Some i) e = refl
+
+-- ---- the places below a number
+
+abbrev pub below : ℕ → Option ℕ → Option ℕ
+below n None = None
+below n (Some i) = if nat_lt i n then Some i else None
+
+pub place_first : (n : ℕ) (es : List (List Cell × ℕ)) (q : List Cell) → Rising (names es) → place_at (first_places n es) q ≡ below n (place_at es q)
+place_first n [] q r = refl
+place_first n (e ∷ es) q r = elim (cases_Bool (nat_lt e.1 n)) [
+  | inl l ↦ elim (cases_Bool (same_key q e.0)) [
+    | inl t ↦ rw (l, t, l) refl
+    | inr t ↦ rw (l, t) (place_first n es q r.1)
+  ]
+  | inr l ↦ elim (cases_Bool (same_key q e.0)) [
+    | inl t ↦
+        let apart = ap (has_key (names es)) (same q e.0 t) ∙ below_apart e.0 (names es) r.0 in
+        rw (l, t, l) (place_first n es q r.1 ∙ ap (below n) (no_place es q apart))
+    | inr t ↦ rw (l, t) (place_first n es q r.1)
+  ]
+]
+
+below_first : (n : ℕ) (k : List Cell) (es : List (List Cell × ℕ)) → Below k (names es) → Below k (names (first_places n es))
+below_first n k [] b = tt
+below_first n k (e ∷ es) b = elim (cases_Bool (nat_lt e.1 n)) [
+  | inl l ↦ rw l (b.0, below_first n k es b.1)
+  | inr l ↦ rw l (below_first n k es b.1)
+]
+
+rising_first : (n : ℕ) (es : List (List Cell × ℕ)) → Rising (names es) → Rising (names (first_places n es))
+rising_first n [] r = tt
+rising_first n (e ∷ es) r = elim (cases_Bool (nat_lt e.1 n)) [
+  | inl l ↦ rw l (below_first n e.0 es r.0, rising_first n es r.1)
+  | inr l ↦ rw l (rising_first n es r.1)
+]
+
+first_below : (n : ℕ) (es : List (List Cell × ℕ)) → AreBelow n (first_places n es)
+first_below n [] = tt
+first_below n (e ∷ es) = elim (cases_Bool (nat_lt e.1 n)) [
+  | inl l ↦ rw l (ltb-true e.1 n l, first_below n es)
+  | inr l ↦ rw l (first_below n es)
+]
+
+was_below : (n : ℕ) (o : Option ℕ) (i : ℕ) → below n o ≡ Some i → o ≡ Some i
+was_below n None i e = e
+was_below n (Some j) i e = elim (cases_Bool (nat_lt j n)) [
+  | inl l ↦ sym (ap (λ b. if b then Some j else None) l) ∙ e
+  | inr l ↦ absurd (let d : None ≡ Some i = sym (ap (λ b. if b then Some j else None) l) ∙ e in cc)
+]
+
+-- the places below n and the first n values belong together
+pub placed_first : (n : ℕ) (t new : Placed) → n ≤ length t.values → IsPlaced t → new.places ≡ first_places n t.places → new.values ≡ take n t.values → IsPlaced new
+placed_first n t new few p e f = record {
+  rising = subst (λ es. Rising (names es)) (sym e) (rising_first n t.places p.rising);
+  below = subst (λ es. AreBelow (length new.values) es) (sym e) (subst (λ m. AreBelow m (first_places n t.places)) (sym (ap length f ∙ length-take-le n t.values few)) (first_below n t.places));
+  apart = λ k q i g h. p.apart k q i (own k i g) (own q i h);
+} where
+  own : (q : List Cell) (i : ℕ) → place_at new.places q ≡ Some i → place_at t.places q ≡ Some i
+  own q i g = was_below n (place_at t.places q) i (sym (ap (λ es. place_at es q) e ∙ place_first n t.places q p.rising) ∙ g)
+
+-- the entries with places below n
+pub plain_first : (n : ℕ) (es : List Entry) → plain_places (filter (λ (e : Entry). nat_lt e.1 n) es) ≡ first_places n (plain_places es)
+plain_first n [] = refl
+plain_first n (e ∷ es) = elim (cases_Bool (nat_lt e.1 n)) [
+  | inl l ↦ rw l (ap (λ fs. (e.0.items, e.1) ∷ fs) (plain_first n es))
+  | inr l ↦ rw l (plain_first n es)
+]

@@ -6,7 +6,7 @@ use Rattle.table_core.specs.declared.cell.Cell.{Cell}
 use Rattle.agg_groups.specs.declared.item.Item.{Item}
 use Rattle.agg_groups.specs.declared.running.Running.{Running}
 use Rattle.agg_groups.specs.Cells.{codes}
-use Rattle.agg_groups.specs.Meaning.{keys_of, group}
+use Rattle.agg_groups.specs.Meaning.{key_of, keys_of, group}
 use Rattle.agg_groups.specs.Running.{runnings, IsInRow}
 
 -- a group: its key and the running values of the items
@@ -32,6 +32,10 @@ pub record Stands (g : Kept) (rows : List (List Cell)) : Type 0 where
 -- a row of this key was met before: one of the groups has it
 abbrev pub IsKnown : Kept → List Cell → Type 0
 IsKnown g key = Contains (map (λ (h : Group). h.0) g.groups) key
+
+-- a row of the key of each of these rows was met before
+abbrev pub KnowsAll : Kept → List (List Cell) → Type 0
+KnowsAll g rows = All (λ row. IsKnown g (key_of codes g.keys row)) rows
 
 -- each column that the items and the key columns name is one of so many
 pub record NamesPlaces (items : List Item) (keys : List ℕ) (width : ℕ) : Type 0 where

@@ -42,14 +42,27 @@ over_shown n (running.Count m ∷ rs) = over_shown (n + 1) rs
 over_shown n (running.Best c ∷ rs) = over_shown (n + 1) rs
 over_shown n (running.Nothing ∷ rs) = over_shown (n + 1) rs
 
+-- the cell of a row that an item reads, NULL where it reads none
+abbrev pub cell_of : Item → List Cell → Cell
+cell_of CountAll row = Null
+cell_of (Count x) row = cell codes row x
+cell_of (Sum x) row = cell codes row x
+cell_of (Min x) row = cell codes row x
+cell_of (Max x) row = cell codes row x
+cell_of (Key j) row = Null
+
+-- the value with one more cell
+abbrev pub next_of : Item → Cell → Running → Running
+next_of CountAll c (running.Count n) = running.Count (n + 1)
+next_of (Count x) c (running.Count n) = if is_value c then running.Count (n + 1) else running.Count n
+next_of (Sum x) c (running.Sum n t) = if is_value c then running.Sum (n + 1) (t +ℤ int_of c) else running.Sum n t
+next_of (Min x) c (running.Best b) = if is_value c then running.Best (lesser codes b c) else running.Best b
+next_of (Max x) c (running.Best b) = if is_value c then running.Best (greater codes b c) else running.Best b
+next_of _ c r = r
+
 -- the value with one more row
 abbrev pub next : Item → List Cell → Running → Running
-next CountAll row (running.Count n) = running.Count (n + 1)
-next (Count x) row (running.Count n) = if is_value (cell codes row x) then running.Count (n + 1) else running.Count n
-next (Sum x) row (running.Sum n t) = if is_value (cell codes row x) then running.Sum (n + 1) (t +ℤ int_of (cell codes row x)) else running.Sum n t
-next (Min x) row (running.Best b) = if is_value (cell codes row x) then running.Best (lesser codes b (cell codes row x)) else running.Best b
-next (Max x) row (running.Best b) = if is_value (cell codes row x) then running.Best (greater codes b (cell codes row x)) else running.Best b
-next _ row r = r
+next i row r = next_of i (cell_of i row) r
 
 abbrev pub nexts : List Item → List Cell → List Running → List Running
 nexts [] row rs = []

@@ -1,14 +1,18 @@
 -- Where groups are kept: a place for each key, in key order, and the running values at each place.
-use Rattle.std.specs.Prelude.{◌≡◌, ◌<◌, ◌≤◌, ◌^◌, ℕ, if◌then◌else◌, List, [], ◌∷◌, ◌++◌, length, map, Option, Some, None, slice_index_or, All, MatchOption, Vec, ℤ}
+use Rattle.std.specs.Prelude.{◌≡◌, ◌<◌, ◌≤◌, ◌^◌, ◌==◌, ◌||◌, nat_lt, ℕ, Bool, false, take, filter, if◌then◌else◌, List, [], ◌∷◌, ◌++◌, length, map, Option, Some, None, slice_index_or, All, MatchOption, Vec, ℤ}
 use Rattle.std.specs.Global.{Global}
+use Rattle.std.specs.Int.{bit_at}
 use Rattle.std.specs.declared.cmp.Ordering.TheVariants.{Less}
 use Rattle.table_core.specs.declared.cell.Cell.{Cell}
 use Rattle.table_core.specs.declared.limits.TheConstants.{MOST_ROWS}
 use Rattle.agg_groups.specs.declared.item.Item.{Item}
 use Rattle.agg_groups.specs.declared.running.Running.{Running}
 use Rattle.agg_groups.specs.Cells.{codes}
-use Rattle.agg_groups.specs.Meaning.{same_key, key_cmp, first_some}
+use Rattle.agg_groups.specs.Meaning.{same_key, key_cmp, key_of, first_some}
 use Rattle.agg_groups.specs.Running.{runnings, joins, HasRoom, all_shown, over_shown, FitsCell}
+use Rattle.agg_groups.specs.declared.met.Met.{Met}
+use Rattle.row_blocks.specs.Blocks.{BlockView, row_at}
+use Rattle.agg_groups.specs.Blocks.{chosen_in}
 use Rattle.agg_groups.specs.Groups.{Group}
 
 -- the places of the keys, in key order, and the values at each place
@@ -91,6 +95,45 @@ plain_places es = map (λ (e : Vec Cell Global × ℕ). (e.0.items, e.1)) es
 abbrev pub IsLast : List Cell → Option ℕ → Placed → Type 0
 IsLast key place t = (i : ℕ) → place ≡ Some i → place_at t.places key ≡ Some i
 
+-- a key that is remembered has its place
+abbrev pub IsMet : ℕ → Placed → Option Met → Type 0
+IsMet width t None = Unit {0}
+IsMet width t (Some m) = place_at t.places (take width (m.first ∷ m.second ∷ [])) ≡ Some m.place
+
+-- all keys that are remembered, of so many cells, have their places
+abbrev pub AreMet : ℕ → Placed → List (Option Met) → Type 0
+AreMet width t slots = All (IsMet width t) slots
+
+-- whether a key stands in a list
+abbrev pub has_key : List (List Cell) → List Cell → Bool
+has_key [] q = false
+has_key (p ∷ ps) q = same_key codes q p || has_key ps q
+
+-- new places with the values of no rows, and what there was as it was
+pub record HasGrown (items : List Item) (old new : Placed) : Type 0 where
+  pub kept : (q : List Cell) (i : ℕ) → place_at old.places q ≡ Some i → place_at new.places q ≡ Some i
+  pub first : (q : List Cell) (i : ℕ) → place_at new.places q ≡ Some i → i < length old.values → place_at old.places q ≡ Some i
+  pub long : length old.values ≤ length new.values
+  pub values : take (length old.values) new.values ≡ old.values
+  pub base : (q : List Cell) → base items (at (seen new) q) ≡ base items (at (seen old) q)
+
+-- each chosen row of a block has the place of its key
+abbrev pub AreFound : List ℕ → BlockView → ℕ → List ℕ → Placed → Type 0
+AreFound keys b word places t = (i : ℕ) → i < b.count → bit_at word i ≡ 1 → place_at t.places (key_of codes keys (row_at b i)) ≡ Some (slice_index_or places i 0)
+
+-- the chosen rows that f picks are those with this place
+abbrev pub PicksPlace : BlockView → ℕ → List ℕ → ℕ → (List Cell → Bool) → Type 0
+PicksPlace b word places p f = (i : ℕ) → i < b.count → bit_at word i ≡ 1 → (slice_index_or places i 0 == p) ≡ f (row_at b i)
+
+-- the values over the rows of each place, with the chosen rows of that place
+abbrev pub AddsRows : List Item → BlockView → ℕ → List ℕ → List (List Running) → List (List Running) → Type 0
+AddsRows items b word places old new = (p : ℕ) (f : List Cell → Bool) (rows : List (List Cell)) → p < length old → PicksPlace b word places p f
+    → values_at old p ≡ runnings items rows → values_at new p ≡ runnings items (rows ++ filter f (chosen_in b word))
+
+-- the places below n
+abbrev pub first_places : ℕ → List (List Cell × ℕ) → List (List Cell × ℕ)
+first_places n es = filter (λ (e : List Cell × ℕ). nat_lt e.1 n) es
+
 -- the result rows of groups
 abbrev pub result_rows : List Item → List Group → List (List Cell)
 result_rows items gs = map (λ (g : Group). all_shown g.0 items g.1) gs
@@ -109,13 +152,14 @@ abbrev pub HasRoomAt : ℕ → ℕ → Option (List Running) → Type 0
 HasRoomAt n m None = Unit {0}
 HasRoomAt n m (Some vs) = (length vs ≡ m) × All (HasRoom n) vs
 
--- what the parts of kept groups are to one another: few rows, few items, values with room, and a group met last that is there
-pub record IsKept (items : List Item) (keys : List ℕ) (rows : ℕ) (key : List Cell) (place : Option ℕ) (t : Placed) : Type 0 where
+-- what the parts of kept groups are to one another: few rows, few items, values with room, and groups met lately that are there
+pub record IsKept (items : List Item) (keys : List ℕ) (rows : ℕ) (key : List Cell) (place : Option ℕ) (slots : List (Option Met)) (t : Placed) : Type 0 where
   pub few : rows ≤ MOST_ROWS
   pub short : length items < 2 ^ 32
   pub long : length key ≡ length keys
   pub placed : IsPlaced t
   pub last : IsLast key place t
+  pub met : AreMet (length keys) t slots
   pub sound : AreSound rows (length items) t.values
 
 -- the groups of no rows: none, but for the one group of a query without key columns

@@ -5,12 +5,14 @@ ghost use Rattle.table_core.specs.declared.cell.Cell.{Cell};
 ghost use Rattle.agg_groups.specs.Blocks.{AreInBlock, chosen_in};
 ghost use Rattle.agg_groups.specs.Cells.{codes};
 ghost use Rattle.agg_groups.specs.Meaning.{key_of, meaning, overflow};
-ghost use Rattle.agg_groups.specs.Groups.{Kept, Stands, StandsInSomeOrder, NamesPlaces, IsFault, IsKnown};
-ghost use Rattle.agg_groups.specs.Table.{AreSound, IsPlaced, IsLast, IsKept, IsFirst, seen, at, merged};
+ghost use Rattle.agg_groups.specs.Groups.{Kept, KnowsAll, Stands, StandsInSomeOrder, NamesPlaces, IsFault, IsKnown};
+ghost use Rattle.agg_groups.specs.Table.{AreMet, AreSound, IsPlaced, IsLast, IsKept, IsFirst, seen, at, merged};
 ghost use Rattle.agg_groups.specs.declared.rows.FinishFault.TheVariants as FinishFault;
 
+use crate::finding::places_in_block;
 use crate::item::Item;
 use crate::lanes::{count_of, in_block};
+use crate::met::slots_for;
 use crate::place::{Last, place_of};
 use crate::rows::{FinishFault, Rows};
 use crate::table::GroupTable;
@@ -38,7 +40,7 @@ impl Model for Groups {
 
     ghost view = { λ g. record { items = g.items.items; keys = g.keys.items; rows = g.rows; groups = seen g.table } };
 
-    ghost invariant = { λ g. IsKept g.items.items g.keys.items g.rows g.last.key.items g.last.place g.table };
+    ghost invariant = { λ g. IsKept g.items.items g.keys.items g.rows g.last.key.items g.last.place g.last.met.items g.table };
 }
 
 // The groups of no rows: none, but for the one group of a query without key columns.
@@ -46,11 +48,17 @@ fn first_groups(alloc: Global, items: &[Item], keys: &[u32]) -> Result<(GroupTab
     ensures first { IfOk result (λ g. IsFirst items.now keys.now g.0) }
     ensures long { IfOk result (λ g. length g.1.key.items ≡ length keys.now) }
     ensures last { IfOk result (λ g. IsLast g.1.key.items g.1.place g.0) }
+    ensures met { IfOk result (λ g. AreMet (length keys.now) g.0 g.1.met.items) }
     ensures placed { IfOk result (λ g. IsPlaced g.0) }
     ensures sound { IfOk result (λ g. AreSound 0 (length items.now) g.0.values) }
 {
     let key = vec![in alloc; Cell::Null; keys.len()]?;
-    let mut last = Last { key, place: None };
+    let met = slots_for(alloc, keys.len())?;
+    let mut last = Last {
+        key,
+        place: None,
+        met,
+    };
     let mut table = GroupTable::new(alloc);
     if keys.is_empty() {
         place_of(&mut table, &mut last, items, keys, &[])?;
@@ -112,13 +120,6 @@ impl Groups {
         })
     }
 
-    /// Whether there are key columns. Without them all rows are one group.
-    pub fn has_keys(&self) -> bool
-        ensures { OnFalse result (self.now.keys ≡ []) }
-    {
-        !self.keys.is_empty()
-    }
-
     /// Adds a row. Where a row of its key was met before it takes no memory, so it is never refused.
     ///
     /// Out of memory, the groups stay as they were.
@@ -172,23 +173,58 @@ impl Groups {
         Ok(())
     }
 
-    /// Adds the rows of a block whose bits are set in `chosen`, in their order, where there are no key columns. A bit past
-    /// the block's rows chooses none. Where the one group is there, as it is from `new` on, this is never refused.
+    // Adds the chosen rows of a block: first all their places are found, or made, then each row is added to its values.
+    fn add_to_places(&mut self, block: &Block, word: u64) -> Result<(), Memory>
+        requires few { self.old.rows + block.now.count ≤ MOST_ROWS }
+        requires places { NamesPlaces self.old.items self.old.keys block.now.width }
+        requires below { AreInBlock block.now.count word }
+        ensures ok { OnOk result ((rows : List (List Cell)) → Stands self.old rows
+            → Stands self.new (rows ++ chosen_in block.now word)) }
+        ensures count { OnOk result (self.new.rows ≡ self.old.rows + length (chosen_in block.now word)) }
+        ensures free { KnowsAll self.old (chosen_in block.now word) → IsOk result }
+        ensures items { self.new.items ≡ self.old.items }
+        ensures keys { self.new.keys ≡ self.old.keys }
+        ensures err { OnErr result (self.new ≡ self.old) }
+    {
+        let mut places = [0; 64];
+        places_in_block(
+            &mut self.table,
+            &mut self.last,
+            &self.items,
+            &self.keys,
+            block,
+            word,
+            &mut places,
+        )?;
+        self.table
+            .add_rows(&places, &self.items, block, word, self.rows);
+        self.rows += count_of(word);
+        Ok(())
+    }
+
+    /// Adds the rows of a block whose bits are set in `chosen`, in their order. A bit past the block's rows chooses none.
+    /// Where a row of each key was met before it takes no memory, so it is never refused.
     ///
     /// Out of memory, the groups stay as they were.
     pub fn add_block(&mut self, block: &Block, chosen: u64) -> Result<(), Memory>
         requires few { self.old.rows + block.now.count ≤ MOST_ROWS }
         requires places { NamesPlaces self.old.items self.old.keys block.now.width }
-        requires one { self.old.keys ≡ [] }
         ensures ok { OnOk result ((rows : List (List Cell)) → Stands self.old rows
             → Stands self.new (rows ++ chosen_in block.now chosen)) }
         ensures count { OnOk result (self.new.rows ≡ self.old.rows + length (chosen_in block.now chosen)) }
-        ensures free { IsKnown self.old [] → IsOk result }
+        ensures free { KnowsAll self.old (chosen_in block.now chosen) → IsOk result }
         ensures items { self.new.items ≡ self.old.items }
         ensures keys { self.new.keys ≡ self.old.keys }
         ensures err { OnErr result (self.new ≡ self.old) }
     {
-        self.add_to_one(block, in_block(block, chosen))
+        let word = in_block(block, chosen);
+        if count_of(word) == 0 {
+            return Ok(());
+        }
+        if self.keys.is_empty() {
+            return self.add_to_one(block, word);
+        }
+        self.add_to_places(block, word)
     }
 
     /// Adds the rows of other groups, of the same items and key columns, behind its own.
@@ -216,6 +252,7 @@ impl Groups {
             Ok(both) => {
                 self.table = both;
                 self.last.place = None;
+                self.last.met.clear();
                 self.rows += other.rows;
                 Ok(())
             }

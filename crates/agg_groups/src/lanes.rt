@@ -1,6 +1,7 @@
 // The running value of an item over the chosen rows of a block, column by column.
 ghost use Rattle.std.specs.Prelude.{◌≡◌, ◌<◌, ◌≤◌, ◌+◌, ◌*◌, ◌^◌, ◌==◌, ℕ, All, length, false, if◌then◌else◌, count_ones, neg_ℤ, pos, ◌+ℤ◌, ◌≤ℤ◌};
 ghost use Rattle.std.specs.Int.{bit_at};
+ghost use Rattle.row_blocks.specs.Blocks.{row_at};
 ghost use Rattle.row_blocks.specs.Chosen.{chosen};
 ghost use Rattle.row_blocks.specs.Lanes.{held, is_null_at, lane_cell};
 ghost use Rattle.agg_groups.specs.Cells as cells;
@@ -13,6 +14,15 @@ use crate::item::Item;
 use crate::running::{Running, greater, join, lesser};
 use row_blocks::{Block, Holds, Lane, is_chosen};
 use table_core::{Cell, MOST_ROWS};
+
+/// The cell of a column in a row of a block.
+pub(crate) fn cell_in(block: &Block, row: u32, column: u32) -> Cell
+    requires row { row < 64 }
+    requires column { column < block.now.width }
+    ensures { result ≡ meaning.cell codes (row_at block.now row) column }
+{
+    block.lane(column).cell(row)
+}
 
 /// The bits of a block's rows, without those past them.
 pub(crate) fn in_block(block: &Block, word: u64) -> u64

@@ -6,12 +6,15 @@
 //!     let rows = groups.finish()?;                      // by rising keys; or the first sum that overflows
 #![tactic(auto)]
 
+mod finding;
 mod groups;
 mod item;
 mod lanes;
+mod met;
 mod place;
 mod rows;
 mod running;
+mod steps;
 mod table;
 mod text;
 

@@ -1,21 +1,24 @@
-// The group met last, which is tried first.
+// The group met last, which is tried first, and keys met lately.
 ghost use Rattle.std.specs.Prelude.{◌≡◌, ◌<◌, ◌↔◌, ℕ, length, map, All, Contains, IsTrue, OnErr, IfOk};
 ghost use Rattle.agg_groups.specs.Cells.{codes};
 ghost use Rattle.agg_groups.specs.Meaning.{key_of, cell};
-ghost use Rattle.agg_groups.specs.Table.{IsLast, IsPlaceFor, IsPlaced, names};
+ghost use Rattle.agg_groups.specs.Table.{AreMet, IsLast, IsPlaceFor, IsPlaced, names};
 
 use crate::item::Item;
+use crate::met::Met;
 use crate::table::GroupTable;
 use table_core::{Cell, Memory};
 
-/// The group that the last row belongs to: its key, as long as the key columns, and its place if that is known.
+/// The group that the last row belongs to: its key, as long as the key columns, and its place if that is known. And keys
+/// that were met lately in blocks.
 #[derive(Drop)]
 pub(crate) struct Last {
     pub(crate) key: Vec<Cell>,
     pub(crate) place: Option<usize>,
+    pub(crate) met: Vec<Option<Met>>,
 }
 
-fn is_cell(a: Cell, b: Cell) -> bool
+pub(crate) fn is_cell(a: Cell, b: Cell) -> bool
     ensures { IsTrue result → a ≡ b }
 {
     a == b
@@ -59,10 +62,12 @@ pub(crate) fn place_of(
     requires in_row { All (λ x. x < length row.now) keys.now }
     requires last { IsLast last.old.key.items last.old.place table.old }
     requires placed { IsPlaced table.old }
+    requires met { AreMet (length keys.now) table.old last.old.met.items }
     ensures ok { IfOk result (λ place. IsPlaceFor items.now (key_of codes keys.now row.now) place table.old table.new) }
     ensures last { IsLast last.new.key.items last.new.place table.new }
     ensures len { length last.new.key.items ≡ length keys.now }
     ensures placed { IsPlaced table.new }
+    ensures met { AreMet (length keys.now) table.new last.new.met.items }
     ensures err { OnErr result (table.new ≡ table.old) }
     ensures unknown { OnErr result (Contains (names table.old.places) (key_of codes keys.now row.now) → ⊥) }
 {

@@ -85,26 +85,32 @@ fn add(t: i128, n: i64, rows: u32) -> i128
     t + i128::from(n)
 }
 
-// The value of an item with one more row.
-fn next(item: Item, row: &[Cell], old: Running, rows: u32) -> Running
-    requires in_row { spec.IsInRow item (length row.now) }
+// The cell of a row that an item reads, NULL where it reads none.
+fn cell_of(item: Item, row: &[Cell]) -> Cell
+    requires { spec.IsInRow item (length row.now) }
+    ensures { result ≡ spec.cell_of item row.now }
+{
+    match item {
+        Item::Count(x) | Item::Sum(x) | Item::Min(x) | Item::Max(x) => cell_at(row, x),
+        Item::CountAll | Item::Key(_) => Cell::Null,
+    }
+}
+
+/// The value of an item with one more cell.
+pub(crate) fn next(item: Item, cell: Cell, old: Running, rows: u32) -> Running
     requires few { rows < MOST_ROWS }
     requires room { spec.HasRoom rows old }
-    ensures value { result ≡ spec.next item row.now old }
+    ensures value { result ≡ spec.next_of item cell old }
     ensures room { spec.HasRoom (rows + 1) result }
 {
     match (item, old) {
         (Item::CountAll, Running::Count(n)) => Running::Count(n + 1),
-        (Item::Count(x), Running::Count(n)) if is_value(cell_at(row, x)) => Running::Count(n + 1),
-        (Item::Sum(x), Running::Sum(n, t)) if is_value(cell_at(row, x)) => {
-            Running::Sum(n + 1, add(t, int_of(cell_at(row, x)), rows))
+        (Item::Count(_), Running::Count(n)) if is_value(cell) => Running::Count(n + 1),
+        (Item::Sum(_), Running::Sum(n, t)) if is_value(cell) => {
+            Running::Sum(n + 1, add(t, int_of(cell), rows))
         }
-        (Item::Min(x), Running::Best(b)) if is_value(cell_at(row, x)) => {
-            Running::Best(lesser(b, cell_at(row, x)))
-        }
-        (Item::Max(x), Running::Best(b)) if is_value(cell_at(row, x)) => {
-            Running::Best(greater(b, cell_at(row, x)))
-        }
+        (Item::Min(_), Running::Best(b)) if is_value(cell) => Running::Best(lesser(b, cell)),
+        (Item::Max(_), Running::Best(b)) if is_value(cell) => Running::Best(greater(b, cell)),
         (_, old) => old,
     }
 }
@@ -139,7 +145,7 @@ pub(crate) fn step(items: &[Item], row: &[Cell], rows: u32, values: &mut [Runnin
     ensures len { length values.new ≡ length values.old }
 {
     for i in 0..items.len() {
-        values[i] = next(items[i], row, values[i], rows);
+        values[i] = next(items[i], cell_of(items[i], row), values[i], rows);
     }
 }
 

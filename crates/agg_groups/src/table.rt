@@ -1,15 +1,17 @@
 // Where groups are kept: a map from keys to places, and the running values at each place.
-ghost use Rattle.std.specs.Prelude.{◌≡◌, ◌<◌, ◌≤◌, ◌+◌, ◌^◌, ℕ, List, [], length, map, set, count_ones, All, Contains, Some, None, OnOk, OnErr, IfOk, if◌then◌else◌};
+ghost use Rattle.std.specs.Prelude.{◌≡◌, ◌<◌, ◌≤◌, ◌+◌, ◌^◌, ℕ, List, [], length, map, set, count_ones, All, Contains, Some, None, OnOk, OnErr, IfOk, if◌then◌else◌, slice_index_or, take};
+ghost use Rattle.std.specs.Int.{bit_at};
 ghost use Rattle.table_core.specs.declared.cell.Cell.{Cell};
 ghost use Rattle.agg_groups.specs.Cells.{codes};
 ghost use Rattle.agg_groups.specs.Running.{HasRoom, IsInRow, nexts, joins, runnings, all_shown, FitsCell};
 ghost use Rattle.table_core.specs.Lists.{lists};
 ghost use Rattle.agg_groups.specs.Blocks.{AreInBlock, chosen_in};
-ghost use Rattle.agg_groups.specs.Table.{Placed, IsPlaced, IsNewPlace, IsPlaceFor, AreSound, place_at, values_at, seen, at, merged, first_over, result_rows, AllFit, AreBelow, Puts, base, HasRoomAt, names, plain_places};
+ghost use Rattle.agg_groups.specs.Table.{AddsRows, first_places, Placed, IsPlaced, IsNewPlace, IsPlaceFor, AreSound, place_at, values_at, seen, at, merged, first_over, result_rows, AllFit, AreBelow, Puts, base, HasRoomAt, names, plain_places};
 
 use crate::item::Item;
 use crate::lanes::add_chosen;
 use crate::running::{Running, join_all, over, row_of, starts, step};
+use crate::steps::step_all;
 use row_blocks::Block;
 use std::alloc::Global;
 use std::collections::BTreeMap;
@@ -94,6 +96,13 @@ fn step_at(values: &mut [Vec<Running>], place: usize, items: &[Item], row: &[Cel
 {
     let kept = &mut values[place];
     step(items, row, rows, kept);
+}
+
+// Takes back the places from `count` on.
+fn keep_below(places: &mut Places, count: usize)
+    ensures { plain_places places.new.entries ≡ first_places count (plain_places places.old.entries) }
+{
+    places.retain(|_, place| *place < count);
 }
 
 // Adds the values over other rows to those at a place.
@@ -231,12 +240,55 @@ impl GroupTable {
         ensures ok { IfOk result (λ place. IsPlaceFor items.now key.now place self.old self.new) }
         ensures err { OnErr result (self.new ≡ self.old) }
         ensures unknown { OnErr result (Contains (names self.old.places) key.now → ⊥) }
+        ensures none { OnErr result (place_at self.old.places key.now ≡ None) }
         ensures placed { IsPlaced self.new }
     {
         match place_in(&self.places, key) {
             Some(place) => Ok(place),
             None => put_start(&mut self.places, &mut self.values, items, key),
         }
+    }
+
+    /// How many places there are.
+    pub(crate) fn len(&self) -> usize
+        ensures { result ≡ length self.now.values }
+    {
+        self.values.len()
+    }
+
+    /// Takes back the places from `count` on, with their values.
+    pub(crate) fn keep_first(&mut self, count: usize)
+        requires { count ≤ length self.old.values }
+        ensures places { self.new.places ≡ first_places count self.old.places }
+        ensures values { self.new.values ≡ take count self.old.values }
+        ensures placed { IsPlaced self.new }
+    {
+        keep_below(&mut self.places, count);
+        self.values.truncate(count);
+    }
+
+    /// Adds each chosen row of a block to the values at its place.
+    pub(crate) fn add_rows(
+        &mut self,
+        places: &[usize],
+        items: &[Item],
+        block: &Block,
+        word: u64,
+        rows: u32,
+    )
+        requires few { rows + block.now.count ≤ MOST_ROWS }
+        requires in_row { All (λ i. IsInRow i block.now.width) items.now }
+        requires long { length places.now ≡ 64 }
+        requires there { (i : ℕ) → i < block.now.count → bit_at word i ≡ 1
+            → slice_index_or places.now i 0 < length self.old.values }
+        requires below { AreInBlock block.now.count word }
+        requires sound { AreSound rows (length items.now) self.old.values }
+        ensures places { self.new.places ≡ self.old.places }
+        ensures added { AddsRows items.now block.now word places.now self.old.values self.new.values }
+        ensures sound { AreSound (rows + count_ones word) (length items.now) self.new.values }
+        ensures placed { IsPlaced self.new }
+    {
+        step_all(&mut self.values, places, items, block, word, rows);
     }
 
     /// Adds a row to the values at a place.

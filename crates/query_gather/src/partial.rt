@@ -16,7 +16,7 @@ ghost use Rattle.sql_bind.specs.Meaning as meaning;
 use crate::answer::Answer;
 use crate::choosing::{chosen_of, matches};
 use agg_groups::{FinishFault, Groups};
-use row_blocks::{Block, is_chosen};
+use row_blocks::Block;
 use scan_story::Cause;
 use sql_bind::Plan;
 use std::alloc::Global;
@@ -36,32 +36,7 @@ pub enum Partial {
     Top(TopRows),
 }
 
-// Adds the chosen rows of a block to groups, one after another. Out of memory, the first ones of them may have been added.
-fn add_one_by_one(groups: &mut Groups, block: &Block, chosen: u64) -> Result<(), Memory>
-    requires few { groups.old.rows + block.now.count ≤ MOST_ROWS }
-    requires places { grouped.NamesPlaces groups.old.items groups.old.keys block.now.width }
-    ensures ok { OnOk result ((rows : List (List Cell)) → grouped.Stands groups.old rows
-        → grouped.Stands groups.new (rows ++ chosen_rows chosen (rows_in block.now))) }
-    ensures count { groups.new.rows ≤ groups.old.rows + block.now.count }
-    ensures items { groups.new.items ≡ groups.old.items }
-    ensures keys { groups.new.keys ≡ groups.old.keys }
-    ensures err { OnErr result ((rows : List (List Cell)) → grouped.Stands groups.old rows
-        → HoldsInPart (grouped.Stands groups.new) rows (chosen_rows chosen (rows_in block.now))) }
-{
-    let mut cells = [Cell::Null; 16];
-    let cells = &mut cells[..block.width() as usize];
-    for row in 0..block.len() {
-        if !is_chosen(chosen, row) {
-            continue;
-        }
-        block.row(row, cells);
-        groups.add_row(cells)?;
-    }
-    Ok(())
-}
-
-// Adds the chosen rows of a block to groups: all at once where there is but one group. Out of memory, the first ones of them
-// may have been added.
+// Adds the chosen rows of a block to groups. Out of memory, none of them is added.
 fn add_chosen_rows(groups: &mut Groups, block: &Block, chosen: u64) -> Result<(), Memory>
     requires few { groups.old.rows + block.now.count ≤ MOST_ROWS }
     requires places { grouped.NamesPlaces groups.old.items groups.old.keys block.now.width }
@@ -73,9 +48,6 @@ fn add_chosen_rows(groups: &mut Groups, block: &Block, chosen: u64) -> Result<()
     ensures err { OnErr result ((rows : List (List Cell)) → grouped.Stands groups.old rows
         → HoldsInPart (grouped.Stands groups.new) rows (chosen_rows chosen (rows_in block.now))) }
 {
-    if groups.has_keys() {
-        return add_one_by_one(groups, block, chosen);
-    }
     groups.add_block(block, chosen)
 }
 

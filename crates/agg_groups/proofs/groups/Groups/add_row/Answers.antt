@@ -7,8 +7,9 @@ use Rattle.agg_groups.specs.Cells.{codes}
 use Rattle.agg_groups.specs.Meaning.{key_of}
 use Rattle.agg_groups.specs.Running.{HasRoom, nexts}
 use Rattle.agg_groups.specs.Groups.{Kept, IsKnown, Stands}
-use Rattle.agg_groups.specs.Table.{IsPlaceFor, AreSound, names, values_at, place_at}
+use Rattle.agg_groups.specs.Table.{AreMet, IsPlaceFor, AreSound, names, values_at, place_at}
 use Rattle.agg_groups.proofs.Values.{nexts_len, length-push}
+use Rattle.agg_groups.proofs.Grown.{met_kept}
 use Rattle.agg_groups.proofs.Seen.{names-seen, place_there, placed_put, placed_below, sound_place, sound_set}
 use Rattle.agg_groups.proofs.Stands.{groups_more}
 use Rattle.agg_groups.proofs.groups.Groups.add_row.Goals as goal
@@ -63,6 +64,8 @@ invariant_of-self-2 c =
       long = c.in_ok-place.ensures.len ∙ ap length c.deref-2.ensures.value;
       placed = c.step.ensures.placed;
       last = subst L (sym c.step.ensures.places) c.in_ok-place.ensures.last;
+      met = met_kept (length c.self.inside.keys.items) mid c.step.new.self c.place_of.new.last.met.items (λ q j e. ap (λ (es : List (List Cell × ℕ)). place_at es q) c.step.ensures.places ∙ e)
+          (subst (λ (ks : List ℕ). AreMet (length ks) mid c.place_of.new.last.met.items) c.deref-2.ensures.value c.in_ok-place.ensures.met);
       sound = subst V (sym (subst W c.deref-3.ensures.value c.step.ensures.values)) (sound_set n (n + 1) (length items) i (nexts items row (values_at mid.values i)) mid.values (omega arith)
           (nexts_len items row (values_at mid.values i) (sound i there).0) (subst R c.deref-3.ensures.value c.step.ensures.room) sound);
     }

@@ -9,9 +9,10 @@ use Rattle.agg_groups.specs.Cells.{codes}
 use Rattle.agg_groups.specs.Meaning.{key_of}
 use Rattle.agg_groups.specs.Running.{HasRoom, joins, running_of, runnings}
 use Rattle.agg_groups.specs.Groups.{Kept, IsKnown, Stands, groups_of}
-use Rattle.agg_groups.specs.Table.{IsPlaceFor, AreSound, names, values_at, place_at}
+use Rattle.agg_groups.specs.Table.{AreMet, IsPlaceFor, AreSound, names, values_at, place_at}
 use Rattle.agg_groups.proofs.Columns.{few-chosen, ones-block}
 use Rattle.agg_groups.proofs.One.{groups_one}
+use Rattle.agg_groups.proofs.Grown.{met_kept}
 use Rattle.agg_groups.proofs.Seen.{names-seen, place_there, placed_put, placed_below, sound_place, sound_set}
 use Rattle.agg_groups.proofs.Values.{joins_len}
 use Rattle.agg_groups.proofs.groups.Groups.add_to_one.Goals as goal
@@ -96,6 +97,8 @@ invariant_of-self-2 c =
       long = c.in_ok-place.ensures.len ∙ ap length c.deref-2.ensures.value;
       placed = c.add_chosen.ensures.placed;
       last = subst L (sym c.add_chosen.ensures.places) c.in_ok-place.ensures.last;
+      met = met_kept (length c.self.inside.keys.items) mid c.add_chosen.new.self c.place_of.new.last.met.items (λ q j e. ap (λ (es : List (List Cell × ℕ)). place_at es q) c.add_chosen.ensures.places ∙ e)
+          (subst (λ (ks : List ℕ). AreMet (length ks) mid c.place_of.new.last.met.items) c.deref-2.ensures.value c.in_ok-place.ensures.met);
       sound = subst V (sym (subst W c.deref-3.ensures.value c.add_chosen.ensures.values)) (sound_set n (n + c.count_of.result) (length items) i (joined items) mid.values (omega arith)
           (joins_len items (values_at mid.values i) (runnings items more) (sound i there).0 (length-map items (running_of more))) room sound);
     }
