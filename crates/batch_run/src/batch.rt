@@ -36,12 +36,17 @@ use std::thread::Threads;
 use table_core::Table;
 use table_pieces::{BatchRefusal, put_pieces};
 
-/// Answers a batch of queries over one table, on as many workers as the options say, each in a thread of its own.
+/// Answers a batch of queries over one table, on as many workers as the options say, each in a thread of its own as far as
+/// there are threads.
 ///
 /// All pieces of the table are put into the depot before a scan begins. Each query is split into as many scans as there are parts;
 /// the scans of all tasks, in task order and then part order, are dealt to the workers in turn, and each worker runs its scans in order
 /// over the frames that all share. What the parts of a query gathered is joined, and the query is answered. A read that fails and a
 /// damaged piece stop the query for which the piece was loaded, and so does `Memory` once the workers have started.
+///
+/// At most `most_threads` threads are started beside the caller's, and one may be refused. Where there are fewer threads than
+/// workers, a thread runs several workers, one after another; with 0 the caller runs all of them. All that is said below holds
+/// then too.
 ///
 /// The table and its dictionaries are those that `csv_load::load` answers, and each plan is one that `sql_bind` answers over
 /// them. The numbers of the tasks rise from at least 1 to at most 256, and no scan's number passes 256. There are 1 to 16384 rows in a
@@ -56,6 +61,7 @@ pub fn run_batch<P: Policy, D: Depot + Send, T: Gate + Sync, R: Threads + Wait +
     depot: D,
     policy: P,
     gate: &T,
+    most_threads: u32,
 ) -> Result<BatchEnd<D>, (D, BatchRefusal)>
     requires loaded { CanBeLoaded loaded.table loaded.dicts.items }
     requires plans { All (λ t. IsPlanOfTable loaded.table.columns loaded.dicts.items t.plan) tasks.now }
@@ -122,7 +128,16 @@ pub fn run_batch<P: Policy, D: Depot + Send, T: Gate + Sync, R: Threads + Wait +
         mut taken,
     } = setup;
     let end = run_put(
-        rt, alloc, &shape, tasks, needs, options, depot, policy, gate,
+        rt,
+        alloc,
+        &shape,
+        tasks,
+        needs,
+        options,
+        depot,
+        policy,
+        gate,
+        most_threads,
     );
     let ScansEnd {
         story,

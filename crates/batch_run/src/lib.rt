@@ -3,7 +3,7 @@
 //!
 //!     let tasks = [Task { query: 1, plan: &plan }];
 //!     let options = Options { workers: 4, frames: 13, per: 1024, layout: Layout::Row, parts: 1 };
-//!     match run_batch(&rt, alloc, loaded, &tasks, &options, MemDepot::new(alloc), Relevance, &NoGate) {
+//!     match run_batch(&rt, alloc, loaded, &tasks, &options, MemDepot::new(alloc), Relevance, &NoGate, 4) {
 //!         Ok(BatchEnd { answers, ran, .. }) => show(answers, ran.taken, ran.story),
 //!         Err((depot, refusal)) => refuse(depot, refusal),
 //!     }

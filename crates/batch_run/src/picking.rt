@@ -41,6 +41,7 @@ pub(crate) fn run_put<P: Policy, D: Depot + Send, T: Gate + Sync, R: Threads + W
     depot: D,
     policy: P,
     gate: &T,
+    most_threads: u32,
 ) -> Result<ScansEnd<D>, (D, Memory)>
     requires setting { IsSetting (setting_of needs.items (chunks shape.now) options.now.workers options.now.frames
         (groups shape.now) (P.name policy) (P.cursor policy)) }
@@ -71,6 +72,15 @@ pub(crate) fn run_put<P: Policy, D: Depot + Send, T: Gate + Sync, R: Threads + W
     ensures later { IfErr result (λ r. D.faults depot ≤ D.faults r.0) }
 {
     run_scans::<Brand, Brand, P, D, T, R>(
-        rt, alloc, shape, tasks, needs, options, depot, policy, gate,
+        rt,
+        alloc,
+        shape,
+        tasks,
+        needs,
+        options,
+        depot,
+        policy,
+        gate,
+        most_threads,
     )
 }

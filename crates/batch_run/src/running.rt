@@ -74,7 +74,8 @@ fn seat<'a, S: Origin, C: Content, P: Policy, D: Depot>(
     }
 }
 
-// Lets all workers run their scans, each in a thread of its own as far as there are threads.
+// Lets all workers run their scans, each in a thread of its own as far as there are threads, of which so many may be
+// started.
 fn work<
     'a,
     S: Origin + Send + Sync,
@@ -89,6 +90,7 @@ fn work<
     jobs: &'a [Job<'a>],
     gate: &'a T,
     works: Works<'a, S, C, P, D>,
+    most_threads: u32,
 ) -> Works<'a, S, C, P, D>
     requires start { IsStart S.origin }
     requires fits { Fits S.origin C.pieces shape.now works.pool }
@@ -110,7 +112,7 @@ fn work<
         jobs,
         gate,
     };
-    run_at_once(rt, &shop, workers.as_mut_slice());
+    run_at_once(rt, &shop, workers.as_mut_slice(), most_threads);
     Works {
         baton,
         pool,
@@ -123,7 +125,8 @@ fn work<
 }
 
 /// Runs the scans of a batch: each task's parts, in task order and then part order, on worker `place % workers`, each worker's
-/// scans in order, all workers at once. It returns when each worker has run all its scans.
+/// scans in order, all workers at once, as far as there are threads, of which so many may be started beside the caller's. It
+/// returns when each worker has run all its scans.
 ///
 /// The origin `S` is what the needs, the shape, the options, the policy and the depot make, and the content `C` is that of the pieces
 /// which the depot tells that it holds, or isn't told. The needs are those of the scans, one for each of them in their order.
@@ -145,6 +148,7 @@ pub fn run_scans<
     depot: D,
     policy: P,
     gate: &T,
+    most_threads: u32,
 ) -> Result<ScansEnd<D>, (D, Memory)>
     requires start { IsStart S.origin }
     requires setting { S.origin.setting ≡ setting_of needs.items (chunks shape.now) options.now.workers
@@ -180,7 +184,7 @@ pub fn run_scans<
     let works = open::<S, C, P, D>(alloc, shape, needs, options, depot, policy)?;
     match seat(alloc, works, shape, 8 * frame_words(shape), jobs.len()) {
         Ok(works) => {
-            let works = work(rt, shape, &jobs, gate, works);
+            let works = work(rt, shape, &jobs, gate, works, most_threads);
             let (story, depot) = close(rt, works, &mut lists);
             let results = in_order(&jobs, lists, results);
             Ok(ScansEnd {

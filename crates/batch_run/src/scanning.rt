@@ -88,7 +88,9 @@ fn may_be_shared<K: Sync>()
     ensures { IsSync K.row }
 {}
 
-/// Lets all workers run their scans at once, each in a thread of its own as far as there are threads.
+/// Lets all workers run their scans at once, each in a thread of its own as far as there are threads. At most so many are
+/// started beside the caller's. Where there are fewer than workers, or one is refused, a thread runs several of them, one
+/// after another.
 pub(crate) fn run_at_once<
     S: Origin + Send + Sync,
     C: Content + Send + Sync,
@@ -96,7 +98,7 @@ pub(crate) fn run_at_once<
     D: Depot + Send,
     T: Gate + Sync,
     R: Threads + Wait + Sync,
->(rt: &R, shop: &Shop<'_, S, C, P, D, T>, workers: &mut [Worker<'_, S, C, P, D>])
+>(rt: &R, shop: &Shop<'_, S, C, P, D, T>, workers: &mut [Worker<'_, S, C, P, D>], most_threads: u32)
     requires some { 0 < length workers.old }
     requires ready { All (IsReady S.origin C.pieces shop.now) workers.old }
     ensures { AllZip (HasDone S.origin C.pieces shop.now) workers.old workers.new }
@@ -104,7 +106,7 @@ pub(crate) fn run_at_once<
     may_be_shared::<Baton<Desk<S, P, D>>>();
     may_be_shared::<Pool<C>>();
     may_be_shared::<Plan>();
-    let threads = workers.len();
+    let threads = most_threads as usize + 1;
     thread::for_each_mut(
         rt,
         workers,

@@ -58,7 +58,18 @@ pub fn answer<P: Policy, D: Depot + Send, T: Gate + Sync, R: Threads + Wait + Sy
     let Ok(tasks) = tasks_of(alloc, &outcomes) else {
         return Err((depot, Stop::Memory));
     };
-    let end = match run_batch(rt, alloc, loaded, &tasks, &options, depot, policy, gate) {
+    let most_threads = options.workers;
+    let end = match run_batch(
+        rt,
+        alloc,
+        loaded,
+        &tasks,
+        &options,
+        depot,
+        policy,
+        gate,
+        most_threads,
+    ) {
         Ok(end) => end,
         Err((depot, refusal)) => return Err((depot, stop_of(refusal))),
     };

@@ -204,7 +204,46 @@ fn table_for(
     Ok(loaded)
 }
 
-// A batch under a policy, or why it doesn't start.
+// A batch under a policy on at most so many threads beside the caller's, or why it doesn't start.
+pub(crate) fn run_on_threads<
+    R: Abort + Threads + Wait + Sync,
+    P: Policy,
+    D: Depot + Send,
+    T: Gate + Sync,
+>(
+    rt: &R,
+    alloc: Global,
+    keys: RandomState,
+    text: &[u8],
+    statements: &[&[u8]],
+    options: Options,
+    depot: D,
+    policy: P,
+    gate: &T,
+    most_threads: u32,
+) -> Result<Result<BatchEnd<D>, BatchRefusal>, Fail>
+    requires { D.gets depot ≤ 2 ^ 63 }
+{
+    let loaded = table_for(rt, alloc, keys, text, &options)?;
+    let plans = plans_of(rt, alloc, &loaded, statements)?;
+    let tasks = tasks_of(rt, alloc, &plans, options.parts)?;
+    match run_batch(
+        rt,
+        alloc,
+        loaded,
+        &tasks,
+        &options,
+        depot,
+        policy,
+        gate,
+        most_threads,
+    ) {
+        Ok(end) => Ok(Ok(end)),
+        Err((_, refusal)) => Ok(Err(refusal)),
+    }
+}
+
+// A batch under a policy on a thread for each worker, or why it doesn't start.
 pub(crate) fn run_under<
     R: Abort + Threads + Wait + Sync,
     P: Policy,
@@ -223,13 +262,19 @@ pub(crate) fn run_under<
 ) -> Result<Result<BatchEnd<D>, BatchRefusal>, Fail>
     requires { D.gets depot ≤ 2 ^ 63 }
 {
-    let loaded = table_for(rt, alloc, keys, text, &options)?;
-    let plans = plans_of(rt, alloc, &loaded, statements)?;
-    let tasks = tasks_of(rt, alloc, &plans, options.parts)?;
-    match run_batch(rt, alloc, loaded, &tasks, &options, depot, policy, gate) {
-        Ok(end) => Ok(Ok(end)),
-        Err((_, refusal)) => Ok(Err(refusal)),
-    }
+    let most_threads = options.workers;
+    run_on_threads(
+        rt,
+        alloc,
+        keys,
+        text,
+        statements,
+        options,
+        depot,
+        policy,
+        gate,
+        most_threads,
+    )
 }
 
 // A batch under relevance, or why it doesn't start.

@@ -1,5 +1,5 @@
 //! Trials of a batch on workers: what is answered, taken and read; depots that fail or spoil; many workers over few
-//! frames while reads fail; the stories of each policy; and what the gate is told.
+//! frames while reads fail; fewer threads than workers; the stories of each policy; and what the gate is told.
 //!
 //! All of it is tests. `docs/BATCH.md` tells the rules.
 #![tactic(auto)]
@@ -10,6 +10,8 @@ mod answers;
 mod batches;
 #[cfg(test)]
 mod faults;
+#[cfg(test)]
+mod few_threads;
 #[cfg(test)]
 mod gates;
 #[cfg(test)]

@@ -18,7 +18,7 @@ use table_core::Cell;
 // How many rows the table has, one in a chunk: more chunks than the frames can hold.
 const ROWS: u32 = 28;
 
-const TABLE: &str =
+pub(crate) const TABLE: &str =
     "n,k\n1,0\n2,1\n3,2\n4,0\n5,1\n6,2\n7,0\n8,1\n9,2\n10,0\n11,1\n12,2\n13,0\n14,1\n15,2\n16,0\n17,1\n18,2\n19,0\n20,1\n21,2\n22,0\n23,1\n24,2\n25,0\n26,1\n27,2\n28,0\n";
 
 // A statement, and the first and the last row that it counts, from 1.

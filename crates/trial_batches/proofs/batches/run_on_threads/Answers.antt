@@ -4,7 +4,7 @@ use Rattle.std.proofs.lemmas.List.Elements.{All-cons, All-head, All-nil, All-tai
 use Rattle.sql_bind.specs.declared.plan.Plan.{Plan}
 use Rattle.batch_plan.specs.declared.task.Task.{Task}
 use Rattle.batch_run.specs.Tasks.{IsPlanOfTable}
-use Rattle.trial_batches.proofs.batches.run_under.Goals as goal
+use Rattle.trial_batches.proofs.batches.run_on_threads.Goals as goal
 
 -- what holds of the plans of some tasks holds of each task's
 each-plan : (P : Plan → Type 0) (ts : List Task) → All P (map (λ (t : Task). t.plan) ts) → All (λ (t : Task). P t.plan) ts
