@@ -1,4 +1,5 @@
 pub mod Assembled
+pub mod Begun
 pub mod Finishing
 pub mod Rowwise
 pub mod Settles
@@ -10,5 +11,6 @@ pub mod Few
 pub mod Fronts
 pub mod Holding
 pub mod Numerals
+pub mod Ordered
 pub mod Assigning
 pub mod Keys

@@ -1,11 +1,11 @@
 -- Numbers of columns with texts that become texts, one after another.
-use Rattle.std.proofs.Common.{◌≡◌, ◌≢◌, ◌∙◌, ◌+◌, ◌*◌, ◌/◌, ◌%◌, ◌<◌, ℕ, List, [], ◌∷◌, true, false, arith, refl, sym, ap, length, get_or, inl, inr, set, length-set, get_or-set_same, get_or-set_other}
-use Rattle.std.specs.Prelude.{ℤ, Contains, nat_eq}
+use Rattle.std.proofs.Common.{◌≡◌, ◌≢◌, ◌∙◌, ◌+◌, ◌*◌, ◌/◌, ◌%◌, ◌<◌, ℕ, List, [], arith, refl, sym, ap, length, get_or, inl, inr, set, length-set, get_or-set_same, get_or-set_other}
+use Rattle.std.specs.Prelude.{ℤ, Contains}
 use Rattle.std.specs.Fmt.{signed_decimal}
 use Rattle.std.proofs.lemmas.Bool.{cases_eq}
 use Rattle.std.proofs.lemmas.List.Elements.{All-push, Contains-get_or}
 use Rattle.std.proofs.lemmas.Nat.{mod-mul-add}
-use Rattle.std.proofs.Math.Nat.{mod-lt, mod-eq-sub-div-mul, div-mul-le_self, div-lt_iff_lt-mul}
+use Rattle.std.proofs.Math.Nat.{mod-add-mod, mod-lt, mod-eq-sub-div-mul, div-mul-le_self, div-lt_iff_lt-mul}
 use Rattle.csv_load.specs.Gathered.{AreRead, IsNoNumber, IsPut, IsSettled, IsSettling, Stands}
 use Rattle.csv_load.specs.Judged.{Fields}
 use Rattle.csv_load.specs.Meaning.{column_at}
@@ -15,12 +15,8 @@ use Rattle.csv_load.proofs.Spelled.{whole-spelled}
 use Rattle.table_core.specs.declared.cell.Cell.{Cell}
 use Rattle.table_core.specs.declared.cell.Cell.TheVariants.{Null, Int, Code}
 
-pub filled : (texts : Fields) → nat_eq (length texts) 0 ≡ false → texts ≢ []
-filled [] e = let no : true ≡ false = e in absurd (cc)
-filled (t ∷ ts) e = λ none. (cc)
-
 pub settling-none : (columns : List Fields) (cells : List Cell) → IsSettling columns cells 0 columns cells
-settling-none columns cells = record { width = refl; size = refl; read = λ rows is. is; settled = λ i low. absurd (omega (arith, low)) }
+settling-none columns cells = record { width = refl; size = refl; read = λ rows is. is; settled = λ i low. absurd (omega (arith, low)); after = λ i above. refl; still = λ k inside none. none }
 
 settled-next : (columns : List Fields) (width place : ℕ) (cells : List Cell) → ((i : ℕ) → i < place → IsSettled (get_or columns (i % width) []) (get_or cells i Null))
     → IsSettled (get_or columns (place % width) []) (get_or cells place Null) → (i : ℕ) → i < place + 1 → IsSettled (get_or columns (i % width) []) (get_or cells i Null)
@@ -37,6 +33,8 @@ settling-skip old cells place new more is here = record {
   size = is.size;
   read = is.read;
   settled = settled-next new (length old) place more is.settled here;
+  after = λ i above. is.after i (omega (arith, above));
+  still = is.still;
 }
 
 -- the field of a number is the number's text
@@ -100,12 +98,12 @@ settled-kept texts new Null some settled = tt
 settled-kept texts new (Int n) some settled = absurd (some settled)
 settled-kept texts new (Code c) some settled = tt
 
-no-number : (texts : Fields) (cell : Cell) → IsNoNumber cell → IsSettled texts cell
+pub no-number : (texts : Fields) (cell : Cell) → IsNoNumber cell → IsSettled texts cell
 no-number texts Null no_number = tt
 no-number texts (Int n) no_number = absurd no_number
 no-number texts (Code c) no_number = tt
 
-pub settling-more : (old : List Fields) (cells : List Cell) (place : ℕ) (new : List Fields) (more : List Cell) (n : ℤ) (texts : Fields) (cell : Cell)
+settling-more : (old : List Fields) (cells : List Cell) (place : ℕ) (new : List Fields) (more : List Cell) (n : ℤ) (texts : Fields) (cell : Cell)
     → IsSettling old cells place new more → 0 < length old → place < length more → get_or more place Null ≡ Int n
     → get_or new (place % length old) [] ≢ [] → IsPut (get_or new (place % length old) []) (signed_decimal n) texts cell → IsNoNumber cell
     → IsSettling old cells (place + 1) (set new (place % length old) texts) (set more place cell)
@@ -122,4 +120,21 @@ settling-more old cells place new more n texts cell is some inside e some_text p
             | inr apart ↦ rw (get_or-set_other new k (i % length old) texts [] apart) (is.settled i low)
           ]))
           (rw (get_or-set_same more place cell Null inside) (no-number (get_or (set new k texts) k []) cell no_number));
+      after = λ i above. get_or-set_other more place i cell Null (λ same. absurd (omega (arith, same, above))) ∙ is.after i (omega (arith, above));
+      still = λ j low none. elim (cases_eq j k) [
+        | inl column ↦ absurd (some_text (rw column at (is.still j low none)))
+        | inr apart ↦ get_or-set_other new k j texts [] apart ∙ is.still j low none
+      ];
     }
+
+-- the column of the next cell, where columns are counted in turn
+pub turned : (place width column next : ℕ) → column ≡ place % width → next ≡ (column + 1) % width → next ≡ (place + 1) % width
+turned place width column next turn is = is ∙ rw turn (mod-add-mod place width 1)
+
+-- the same for the column that has its turn
+pub settling-turn : (old : List Fields) (cells : List Cell) (place column : ℕ) (new : List Fields) (more : List Cell) (n : ℤ) (texts : Fields) (cell : Cell)
+    → column ≡ place % length old → IsSettling old cells place new more → 0 < length old → place < length more → get_or more place Null ≡ Int n
+    → get_or new column [] ≢ [] → IsPut (get_or new column []) (signed_decimal n) texts cell → IsNoNumber cell
+    → IsSettling old cells (place + 1) (set new column texts) (set more place cell)
+settling-turn old cells place column new more n texts cell turn is some inside e some_text put no_number =
+    rw turn (settling-more old cells place new more n texts cell is some inside e (rw turn at some_text) (rw turn at put) no_number)

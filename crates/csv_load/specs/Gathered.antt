@@ -1,5 +1,5 @@
 -- Fields that were read: for each column its texts, and for each field a cell, which has its number or the place of its text.
-use Rattle.std.specs.Prelude.{◌≡◌, ◌≢◌, ◌+◌, ◌*◌, ◌%◌, ◌<◌, ◌++◌, ◌⊎◌, ℕ, List, [], ◌∷◌, length, slice_index_or, All, Contains, Option, Some, None, ℤ, false}
+use Rattle.std.specs.Prelude.{◌≡◌, ◌≢◌, ◌+◌, ◌*◌, ◌%◌, ◌<◌, ◌≤◌, ◌++◌, ◌⊎◌, ℕ, List, [], ◌∷◌, length, slice_index_or, All, Contains, Option, Some, None, ℤ, false}
 use Rattle.csv_load.specs.Kinds.{value_as}
 use Rattle.csv_load.specs.Number.{number_read}
 use Rattle.csv_load.specs.declared.number.Number.{Number}
@@ -26,12 +26,23 @@ pub record IsPut (old : Fields) (field : List ℕ) (new : Fields) (cell : Cell) 
   pub grown : (new ≡ old) ⊎ ((new ≡ old ++ field ∷ []) × (field ≢ []))
   pub stands : Stands new cell field
 
+-- the cell is no number where the column has texts
+abbrev pub IsSettled : Fields → Cell → Type 0
+IsSettled texts Null = Unit {0}
+IsSettled texts (Int n) = texts ≡ []
+IsSettled texts (Code c) = Unit {0}
+
 -- the fields of a row were put at the end, each in its column
 pub record RowPut (old : List Fields) (cells : List Cell) (row : Fields) (new : List Fields) (more : List Cell) : Type 0 where
   pub width : length new ≡ length old
   pub size : length more ≡ length cells + length old
   pub before : (i : ℕ) → i < length cells → slice_index_or more i Null ≡ slice_index_or cells i Null
   pub put : (k : ℕ) → k < length old → IsPut (slice_index_or old k []) (slice_index_or row k []) (slice_index_or new k []) (slice_index_or more (length cells + k) Null)
+  pub settled : (k : ℕ) → k < length old → IsSettled (slice_index_or new k []) (slice_index_or more (length cells + k) Null)
+
+-- no column has its first text
+abbrev pub NoneBegun : List Fields → List Fields → Type 0
+NoneBegun old new = (k : ℕ) → k < length old → slice_index_or old k [] ≡ [] → slice_index_or new k [] ≡ []
 
 -- the rows so far, each field with its cell, and no text that is empty or no field of its column
 pub record AreRead (rows : List Fields) (width : ℕ) (columns : List Fields) (cells : List Cell) : Type 0 where
@@ -42,23 +53,20 @@ pub record AreRead (rows : List Fields) (width : ℕ) (columns : List Fields) (c
       → Stands (slice_index_or columns k []) (slice_index_or cells (r * width + k) Null) (slice_index_or (slice_index_or rows r []) k [])
   pub named : (k : ℕ) → k < width → All (λ t. (t ≢ []) × Contains (column_at k rows) t) (slice_index_or columns k [])
 
--- the cell is no number where the column has texts
-abbrev pub IsSettled : Fields → Cell → Type 0
-IsSettled texts Null = Unit {0}
-IsSettled texts (Int n) = texts ≡ []
-IsSettled texts (Code c) = Unit {0}
-
 -- the rows that were read, and in no column are texts beside numbers
 pub record AreSettled (rows : List Fields) (width : ℕ) (columns : List Fields) (cells : List Cell) : Type 0 where
   pub read : AreRead rows width columns cells
   pub settled : (i : ℕ) → i < length cells → IsSettled (slice_index_or columns (i % width) []) (slice_index_or cells i Null)
 
--- up to a place, the numbers of columns with texts have become texts, and no field has changed
+-- up to a place, the numbers of columns with texts have become texts, and no field has changed; no column has its first
+-- text by this
 pub record IsSettling (old : List Fields) (cells : List Cell) (place : ℕ) (new : List Fields) (more : List Cell) : Type 0 where
   pub width : length new ≡ length old
   pub size : length more ≡ length cells
   pub read : (rows : List Fields) → AreRead rows (length old) old cells → AreRead rows (length old) new more
   pub settled : (i : ℕ) → i < place → IsSettled (slice_index_or new (i % length old) []) (slice_index_or more i Null)
+  pub after : (i : ℕ) → place ≤ i → slice_index_or more i Null ≡ slice_index_or cells i Null
+  pub still : NoneBegun old new
 
 -- the cell is no number
 abbrev pub IsNoNumber : Cell → Type 0

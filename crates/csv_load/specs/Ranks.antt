@@ -1,6 +1,7 @@
 -- The dictionary of a list of names, and the code of each name in it.
 use Rattle.std.specs.Prelude.{◌≡◌, ◌≢◌, ◌<◌, ℕ, List, [], length, map, slice_index_or, All, Contains, Option, Some, None, IfSome}
 use Rattle.std.specs.Borrow.{Bor}
+use Rattle.std.specs.List.Sorted.{IsSorted}
 use Rattle.std.specs.Ordering.{nat_cmp, ordering_then}
 use Rattle.std.specs.declared.cmp.Ordering.{Ordering}
 use Rattle.csv_load.specs.Fronts.{IsFront}
@@ -23,6 +24,14 @@ pub record IsRanked (names : List (List ℕ)) (dict : List (List ℕ)) (codes : 
 abbrev pub Key : Type 0
 Key = (ℕ × ℕ) × Bor (List ℕ) × ℕ
 
+-- the texts of keys
+abbrev pub key_texts : List Key → List (List ℕ)
+key_texts order = map (λ (p : Key). p.1.now) order
+
+-- the places of the names of keys
+abbrev pub key_places : List Key → List ℕ
+key_places order = map (λ (p : Key). p.2) order
+
 -- how two names stand, by their fronts first, and two equal ones by their places
 abbrev pub key_cmp : Key → Key → Ordering
 key_cmp p q = ordering_then (ordering_then (ordering_then (nat_cmp p.0.0 q.0.0) (nat_cmp p.0.1 q.0.1)) (text_cmp p.1.now q.1.now)) (nat_cmp p.2 q.2)
@@ -32,3 +41,11 @@ pub record Keyed (names : List (List ℕ)) (end : ℕ) (order : List Key) : Type
   pub fronts : All (λ p. IsFront p.1.now p.0) order
   pub true_name : All (λ p. (p.2 < length names) × (p.1.now ≡ slice_index_or names p.2 []) × (p.1.now ≢ [])) order
   pub all : (k : ℕ) → k < end → slice_index_or names k [] ≢ [] → Contains (map (λ p. p.2) order) k
+
+-- the names that aren't empty in rising order, and the place of each: those of sorted keys
+pub record AreInOrder (names texts : List (List ℕ)) (places : List ℕ) : Type 0 where
+  pub order : List Key
+  pub keyed : Keyed names (length names) order
+  pub sorted : IsSorted key_cmp order
+  pub texts_are : texts ≡ key_texts order
+  pub places_are : places ≡ key_places order

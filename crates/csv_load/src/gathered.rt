@@ -1,6 +1,6 @@
 // The texts of one column, gathered as its fields come.
-ghost use Rattle.std.specs.Prelude.{◌≡◌, ◌<◌, [], List, ℕ, IfOk, IfSome, length, nat_eq, slice_index_or};
-ghost use Rattle.csv_load.specs.Gathered.{IsNoNumber, IsPut};
+ghost use Rattle.std.specs.Prelude.{◌≡◌, ◌≢◌, ◌<◌, [], List, ℕ, IfOk, IfSome, length, nat_eq, slice_index_or};
+ghost use Rattle.csv_load.specs.Gathered.{IsNoNumber, IsPut, IsSettled};
 ghost use Rattle.csv_load.specs.Seen.{AreSound};
 ghost use Rattle.csv_load.specs.Judged.{Fields};
 
@@ -29,14 +29,11 @@ fn place_guessed(texts: &Texts, guess: usize, field: &[u8]) -> Option<u32>
     None
 }
 
-// The place of a text among the first `count` texts, where it was remembered and they aren't too many.
-fn place_seen(seen: &HashMap<Vec<u8>, u32, Seeded>, field: &[u8], count: usize) -> Option<u32>
+// The place of a text, where it was remembered.
+fn place_seen(seen: &HashMap<Vec<u8>, u32, Seeded>, field: &[u8]) -> Option<u32>
     ensures { (texts : Fields) → AreSound texts seen.now.entries
         → IfSome result (λ c. (c < length texts) × (slice_index_or texts c [] ≡ field.now)) }
 {
-    if count > MOST_SEEN {
-        return None;
-    }
     match seen.get(field) {
         Some(place) => Some(*place),
         None => None,
@@ -93,13 +90,15 @@ impl Gathered {
         })
     }
 
-    // Where a text of this mark may stand. Among many texts only the last one is worth a look.
-    fn guess(&self, mark: usize) -> usize {
-        let count = self.texts.len();
-        if count > MOST_SEEN {
-            return count - 1;
+    // The place of a text, where one that had its mark last is the same.
+    fn place_marked(&self, mark: usize, field: &[u8]) -> Option<u32>
+        ensures { IfSome result (λ c. (c < length self.now) × (slice_index_or self.now c [] ≡ field.now)) }
+    {
+        let (last, other) = self.recent.guesses(mark);
+        if let Some(known) = place_guessed(&self.texts, last as usize, field) {
+            return Some(known);
         }
-        self.recent.guess(mark) as usize
+        place_guessed(&self.texts, other as usize, field)
     }
 
     // The texts themselves. The look-up is let go.
@@ -119,7 +118,8 @@ impl Gathered {
 
     // The cell of a field: its number while all fields are whole numbers, or else the place of its text.
     pub(crate) fn put(&mut self, field: &[u8]) -> Result<Cell, AllocError>
-        ensures { IfOk result (λ cell. IsPut self.old field.now self.new cell) }
+        ensures put { IfOk result (λ cell. IsPut self.old field.now self.new cell) }
+        ensures settled { IfOk result (λ cell. IsSettled self.new cell) }
     {
         if self.texts.len() == 0 {
             if let Some(value) = whole_number(field) {
@@ -127,6 +127,24 @@ impl Gathered {
             }
         }
         self.put_text(field)
+    }
+
+    // The same without a look-up, for a field that isn't empty. Among many texts only the last one is worth a look.
+    fn put_among_many(&mut self, field: &[u8]) -> Result<Cell, AllocError>
+        requires some { 0 < length self.old }
+        requires filled { field.now ≢ [] }
+        ensures put { IfOk result (λ cell. IsPut self.old field.now self.new cell) }
+        ensures text { IfOk result IsNoNumber }
+    {
+        let place = self.texts.len();
+        if let Some(last) = place_guessed(&self.texts, place - 1, field) {
+            return Ok(Cell::Code(last));
+        }
+        if place >= u32::MAX as usize {
+            return Err(AllocError);
+        }
+        self.texts.push(field)?;
+        Ok(Cell::Code(place as u32))
     }
 
     // The cell of a field, whose text is put at the end where it isn't found.
@@ -137,12 +155,15 @@ impl Gathered {
         if field.len() == 0 {
             return Ok(Cell::Null);
         }
+        if self.texts.len() > MOST_SEEN {
+            return self.put_among_many(field);
+        }
         let mark = mark_of(field);
-        if let Some(known) = place_guessed(&self.texts, self.guess(mark), field) {
+        if let Some(known) = self.place_marked(mark, field) {
             return Ok(Cell::Code(known));
         }
         let place = self.texts.len();
-        if let Some(known) = place_seen(&self.seen, field, place) {
+        if let Some(known) = place_seen(&self.seen, field) {
             self.recent.note(mark, known);
             return Ok(Cell::Code(known));
         }

@@ -21,6 +21,7 @@ mod kind;
 mod limits;
 mod loading;
 mod memory;
+mod next_column;
 mod number;
 mod rank;
 mod reading;

@@ -1,7 +1,6 @@
 // The dictionary of a list of names, and the code of each name, by a sort.
 ghost use Rattle.std.specs.Prelude.{◌≡◌, IfOk, None, length, replicate};
-ghost use Rattle.std.specs.List.Sorted.{IsSorted};
-ghost use Rattle.csv_load.specs.Ranks.{IsRanked, Keyed, key_cmp};
+ghost use Rattle.csv_load.specs.Ranks.{AreInOrder, IsRanked, Keyed, key_places, key_texts};
 
 use crate::front::front;
 use std::alloc::{AllocError, Global};
@@ -41,18 +40,46 @@ fn no_codes(alloc: Global, count: usize) -> Result<Vec<Option<u32>>, AllocError>
     vec![in alloc; None; count]
 }
 
+// The texts of these keys one behind another. What then goes over them reads memory from front to back, where each name
+// lies somewhere else.
+fn texts_of(alloc: Global, order: &[Key<'_>]) -> Result<Texts, AllocError>
+    ensures { IfOk result (λ texts. texts ≡ key_texts order.now) }
+{
+    let mut texts = Texts::new(alloc);
+    for place in 0..order.len() {
+        let (_front, text, _name) = order[place];
+        texts.push(text)?;
+    }
+    Ok(texts)
+}
+
+// The places of these keys' names.
+fn places_of(alloc: Global, order: &[Key<'_>]) -> Result<Vec<u32>, AllocError>
+    ensures { IfOk result (λ v. v.items ≡ key_places order.now) }
+{
+    let mut places = Vec::with_capacity(alloc, order.len())?;
+    for place in 0..order.len() {
+        let (_front, _text, name) = order[place];
+        places.push(name)?;
+    }
+    Ok(places)
+}
+
 // The texts in order, each once, and the code of each name.
-fn assigned(alloc: Global, names: &Texts, order: &[Key<'_>]) -> Result<Ranked, AllocError>
-    requires keyed { Keyed names.now (length names.now) order.now }
-    requires sorted { IsSorted key_cmp order.now }
+fn assigned(
+    alloc: Global,
+    names: &Texts,
+    texts: &Texts,
+    places: &[u32],
+) -> Result<Ranked, AllocError>
+    requires in_order { AreInOrder names.now texts.now places.now }
     ensures { IfOk result (λ r. IsRanked names.now r.dict r.codes.items) }
 {
     let mut dict = Dict::new(alloc);
     let mut codes = no_codes(alloc, names.len())?;
-    for place in 0..order.len() {
-        let (_front, text, row) = order[place];
-        let code = dict.push(text)?;
-        codes[row as usize] = Some(code);
+    for place in 0..places.len() {
+        let code = dict.push(texts.get(place))?;
+        codes[places[place] as usize] = Some(code);
     }
     Ok(Ranked { dict, codes })
 }
@@ -62,6 +89,11 @@ pub fn rank_texts(alloc: Global, names: &Texts) -> Result<Ranked, AllocError>
     ensures { IfOk result (λ r. IsRanked names.now r.dict r.codes.items) }
 {
     let mut order = keyed(alloc, names)?;
-    order.sort()?;
-    assigned(alloc, names, order.as_slice())
+    order.sort_unstable();
+    let sorted = order.as_slice();
+    let texts = texts_of(alloc, sorted)?;
+    let places = places_of(alloc, sorted)?;
+    // The keys have the most memory here.
+    drop(order);
+    assigned(alloc, names, &texts, places.as_slice())
 }

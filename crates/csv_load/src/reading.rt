@@ -1,7 +1,7 @@
 // The rows of a text, each field kept once.
-ghost use Rattle.std.specs.Prelude.{◌≡◌, ◌≢◌, ◌≤◌, ◌+◌, [], IfErr, IfOk, None, Some, length, replicate};
+ghost use Rattle.std.specs.Prelude.{◌≡◌, ◌≢◌, ◌≤◌, ◌+◌, [], ◌&&◌, ◌||◌, if◌then◌else◌, false, not, IfErr, IfOk, None, Some, length, replicate};
 ghost use Rattle.csv.specs.Records.{fields_of};
-ghost use Rattle.csv_load.specs.Gathered.{RowPut};
+ghost use Rattle.csv_load.specs.Gathered.{NoneBegun, RowPut};
 ghost use Rattle.csv_load.specs.Reading.{IsRead};
 ghost use Rattle.csv_load.specs.Judged.{refusal_of};
 ghost use Rattle.csv_load.specs.Rows.{table_records};
@@ -63,20 +63,41 @@ fn no_rows(alloc: Global, hash: Seeded, header: &ByteRecord) -> Result<Read, All
     })
 }
 
-// Puts each field of a row in its column, and its cell at the end.
+// Whether a column has its first text, where this one may have it.
+fn begins(begun: bool, was_empty: bool, is_empty: bool) -> bool
+    ensures { result ≡ (begun || (was_empty && not is_empty)) }
+{
+    begun || (was_empty && !is_empty)
+}
+
+// From which cell on no column has numbers beside texts, with a row more: the row's first text stands at its end.
+fn settled_after(begun: bool, from: usize, end: usize) -> usize
+    ensures { result ≡ (if begun then end else from) }
+{
+    if begun {
+        return end;
+    }
+    from
+}
+
+// Puts each field of a row in its column, and its cell at the end, and says whether a column has its first text.
 fn put_row(
     columns: &mut [Gathered],
     cells: &mut Vec<Cell>,
     row: &ByteRecord,
-) -> Result<(), AllocError>
+) -> Result<bool, AllocError>
     requires { length columns.old ≡ length (fields_of row.now) }
-    ensures { IfOk result (λ _. RowPut columns.old cells.old.items (fields_of row.now) columns.new cells.new.items) }
+    ensures put { IfOk result (λ _. RowPut columns.old cells.old.items (fields_of row.now) columns.new cells.new.items) }
+    ensures begun { IfOk result (λ begun. begun ≡ false → NoneBegun columns.old columns.new) }
 {
+    let mut begun = false;
     for place in 0..columns.len() {
+        let was_empty = columns[place].is_empty();
         let cell = columns[place].put(field(row, place))?;
+        begun = begins(begun, was_empty, columns[place].is_empty());
         cells.push(cell)?;
     }
-    Ok(())
+    Ok(begun)
 }
 
 // Reads each record once, and judges it.
@@ -100,13 +121,16 @@ pub(crate) fn read_rows(alloc: Global, hash: Seeded, text: &[u8]) -> Result<Read
     }
     let mut read = no_rows(alloc, hash, &row)?;
     let mut count: u32 = 0;
+    // A column has numbers beside texts only above its first text.
+    let mut settled_from = 0;
     while rows.next(&mut row)? {
         if let Some(cause) = judge_row(&row, width, count) {
             return Err(cause);
         }
-        put_row(&mut read.columns, &mut read.cells, &row)?;
+        let begun = put_row(&mut read.columns, &mut read.cells, &row)?;
+        settled_from = settled_after(begun, settled_from, read.cells.len());
         count += 1;
     }
-    settle(&mut read.columns, &mut read.cells)?;
+    settle(&mut read.columns, &mut read.cells, settled_from)?;
     Ok(read)
 }

@@ -1,12 +1,12 @@
 // Where a column's texts were put, by a cheap mark of each. A mark proves nothing, since texts may share one: what it
-// gives is compared, and texts chosen to share marks cost one comparison each.
+// gives is compared, and texts chosen to share marks cost two comparisons each.
 use std::alloc::{AllocError, Global};
 
-// How many marks there are.
-const MARKS: usize = 16384;
+// How many marks there are, each with two places: with one, 2,500 different dates often take it from each other.
+const MARKS: usize = 8192;
 
 // The low bits of a mixed word, which its mark leaves out.
-const UNMARKED_BITS: u32 = 50;
+const UNMARKED_BITS: u32 = 51;
 
 // An odd number whose bits look drawn, so that a product with it moves each bit to the top ones.
 const MIXER: u64 = 0x9e37_79b9_7f4a_7c15;
@@ -34,14 +34,14 @@ fn short_number(text: &[u8]) -> u64 {
     number
 }
 
-fn no_places(alloc: Global, count: usize) -> Result<Vec<u32>, AllocError> {
-    vec![in alloc; 0; count]
+fn no_places(alloc: Global, count: usize) -> Result<Vec<(u32, u32)>, AllocError> {
+    vec![in alloc; (0, 0); count]
 }
 
-// For each mark the place of the text that had it last.
+// For each mark the places of the two texts that had it last, the later one first.
 #[derive(Drop)]
 pub(crate) struct Recent {
-    places: Vec<u32>,
+    places: Vec<(u32, u32)>,
 }
 
 impl Recent {
@@ -51,18 +51,19 @@ impl Recent {
         })
     }
 
-    // Where a text of this mark may stand.
-    pub(crate) fn guess(&self, mark: usize) -> u32 {
+    // The two places where a text of this mark may stand.
+    pub(crate) fn guesses(&self, mark: usize) -> (u32, u32) {
         match self.places.get(mark) {
-            Some(place) => *place,
-            None => 0,
+            Some(pair) => *pair,
+            None => (0, 0),
         }
     }
 
     // A text of this mark stands here.
     pub(crate) fn note(&mut self, mark: usize, place: u32) {
         if mark < self.places.len() {
-            self.places[mark] = place;
+            let (last, _) = self.places[mark];
+            self.places[mark] = (place, last);
         }
     }
 }

@@ -12,6 +12,7 @@ ghost use Rattle.table_core.specs.declared.cell.Cell.TheVariants.{Null};
 
 use crate::gathered::Gathered;
 use crate::kind::{kind_of_texts, number_cell};
+use crate::next_column::next_column;
 use crate::rank::rank_texts;
 use std::alloc::{AllocError, Global};
 use table_core::{Cell, Dict, Kind, MOST_PLACES, Texts};
@@ -110,7 +111,9 @@ pub(crate) fn finish_cells(cells: &mut [Cell], columns: &[Typed])
         → IsFinished (slice_index_or columns.now (i % length columns.now) d) (slice_index_or cells.old i Null) (slice_index_or cells.new i Null) }
 {
     let width = columns.len();
+    let mut column = 0;
     for place in 0..cells.len() {
-        cells[place] = finished(&columns[place % width], cells[place]);
+        cells[place] = finished(&columns[column], cells[place]);
+        column = next_column(column, width);
     }
 }

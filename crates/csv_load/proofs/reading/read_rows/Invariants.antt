@@ -13,7 +13,8 @@ invariant-loop-read l = record {
   judged : refusal_of (table_records l.fn.text) ≡ first_bad_row l.width l.count l.rows;
   counted : length (table_records l.fn.text) ≡ l.count + 1 + length l.rows;
   short : All (λ r. length r ≤ length l.fn.text + 1) l.rows;
-  so_far : SoFar (table_records l.fn.text) l.read.names.items l.read.columns.items l.read.cells.items l.rows;
+  so_far : SoFar (table_records l.fn.text) l.read.names.items l.read.columns.items l.read.cells.items l.rows l.settled_from;
+  inside : l.settled_from ≤ length l.read.cells.items;
 }
 
 abbrev pub decreases-loop-read : goal.decreases-loop-read
