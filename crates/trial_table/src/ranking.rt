@@ -29,6 +29,28 @@ const CELLS: &[Read<'static>] = &[
             Cell::Code(0),
         ],
     ),
+    // columns that have their first text in the first row, the third and the last, with numbers above and nothing
+    (
+        b"a,b,c,d\n1,,7,x\n,5,8,\nx,6,9,2\n3,y,10,x\n",
+        &[
+            Cell::Code(0),
+            Cell::Null,
+            Cell::Int(7),
+            Cell::Code(1),
+            Cell::Null,
+            Cell::Code(0),
+            Cell::Int(8),
+            Cell::Null,
+            Cell::Code(2),
+            Cell::Code(1),
+            Cell::Int(9),
+            Cell::Code(0),
+            Cell::Code(1),
+            Cell::Code(2),
+            Cell::Int(10),
+            Cell::Code(1),
+        ],
+    ),
     // 17 bytes that are the same
     (
         b"v\naaaaaaaaaaaaaaaaab\naaaaaaaaaaaaaaaaa\naaaaaaaaaaaaaaaaaab\naaaaaaaaaaaaaaaaaa\n",
