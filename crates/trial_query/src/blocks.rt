@@ -1,0 +1,241 @@
+// Groups with the chosen rows of blocks are those with each chosen row in turn.
+ghost use Rattle.std.specs.Prelude.{◌≡◌, ◌≤◌, ◌+◌, OnOk, IfOk};
+ghost use Rattle.agg_groups.specs.Groups.{NamesPlaces};
+
+use crate::fitting::{are_rows, items_in, keys_in};
+use agg_groups::{FinishFault, Groups, Item, Rows};
+use row_blocks::{Block, Holds, Lane, MOST_BLOCK_ROWS, is_chosen};
+use std::alloc::Global;
+use std::process::Abort;
+use std::test::Fail;
+use table_core::Cell::{self, Code, Int, Null};
+use table_core::{MOST_ROWS, Memory};
+
+// Words of codes, of which one has more bits than a code.
+const CODES: [u64; 8] = [0, 3, 1, 3, 2, (5 << 32) + 1, 0, 4294967295];
+
+const SMALL: [u64; 8] = [0, 255, u64::MAX, 31, 1, 256, 0, 8];
+
+// Numbers at both ends of 64 bits and about 0, so that sums leave 64 bits and come back.
+const ENDS: [u64; 8] = [
+    0,
+    1,
+    u64::MAX,
+    1 << 63,
+    (1 << 63) - 1,
+    (1 << 63) - 1,
+    1 << 63,
+    7,
+];
+
+// A number that looks drawn.
+fn drawn(seed: u64) -> u64 {
+    let mixed = seed.wrapping_mul(11400714819323198485);
+    mixed ^ mixed >> 29
+}
+
+// A lane of drawn words, of which about one in four is NULL.
+fn lane_of(holds: Holds, words: &[u64; 8], seed: u64) -> Lane {
+    let mut lane = Lane::empty(holds);
+    lane.nulls = drawn(seed) & drawn(seed ^ 77);
+    for i in 0..64_usize {
+        let place = drawn(seed.wrapping_add(i as u64)) >> 40;
+        lane.words[i] = words[place as usize % 8];
+    }
+    lane
+}
+
+// So many rows of codes, small numbers, numbers at the ends of 64 bits, and a column that is all NULL.
+fn block_of(rt: &impl Abort, seed: u64, count: u32) -> Block {
+    assert!(rt; count <= MOST_BLOCK_ROWS);
+    let mut block = Block::new();
+    block.begin(4, count);
+    block.put(0, &lane_of(Holds::Codes, &CODES, seed));
+    block.put(1, &lane_of(Holds::Numbers, &SMALL, seed ^ 1));
+    block.put(2, &lane_of(Holds::Numbers, &ENDS, seed ^ 2));
+    block
+}
+
+// Adds the chosen rows one after another.
+fn add_each(groups: &mut Groups, block: &Block, chosen: u64) -> Result<(), Memory>
+    requires width { block.now.width ≡ 4 }
+    requires few { groups.old.rows + block.now.count ≤ MOST_ROWS }
+    requires places { NamesPlaces groups.old.items groups.old.keys 4 }
+    ensures rows { OnOk result (groups.new.rows ≤ groups.old.rows + block.now.count) }
+    ensures items { groups.new.items ≡ groups.old.items }
+    ensures keys { groups.new.keys ≡ groups.old.keys }
+{
+    let mut cells = [Null; 4];
+    for i in 0..block.len() {
+        block.row(i, &mut cells);
+        if !is_chosen(chosen, i) {
+            continue;
+        }
+        groups.add_row(&cells)?;
+    }
+    Ok(())
+}
+
+// Adds the chosen rows at once.
+fn add_block(groups: &mut Groups, block: &Block, chosen: u64) -> Result<(), Memory>
+    requires few { groups.old.rows + block.now.count ≤ MOST_ROWS }
+    requires places { NamesPlaces groups.old.items groups.old.keys block.now.width }
+    ensures rows { OnOk result (groups.new.rows ≤ groups.old.rows + block.now.count) }
+    ensures items { groups.new.items ≡ groups.old.items }
+    ensures keys { groups.new.keys ≡ groups.old.keys }
+{
+    groups.add_block(block, chosen)
+}
+
+// Adds the chosen rows of a drawn block at once to the one, and one after another to the other.
+fn add_both(
+    rt: &impl Abort,
+    at_once: &mut Groups,
+    in_turn: &mut Groups,
+    block: &Block,
+    chosen: u64,
+) -> Result<(), Memory>
+    requires few { at_once.old.rows + 64 ≤ MOST_ROWS }
+    requires few_rows { in_turn.old.rows + 64 ≤ MOST_ROWS }
+    requires places { NamesPlaces at_once.old.items at_once.old.keys 4 }
+    requires row_places { NamesPlaces in_turn.old.items in_turn.old.keys 4 }
+    ensures rows { OnOk result (at_once.new.rows ≤ at_once.old.rows + 64) }
+    ensures items { at_once.new.items ≡ at_once.old.items }
+    ensures keys { at_once.new.keys ≡ at_once.old.keys }
+    ensures row_rows { OnOk result (in_turn.new.rows ≤ in_turn.old.rows + 64) }
+    ensures row_items { in_turn.new.items ≡ in_turn.old.items }
+    ensures row_keys { in_turn.new.keys ≡ in_turn.old.keys }
+{
+    assert!(rt; block.width() == 4 && block.len() <= 64);
+    add_block(at_once, block, chosen)?;
+    add_each(in_turn, block, chosen)
+}
+
+fn are_same(a: &[Vec<Cell>], b: &[Vec<Cell>]) -> bool {
+    a.len() == b.len() && a.iter().zip(b).all(|(x, y)| x.as_slice() == y.as_slice())
+}
+
+fn is_same(a: Result<Rows, FinishFault>, b: Result<Rows, FinishFault>) -> bool {
+    match (a, b) {
+        (Ok(a), Ok(b)) => are_same(a.as_slice(), b.as_slice()),
+        (Err(a), Err(b)) => a == b,
+        _ => false,
+    }
+}
+
+fn empty(alloc: Global, items: &[Item], keys: &[u32]) -> Result<Groups, Memory>
+    ensures items { IfOk result (λ g. g.items ≡ items.now) }
+    ensures keys { IfOk result (λ g. g.keys ≡ keys.now) }
+    ensures rows { IfOk result (λ g. g.rows ≡ 0) }
+{
+    let items = Vec::from_slice(alloc, items)?;
+    Groups::new(alloc, items, Vec::from_slice(alloc, keys)?)
+}
+
+// Three blocks, of which the third is the first again, so that its keys are known.
+fn check(
+    rt: &impl Abort,
+    alloc: Global,
+    items: &[Item],
+    keys: &[u32],
+    seed: u64,
+    count: u32,
+) -> Result<(), Fail> {
+    assert!(rt; items_in(items, 4) && keys_in(keys, 4));
+    let mut at_once = empty(alloc, items, keys)?;
+    let mut in_turn = empty(alloc, items, keys)?;
+    let first = block_of(rt, seed, count);
+    let second = block_of(rt, drawn(seed), 64);
+    let chosen = drawn(seed ^ 5) | drawn(seed ^ 6);
+    add_both(rt, &mut at_once, &mut in_turn, &first, chosen)?;
+    add_both(rt, &mut at_once, &mut in_turn, &second, drawn(seed ^ 7))?;
+    add_both(rt, &mut at_once, &mut in_turn, &first, u64::MAX)?;
+    assert!(rt;
+        is_same(at_once.finish(), in_turn.finish()),
+        "{keys:?} {seed} {count}"
+    );
+    Ok(())
+}
+
+const OF_NUMBERS: [Item; 6] = [
+    Item::Key(0),
+    Item::CountAll,
+    Item::Sum(1),
+    Item::Min(2),
+    Item::Max(2),
+    Item::Count(3),
+];
+
+const OF_ENDS: [Item; 4] = [Item::Key(1), Item::Count(2), Item::Sum(2), Item::Max(0)];
+
+const KEYS: [&[u32]; 7] = [&[], &[0], &[1], &[3], &[0, 1], &[1, 3], &[1, 0, 2]];
+
+#[test]
+fn groups_with_a_block_are_those_with_its_rows(rt: HostRuntime) -> Result<(), Fail> {
+    for keys in KEYS {
+        for (seed, count) in [(1, 64), (2, 63), (3, 1), (4, 0), (5, 40)] {
+            check(&rt, rt.alloc(), &OF_NUMBERS, keys, seed, count)?;
+            check(&rt, rt.alloc(), &OF_ENDS, keys, seed, count)?;
+        }
+    }
+    Ok(())
+}
+
+// Five rows of a code, once NULL, and of a number.
+fn pay() -> Block {
+    let mut codes = Lane::empty(Holds::Codes);
+    codes.words[0] = 1;
+    codes.words[2] = 1;
+    codes.words[4] = 1;
+    codes.nulls = 1 << 3;
+    let mut numbers = Lane::empty(Holds::Numbers);
+    numbers.words[0] = (1 << 63) - 1;
+    numbers.words[1] = 5;
+    numbers.words[2] = 1;
+    numbers.words[3] = 9;
+    numbers.words[4] = u64::MAX;
+    let mut block = Block::new();
+    block.begin(2, 5);
+    block.put(0, &codes);
+    block.put(1, &numbers);
+    block
+}
+
+// The answer over the chosen rows.
+fn paid(rt: &impl Abort, alloc: Global, chosen: u64) -> Result<Result<Rows, FinishFault>, Memory> {
+    let items = [Item::Key(0), Item::CountAll, Item::Sum(1)];
+    let mut groups = empty(alloc, &items, &[0])?;
+    let block = pay();
+    assert!(rt; items_in(&items, 2) && keys_in(&[0], 2));
+    assert!(rt; block.width() == 2 && block.len() <= 64);
+    add_block(&mut groups, &block, chosen)?;
+    Ok(groups.finish())
+}
+
+#[test]
+fn sums_leave_64_bits_within_a_block_and_come_back(rt: HostRuntime) -> Result<(), Fail> {
+    let Ok(rows) = paid(&rt, rt.alloc(), u64::MAX)? else {
+        panic!(rt; "no rows");
+    };
+    assert!(rt;
+        are_rows(
+            rows.as_slice(),
+            &[
+                &[Null, Int(1), Int(9)],
+                &[Code(0), Int(1), Int(5)],
+                &[Code(1), Int(3), Int(9223372036854775807)],
+            ]
+        )
+    );
+    let fault = paid(&rt, rt.alloc(), 0b101)?;
+    assert!(rt;
+        matches!(
+            fault,
+            Err(FinishFault::SumOverflow {
+                item: 3,
+                total: 9223372036854775808,
+            })
+        )
+    );
+    Ok(())
+}
