@@ -31,6 +31,22 @@ pub const COLUMNS: [&[u64]; 6] = [
 /// Six rows of a number, one in a chunk, in the row layout.
 pub const SIX: [&[u64]; 6] = [&[0, 70], &[0, 71], &[0, 72], &[0, 73], &[0, 74], &[0, 75]];
 
+/// Puts the words of a piece into a depot.
+pub fn put_words<R: Abort>(
+    rt: &R,
+    alloc: Global,
+    depot: &mut MemDepot,
+    piece: u32,
+    words: &[u64],
+) -> Result<(), Fail> {
+    let mut bytes = Vec::new(alloc);
+    for word in words {
+        bytes.extend_from_slice(&word.to_le_bytes())?;
+    }
+    assert!(rt; depot.put(piece, bytes.as_slice()).is_ok());
+    Ok(())
+}
+
 /// A depot that has these pieces, fails at these gets, and gives a word of a piece wrong.
 pub fn depot<R: Abort>(
     rt: &R,
@@ -42,11 +58,7 @@ pub fn depot<R: Abort>(
     let mut inner = MemDepot::new(alloc);
     let mut number = 0u32;
     for words in pieces {
-        let mut bytes = Vec::new(alloc);
-        for word in words.iter() {
-            bytes.extend_from_slice(&word.to_le_bytes())?;
-        }
-        assert!(rt; inner.put(number, bytes.as_slice()).is_ok());
+        put_words(rt, alloc, &mut inner, number, words)?;
         number = number.saturating_add(1);
     }
     inner.fail_gets = Vec::from_slice(alloc, fail_gets)?;
@@ -59,7 +71,8 @@ pub fn depot<R: Abort>(
     })
 }
 
-fn shape(
+/// The shape of a table.
+pub fn shape(
     alloc: Global,
     layout: Layout,
     kinds: &[Kind],
