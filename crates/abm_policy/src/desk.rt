@@ -36,7 +36,8 @@ use std::marker::{Model, PhantomData};
 /// Filled and Failed of the story, and the story is licensed between the origin's count of faults and the depot's.
 #[derive(Drop)]
 pub struct Desk<S: Origin, P: Policy, D: Depot> {
-    pub(crate) book: Book,
+    // On the heap, so that a desk is small where it is handed on.
+    pub(crate) book: Box<Book>,
     pub(crate) story: Story,
     pub(crate) policy: P,
     pub(crate) depot: Option<D>,
@@ -54,7 +55,7 @@ impl<S: Origin, P: Policy, D: Depot> Model for Desk<S, P, D> {
 
     ghost view = { λ d. d.story.entries };
 
-    ghost invariant = { λ d. IsSound S.origin (P.name d.policy) (P.cursor d.policy) d.book d.story (option_map (λ x. depot_view (D.held x) (D.gets x) (D.faults x)) d.depot) };
+    ghost invariant = { λ d. IsSound S.origin (P.name d.policy) (P.cursor d.policy) d.book.value d.story (option_map (λ x. depot_view (D.held x) (D.gets x) (D.faults x)) d.depot) };
 }
 
 impl<S: Origin, P: Policy, D: Depot> Storied for Desk<S, P, D> {
@@ -64,11 +65,11 @@ impl<S: Origin, P: Policy, D: Depot> Storied for Desk<S, P, D> {
 }
 
 // Notes the entry in the book and appends it to the story, which has room for each entry that may come.
-pub(crate) fn write<S: Origin>(book: &mut Book, story: &mut Story, entry: Entry)
+pub(crate) fn write<S: Origin>(book: &mut Box<Book>, story: &mut Story, entry: Entry)
     requires start { IsStart S.origin }
-    requires written { IsWritten S.origin.setting book.old story.old }
+    requires written { IsWritten S.origin.setting book.old.value story.old }
     requires may { MayCome S.origin.setting (past story.old.entries) entry }
-    ensures written { IsWritten S.origin.setting book.new story.new }
+    ensures written { IsWritten S.origin.setting book.new.value story.new }
     ensures entries { story.new.entries ≡ story.old.entries ++ entry ∷ [] }
 {
     book.note(&entry);
@@ -105,6 +106,9 @@ impl<S: Origin, P: Policy, D: Depot> Desk<S, P, D> {
         let Ok(book) = Book::new(alloc, needs, chunks, workers, frames, groups) else {
             return Err((policy, depot, Memory));
         };
+        let Ok(book) = Box::new(alloc, book) else {
+            return Err((policy, depot, Memory));
+        };
         Ok(Desk {
             book,
             story,
@@ -120,7 +124,7 @@ impl<S: Origin, P: Policy, D: Depot> Desk<S, P, D> {
         ensures legal { Legal S.origin.setting (past self.now) }
         ensures start { IsStart S.origin }
     {
-        &self.book
+        &*self.book
     }
 
     /// The story is legal, and the origin is one for a desk: a law. It does nothing.
@@ -138,7 +142,7 @@ impl<S: Origin, P: Policy, D: Depot> Desk<S, P, D> {
         ensures missing { (l : Load) → underway S.origin.setting (past self.now) ≡ Some l → (0 < length l.missing)
             × NoneTwice l.missing }
     {
-        let _book = &self.book;
+        let _book = &*self.book;
     }
 
     // Appends an entry that is no pick and touches neither a load nor the depot.

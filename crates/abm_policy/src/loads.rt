@@ -42,10 +42,10 @@ impl<S: Origin, P: Policy, D: Depot> Desk<S, P, D> {
             (depot_view (D.held result.depot) (D.gets result.depot) (D.faults result.depot)) }
         ensures room { D.gets result.depot + 16 ≤ 2 ^ 64 - 1 }
     {
-        let Some(query) = self.policy.pick_query(&self.book) else {
+        let Some(query) = self.policy.pick_query(&*self.book) else {
             unreachable!()
         };
-        let Some(chunk) = self.policy.pick_load(&self.book, query) else {
+        let Some(chunk) = self.policy.pick_load(&*self.book, query) else {
             unreachable!()
         };
         let missing = self.book.missing_pieces(query, chunk);
@@ -81,7 +81,7 @@ impl<S: Origin, P: Policy, D: Depot> Desk<S, P, D> {
         ensures frees { free_frames S.origin.setting (past self.old) < free_frames S.origin.setting (past self.new) }
     {
         let _need = need;
-        let Some(chunk) = self.policy.pick_victim(&self.book) else {
+        let Some(chunk) = self.policy.pick_victim(&*self.book) else {
             unreachable!()
         };
         write::<S>(

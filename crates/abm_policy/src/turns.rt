@@ -61,7 +61,7 @@ impl<S: Origin, P: Policy, D: Depot> Desk<S, P, D> {
         ensures some { IfSome result (λ c. (self.new ≡ self.old ++ Deliver w q c ∷ [])
             × (is_ready S.origin.setting (past self.old) q c ≡ true)) }
     {
-        match self.policy.pick_delivery(&self.book, q) {
+        match self.policy.pick_delivery(&*self.book, q) {
             None => None,
             Some(chunk) => {
                 let entry = Entry::Deliver {

@@ -11,7 +11,7 @@ unreachable-requires g c =
     let s = g.S.Origin.origin.setting in
     let h = past c.self.inside.story.entries in
     let B : List Entry → Type 0 = λ es. MayBegin (underway s (past es)) (free_frames s (past es)) c.args.w c.args.piece in
-    some_free s h c.args.w c.args.piece (subst B (sym c.self.view_is) c.requires.may) (c.in_default.ensures s h c.self.invariant.written.stands)
+    some_free s h c.args.w c.args.piece (subst B (sym c.self.view_is) c.requires.may) (c.in_default.ensures s h (rw c.deref.ensures c.self.invariant.written.stands))
 
 pub returns-clause-free : goal.returns-clause-free
 returns-clause-free g c =
@@ -21,4 +21,4 @@ returns-clause-free g c =
     let B : List Entry → Type 0 = λ es. MayBegin (underway s (past es)) (free_frames s (past es)) c.args.w c.args.piece in
     let F : List Entry → Type 0 = λ es. free_frames s (past es) ≤ free_frames s (past c.write.new.story.entries) + 1 in
     subst F c.self.view_is (fill_leaves_free s c.self.inside.story.entries c.write.new.story.entries c.args.w c.in-Some.frame c.args.piece i.start.setting i.start.room i.written.legal
-    (may_fill s h c.args.w c.in-Some.frame c.args.piece (subst B (sym c.self.view_is) c.requires.may) (c.in-Some.ensures s h i.written.stands)) c.write.ensures.entries)
+    (may_fill s h c.args.w c.in-Some.frame c.args.piece (subst B (sym c.self.view_is) c.requires.may) (c.in-Some.ensures s h (rw c.deref.ensures i.written.stands))) c.write.ensures.entries)

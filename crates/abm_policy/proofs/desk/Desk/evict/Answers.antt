@@ -15,7 +15,7 @@ unreachable-requires g c =
     let U : List Entry → Type 0 = λ es. IsUnbegun (underway s (past es)) c.args.w c.args.need in
     let F : List Entry → Type 0 = λ es. free_frames s (past es) < c.args.need in
     never_none s h c.args.w c.args.need i.start.setting i.start.room i.written.legal (subst U (sym c.self.view_is) c.requires.load) (subst F (sym c.self.view_is) c.requires.few)
-    (c.in_default.ensures.picks s h i.written.stands)
+    (c.in_default.ensures.picks s h (rw c.deref.ensures i.written.stands))
 
 pub returns-clause-entries : goal.returns-clause-entries
 returns-clause-entries g c =
@@ -31,4 +31,4 @@ returns-clause-frees g c =
     let F : List Entry → Type 0 = λ es. free_frames s (past es) < c.args.need in
     let R : List Entry → Type 0 = λ es. free_frames s (past es) < free_frames s (past c.write.new.story.entries) in
     subst R c.self.view_is (evict_more s c.self.inside.story.entries c.write.new.story.entries c.args.w c.in-Some.chunk i.start.setting i.start.room i.written.legal
-    (may_evict _ _ s h c.args.w c.args.need c.in-Some.chunk (subst U (sym c.self.view_is) c.requires.load) (subst F (sym c.self.view_is) c.requires.few) (c.in-Some.ensures.picks s h i.written.stands)) c.write.ensures.entries)
+    (may_evict _ _ s h c.args.w c.args.need c.in-Some.chunk (subst U (sym c.self.view_is) c.requires.load) (subst F (sym c.self.view_is) c.requires.few) (c.in-Some.ensures.picks s h (rw c.deref.ensures i.written.stands))) c.write.ensures.entries)

@@ -36,6 +36,6 @@ invariant_of-self g c =
     let R : List Entry → Type 0 = λ es. MayReport o (past es) (g.D.Depot.faults c.args.depot) c.args.why in
     let B : List Entry → Type 0 = λ es. ComesBack o (past es) 1 (f c.args.depot) in
     let may = subst M (sym c.self.view_is) c.requires.load in
-    stays_sound o _ _ _ _ c.self.inside.book c.write.new.book c.self.inside.story c.write.new.story (option_map f c.self.inside.depot) (Some (f c.args.depot)) (Failed c.args.w c.args.query c.args.piece c.args.why)
+    stays_sound o _ _ _ _ c.self.inside.book.value c.write.new.book.value c.self.inside.story c.write.new.story (option_map f c.self.inside.depot) (Some (f c.args.depot)) (Failed c.args.w c.args.query c.args.piece c.args.why)
     i c.write.ensures.written c.write.ensures.entries refl i.at_cursor
     (failed_depot o h c.args.w c.args.query c.args.piece c.args.why may.1.load (option_map f c.self.inside.depot) (f c.args.depot) may.1.is_load i.depot (subst B (sym c.self.view_is) c.requires.depot) (subst R (sym c.self.view_is) c.requires.why))

@@ -21,6 +21,6 @@ invariant_of-self g c =
     let M : List Entry → Type 0 = λ es. MayFinish (underway s (past es)) c.args.w c.args.frame c.args.piece false in
     let B : List Entry → Type 0 = λ es. ComesBack o (past es) 1 (f c.args.depot) in
     let may = subst M (sym c.self.view_is) c.requires.load in
-    stays_sound o _ _ _ _ c.self.inside.book c.write.new.book c.self.inside.story c.write.new.story (option_map f c.self.inside.depot) (Some (f c.args.depot)) (Filled c.args.w c.args.frame c.args.piece)
+    stays_sound o _ _ _ _ c.self.inside.book.value c.write.new.book.value c.self.inside.story c.write.new.story (option_map f c.self.inside.depot) (Some (f c.args.depot)) (Filled c.args.w c.args.frame c.args.piece)
     i c.write.ensures.written c.write.ensures.entries refl i.at_cursor
     (filled_depot o h c.args.w c.args.frame c.args.piece may.load (option_map f c.self.inside.depot) (f c.args.depot) may.is_load i.depot (closes s h c.args.w c.args.frame c.args.piece may) (subst B (sym c.self.view_is) c.requires.depot))

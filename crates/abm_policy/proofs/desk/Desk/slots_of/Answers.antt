@@ -22,5 +22,5 @@ loop-i-preserved g c =
     record {
       same = ap pieces c.push.ensures ∙ pieces_more c.loop-i.i f p c.pieces_read-read.result bs (omega (arith, c.len-i-end.ensures.len)) is.same c.at-piece.ensures;
       count = omega (arith, ap length c.push.ensures, length-append bs ((f, p) ∷ []), is.count);
-      frames = subst A (sym c.push.ensures) (subst F c.self.view_is (stand_more s h f p bs (subst B (sym c.self.view_is) is.frames) (c.in-Some.ensures s h c.self.invariant.written.stands)));
+      frames = subst A (sym c.push.ensures) (subst F c.self.view_is (stand_more s h f p bs (subst B (sym c.self.view_is) is.frames) (c.in-Some.ensures s h (rw c.deref-in-loop-i.ensures c.self.invariant.written.stands))));
     }
