@@ -115,9 +115,12 @@ taken_back items old mid p g q = by (place_at mid.places q) (place_at old.places
     | inr t ↦ ap (below (length old.values)) e ∙ ap (λ b. if b then Some j else None) t ∙ sym f
   ]
 
+-- each key has the place that it had
+pub places_again : (items : List Item) (old mid new : Placed) → IsPlaced old → IsPlaced mid → HasGrown items old mid → new.places ≡ first_places (length old.values) mid.places → (q : List Cell) → place_at new.places q ≡ place_at old.places q
+places_again items old mid new p m g h q = ap (λ es. place_at es q) h ∙ place_first (length old.values) mid.places q m.rising ∙ taken_back items old mid p g q
+
 pub seen_again : (items : List Item) (old mid new : Placed) → IsPlaced old → IsPlaced mid → IsPlaced new → HasGrown items old mid
     → new.places ≡ first_places (length old.values) mid.places → new.values ≡ take (length old.values) mid.values → seen new ≡ seen old
 seen_again items old mid new p m r g h v = same_groups (seen new) (seen old) (seen_rising new r) (seen_rising old p) (λ q.
-    at-seen new q
-    ∙ ap (option_map (values_at new.values)) (ap (λ es. place_at es q) h ∙ place_first (length old.values) mid.places q m.rising ∙ taken_back items old mid p g q)
+    at-seen new q ∙ ap (option_map (values_at new.values)) (places_again items old mid new p m g h q)
     ∙ ap (λ vs. option_map (values_at vs) (place_at old.places q)) (v ∙ g.values) ∙ sym (at-seen old q))

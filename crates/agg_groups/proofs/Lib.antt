@@ -9,4 +9,5 @@ pub mod Columns
 pub mod Stands
 pub mod One
 pub mod Grown
+pub mod Refusals
 pub mod Placing

@@ -1,6 +1,6 @@
 -- Groups joined with the groups of another list of rows, one after another.
 use Rattle.std.proofs.Common.{◌≡◌, ℕ, ◌+◌, true, false, List, [], ◌∷◌, length, refl, sym, ap, subst, ◌∙◌, inl, inr}
-use Rattle.std.specs.Prelude.{Option, Some, None, option_map, ◌||◌, if◌then◌else◌, All}
+use Rattle.std.specs.Prelude.{Option, Some, None, is_some, option_map, ◌||◌, if◌then◌else◌, All}
 use Rattle.std.proofs.lemmas.Bool.{cases_Bool, false≢true, or_right}
 use Rattle.std.proofs.lemmas.List.Elements.{All-from_recursion, recursion_from_All}
 use Rattle.table_core.specs.declared.cell.Cell.{Cell}
@@ -9,7 +9,8 @@ use Rattle.agg_groups.specs.declared.item.Item.{Item}
 use Rattle.agg_groups.specs.Running.{joins, HasRoom}
 use Rattle.agg_groups.specs.Groups.{Group}
 use Rattle.agg_groups.proofs.Seen.{at-seen, placed_below}
-use Rattle.agg_groups.specs.Table.{Placed, IsPlaced, place_at, values_at, AreSound, HasRoomAt, Rising, at, base, merged, names, Puts, seen}
+use Rattle.agg_groups.specs.Table.{Placed, IsPlaced, HasGrown, HasNamed, HavePlaces, place_at, values_at, AreSound, HasRoomAt, Rising, at, base, merged, names, Puts, seen}
+use Rattle.agg_groups.proofs.Keys.{at_names}
 use Rattle.agg_groups.proofs.Order.{same_key, same, itself, has_key, below_apart}
 use Rattle.agg_groups.proofs.Values.{joins_room, starts_len, starts_room}
 
@@ -49,6 +50,13 @@ left_step n m k ks ws kept new r l puts q h = elim (cases_Bool (same_key q k)) [
       subst (HasRoomAt n m) e (l q (or_right (same_key q k) (has_key ks q) h))
 ]
 
+-- keys that are still to come have places
+pub known_head : (k : List Cell) (ks : List (List Cell)) (places : List (List Cell × ℕ)) → HavePlaces (k ∷ ks) places → is_some (place_at places k) ≡ true
+known_head k ks places h = h k (ap (λ b. b || has_key ks k) (itself k))
+
+pub known_rest : (k : List Cell) (ks : List (List Cell)) (places : List (List Cell × ℕ)) → HavePlaces (k ∷ ks) places → HavePlaces ks places
+known_rest k ks places h q has = h q (or_right (same_key q k) (has_key ks q) has)
+
 -- one group joined, read at a key
 pub joined_at : (items : List Item) (g : Group) (kept new : List Group) → Puts g.0 (joins items (base items (at kept g.0)) g.1) kept new
     → (q : List Cell) → at new q ≡ (if same_key q g.0 then merged items (at kept q) (Some g.1) else at kept q)
@@ -66,9 +74,29 @@ base_room n items (Some vs) h = h
 pub joined_room : (items : List Item) (rs ss : List Running) (m n : ℕ) → All (HasRoom m) rs → All (HasRoom n) ss → All (HasRoom (m + n)) (joins items rs ss)
 joined_room items rs ss m n h g = All-from_recursion (HasRoom (m + n)) (joins items rs ss) (joins_room items rs ss m n (recursion_from_All (HasRoom m) rs h) (recursion_from_All (HasRoom n) ss g))
 
+-- the values at the place of a key
+pub known_values : (items : List Item) (t : Placed) (key : List Cell) (i : ℕ) → place_at t.places key ≡ Some i → values_at t.values i ≡ base items (at (seen t) key)
+known_values items t key i e = sym (ap (base items) (at-seen t key ∙ ap (option_map (values_at t.values)) e))
+
 -- before the first group is joined all keys have their old room
 pub all_left : (n m : ℕ) (t : Placed) (ks : List (List Cell)) → IsPlaced t → AreSound n m t.values → IsLeft n m ks (seen t)
 all_left n m t ks p s q h = subst (HasRoomAt n m) (sym (at-seen t q)) (by (place_at t.places q) refl) where
   by : (o : Option ℕ) → place_at t.places q ≡ o → HasRoomAt n m (option_map (values_at t.values) o)
   by None e = tt
   by (Some i) e = s i (placed_below t q i p e)
+
+-- new places change nothing of what is joined
+pub merged_grown : (items : List Item) (old mid : Placed) (gs : List Group) → HasGrown items old mid → HasNamed old.places (names gs) mid.places
+    → (q : List Cell) → merged items (at (seen mid) q) (at gs q) ≡ merged items (at (seen old) q) (at gs q)
+merged_grown items old mid gs g named q = by (at gs q) refl where
+  was : has_key (names gs) q ≡ false → (o m : Option ℕ) → place_at old.places q ≡ o → place_at mid.places q ≡ m → at (seen mid) q ≡ at (seen old) q
+  was none (Some i) m e f =
+      let there : at (seen mid) q ≡ Some (values_at mid.values i) = at-seen mid q ∙ ap (option_map (values_at mid.values)) (g.kept q i e) in
+      let stood : at (seen old) q ≡ Some (values_at old.values i) = at-seen old q ∙ ap (option_map (values_at old.values)) e in
+      there ∙ ap Some (sym (ap (base items) there) ∙ g.base q ∙ ap (base items) stood) ∙ sym stood
+  was none None None e f = at-seen mid q ∙ ap (option_map (values_at mid.values)) f ∙ sym (at-seen old q ∙ ap (option_map (values_at old.values)) e)
+  was none None (Some i) e f = absurd (false≢true (sym (sym (ap is_some f) ∙ named q ∙ ap (λ b. is_some (place_at old.places q) || b) none ∙ ap (λ o. is_some o || false) e)))
+
+  by : (o : Option (List Running)) → at gs q ≡ o → merged items (at (seen mid) q) (at gs q) ≡ merged items (at (seen old) q) (at gs q)
+  by None e = ap (λ o. merged items o (at gs q)) (was (sym (at_names gs q) ∙ ap is_some e) (place_at old.places q) (place_at mid.places q) refl refl)
+  by (Some ss) e = ap (merged items (at (seen mid) q)) e ∙ ap (λ vs. Some (joins items vs ss)) (g.base q) ∙ sym (ap (merged items (at (seen old) q)) e)

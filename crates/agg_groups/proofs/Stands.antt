@@ -31,22 +31,12 @@ groups_more items keys row old new p puts rows s =
     groups_are items keys (seen new) (rows ++ row ∷ []) (seen_rising new p)
     (stands_more items keys (seen old) (seen new) row puts rows (λ q. ap (λ gs. at gs q) s ∙ at-groups_of items keys rows q))
 
--- a copy of what the rows have at a key
-copied : (items : List Item) (rows : List Row) (b : Bool) → merged items None (if b then Some (runnings items rows) else None) ≡ (if b then Some (runnings items rows) else None)
-copied items rows true = ap Some (joins-values items [] rows)
-copied items rows false = refl
-
-merged-none : (items : List Item) (keys : List ℕ) (rows : List Row) (q : List Cell) → merged items None (state_of items keys rows q) ≡ state_of items keys rows q
-merged-none items keys rows q = copied items (meaning.group codes keys q rows) (has_key (meaning.first_keys codes keys ++ map (meaning.key_of codes keys) rows) q)
-
 -- other groups' rows behind
-pub groups_joined : (items : List Item) (keys : List ℕ) (a b new : Placed) → IsPlaced new
-    → ((q : List Cell) → at (seen new) q ≡ merged items (merged items None (at (seen a) q)) (at (seen b) q))
+pub groups_joined : (items : List Item) (keys : List ℕ) (a b new : Placed) → IsPlaced new → ((q : List Cell) → at (seen new) q ≡ merged items (at (seen a) q) (at (seen b) q))
     → (rows more : List Row) → seen a ≡ groups_of items keys rows → seen b ≡ groups_of items keys more → seen new ≡ groups_of items keys (rows ++ more)
 groups_joined items keys a b new p h rows more s t =
     groups_are items keys (seen new) (rows ++ more) (seen_rising new p) (λ q.
-    h q ∙ ap (λ o. merged items (merged items None o) (at (seen b) q)) (ap (λ gs. at gs q) s ∙ at-groups_of items keys rows q)
-    ∙ ap (λ o. merged items o (at (seen b) q)) (merged-none items keys rows q)
+    h q ∙ ap (λ o. merged items o (at (seen b) q)) (ap (λ gs. at gs q) s ∙ at-groups_of items keys rows q)
     ∙ ap (λ o. merged items (state_of items keys rows q) o) (ap (λ gs. at gs q) t ∙ at-groups_of items keys more q)
     ∙ sym (state-append items keys rows more q))
 

@@ -1,5 +1,5 @@
 -- Where groups are kept: a place for each key, in key order, and the running values at each place.
-use Rattle.std.specs.Prelude.{◌≡◌, ◌<◌, ◌≤◌, ◌^◌, ◌==◌, ◌||◌, nat_lt, ℕ, Bool, false, take, filter, if◌then◌else◌, List, [], ◌∷◌, ◌++◌, length, map, Option, Some, None, slice_index_or, All, MatchOption, Vec, ℤ}
+use Rattle.std.specs.Prelude.{◌≡◌, ◌<◌, ◌≤◌, ◌^◌, ◌==◌, ◌||◌, nat_lt, ℕ, Bool, true, false, is_some, take, filter, if◌then◌else◌, List, [], ◌∷◌, ◌++◌, length, map, Option, Some, None, slice_index_or, All, MatchOption, Vec, ℤ}
 use Rattle.std.specs.Global.{Global}
 use Rattle.std.specs.Int.{bit_at}
 use Rattle.std.specs.declared.cmp.Ordering.TheVariants.{Less}
@@ -109,9 +109,21 @@ abbrev pub has_key : List (List Cell) → List Cell → Bool
 has_key [] q = false
 has_key (p ∷ ps) q = same_key codes q p || has_key ps q
 
+-- these keys have places beside those that had one, and no others
+abbrev pub HasNamed : List (List Cell × ℕ) → List (List Cell) → List (List Cell × ℕ) → Type 0
+HasNamed old keys new = (q : List Cell) → is_some (place_at new q) ≡ (is_some (place_at old q) || has_key keys q)
+
+-- each of these keys has a place
+abbrev pub HavePlaces : List (List Cell) → List (List Cell × ℕ) → Type 0
+HavePlaces keys places = (q : List Cell) → has_key keys q ≡ true → is_some (place_at places q) ≡ true
+
+-- a key keeps its place
+abbrev pub KeepsPlaces : List (List Cell × ℕ) → List (List Cell × ℕ) → Type 0
+KeepsPlaces old new = (q : List Cell) (i : ℕ) → place_at old q ≡ Some i → place_at new q ≡ Some i
+
 -- new places with the values of no rows, and what there was as it was
 pub record HasGrown (items : List Item) (old new : Placed) : Type 0 where
-  pub kept : (q : List Cell) (i : ℕ) → place_at old.places q ≡ Some i → place_at new.places q ≡ Some i
+  pub kept : KeepsPlaces old.places new.places
   pub first : (q : List Cell) (i : ℕ) → place_at new.places q ≡ Some i → i < length old.values → place_at old.places q ≡ Some i
   pub long : length old.values ≤ length new.values
   pub values : take (length old.values) new.values ≡ old.values

@@ -6,7 +6,7 @@ ghost use Rattle.agg_groups.specs.Blocks.{AreInBlock, chosen_in};
 ghost use Rattle.agg_groups.specs.Cells.{codes};
 ghost use Rattle.agg_groups.specs.Meaning.{key_of, meaning, overflow};
 ghost use Rattle.agg_groups.specs.Groups.{Kept, KnowsAll, Stands, StandsInSomeOrder, NamesPlaces, IsFault, IsKnown};
-ghost use Rattle.agg_groups.specs.Table.{AreMet, AreSound, IsPlaced, IsLast, IsKept, IsFirst, seen, at, merged};
+ghost use Rattle.agg_groups.specs.Table.{AreMet, AreSound, IsPlaced, IsLast, IsKept, IsFirst, seen};
 ghost use Rattle.agg_groups.specs.declared.rows.FinishFault.TheVariants as FinishFault;
 
 use crate::finding::places_in_block;
@@ -65,28 +65,6 @@ fn first_groups(alloc: Global, items: &[Item], keys: &[u32]) -> Result<(GroupTab
         return Ok((table, last));
     }
     Ok((table, last))
-}
-
-// A table of its own with the groups of two.
-fn united(
-    items: &[Item],
-    a: &GroupTable,
-    b: &GroupTable,
-    rows: u32,
-    more: u32,
-) -> Result<GroupTable, Memory>
-    requires few { rows + more ≤ MOST_ROWS }
-    requires sound { AreSound rows (length items.now) a.now.values }
-    requires sound_more { AreSound more (length items.now) b.now.values }
-    ensures joined { IfOk result (λ t. (q : List Cell) → at (seen t) q
-        ≡ merged items.now (merged items.now None (at (seen a.now) q)) (at (seen b.now) q)) }
-    ensures sound { IfOk result (λ t. AreSound (rows + more) (length items.now) t.values) }
-    ensures placed { IfOk result (λ t. IsPlaced t) }
-{
-    let mut both = GroupTable::new(a.allocator());
-    both.absorb(items, a, 0, rows)?;
-    both.absorb(items, b, rows, more)?;
-    Ok(both)
 }
 
 fn sum_overflow(first: (u32, i128)) -> FinishFault
@@ -242,17 +220,11 @@ impl Groups {
         ensures err { OnErr result (self.new ≡ self.old) }
         ensures back { IfErr result (λ e. e.0 ≡ other) }
     {
-        match united(
-            &self.items,
-            &self.table,
-            &other.table,
-            self.rows,
-            other.rows,
-        ) {
-            Ok(both) => {
-                self.table = both;
-                self.last.place = None;
-                self.last.met.clear();
+        match self
+            .table
+            .absorb(&self.items, &other.table, self.rows, other.rows)
+        {
+            Ok(()) => {
                 self.rows += other.rows;
                 Ok(())
             }

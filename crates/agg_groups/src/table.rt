@@ -1,12 +1,12 @@
 // Where groups are kept: a map from keys to places, and the running values at each place.
-ghost use Rattle.std.specs.Prelude.{◌≡◌, ◌<◌, ◌≤◌, ◌+◌, ◌^◌, ℕ, List, [], length, map, set, count_ones, All, Contains, Some, None, OnOk, OnErr, IfOk, if◌then◌else◌, slice_index_or, take};
+ghost use Rattle.std.specs.Prelude.{◌≡◌, ◌<◌, ◌≤◌, ◌+◌, ◌^◌, ℕ, List, [], length, map, set, count_ones, All, Contains, Some, None, is_some, true, OnOk, OnErr, IfOk, if◌then◌else◌, slice_index_or, take};
 ghost use Rattle.std.specs.Int.{bit_at};
 ghost use Rattle.table_core.specs.declared.cell.Cell.{Cell};
 ghost use Rattle.agg_groups.specs.Cells.{codes};
 ghost use Rattle.agg_groups.specs.Running.{HasRoom, IsInRow, nexts, joins, runnings, all_shown, FitsCell};
 ghost use Rattle.table_core.specs.Lists.{lists};
 ghost use Rattle.agg_groups.specs.Blocks.{AreInBlock, chosen_in};
-ghost use Rattle.agg_groups.specs.Table.{AddsRows, first_places, Placed, IsPlaced, IsNewPlace, IsPlaceFor, AreSound, place_at, values_at, seen, at, merged, first_over, result_rows, AllFit, AreBelow, Puts, base, HasRoomAt, names, plain_places};
+ghost use Rattle.agg_groups.specs.Table.{AddsRows, first_places, Placed, IsPlaced, IsNewPlace, IsPlaceFor, AreSound, place_at, values_at, seen, at, merged, first_over, result_rows, AllFit, AreBelow, Puts, base, HasGrown, HasNamed, HavePlaces, HasRoomAt, KeepsPlaces, names, plain_places};
 
 use crate::item::Item;
 use crate::lanes::add_chosen;
@@ -151,30 +151,66 @@ fn add_chosen_at(
     add_chosen(items, kept, block, word, rows);
 }
 
-// Adds the groups of places and values, whose values are over `more` rows.
-fn absorb_all(
+// Makes a place for each key that has none. Out of memory, those that were made stay.
+fn place_all(table: &mut GroupTable, items: &[Item], others: &Places) -> Result<(), Memory>
+    requires placed { IsPlaced table.old }
+    ensures named { OnOk result (HasNamed table.old.places (names (plain_places others.now.entries)) table.new.places) }
+    ensures grown { HasGrown items.now table.old table.new }
+    ensures placed { IsPlaced table.new }
+    ensures sound { (n : ℕ) → AreSound n (length items.now) table.old.values
+        → AreSound n (length items.now) table.new.values }
+{
+    for (key, _) in others {
+        table.place_for(items, key)?;
+    }
+    Ok(())
+}
+
+// Makes a place for each key that has none. Out of memory, the groups are as they were.
+fn make_places(table: &mut GroupTable, items: &[Item], others: &Places) -> Result<(), Memory>
+    requires placed { IsPlaced table.old }
+    ensures named { OnOk result (HasNamed table.old.places (names (plain_places others.now.entries)) table.new.places) }
+    ensures grown { OnOk result (HasGrown items.now table.old table.new) }
+    ensures err { OnErr result (seen table.new ≡ seen table.old) }
+    ensures kept { KeepsPlaces table.old.places table.new.places }
+    ensures placed { IsPlaced table.new }
+    ensures sound { (n : ℕ) → AreSound n (length items.now) table.old.values
+        → AreSound n (length items.now) table.new.values }
+{
+    let count = table.len();
+    match place_all(table, items, others) {
+        Ok(()) => Ok(()),
+        Err(memory) => {
+            table.keep_first(count);
+            Err(memory)
+        }
+    }
+}
+
+// Adds the groups of places and values, whose values are over `more` rows, to those of their keys.
+fn join_groups(
     table: &mut GroupTable,
     items: &[Item],
     places: &Places,
     values: &[Vec<Running>],
     rows: u32,
     more: u32,
-) -> Result<(), Memory>
+)
     requires few { rows + more ≤ MOST_ROWS }
     requires sound { AreSound rows (length items.now) table.old.values }
     requires placed_table { IsPlaced table.old }
     requires placed { IsPlaced (record { places = plain_places places.now.entries; values = lists values.now }) }
     requires sound_other { AreSound more (length items.now) (lists values.now) }
-    ensures joined { OnOk result ((q : List Cell) → at (seen table.new) q
-        ≡ merged items.now (at (seen table.old) q)
-        (at (seen (record { places = plain_places places.now.entries; values = lists values.now })) q)) }
-    ensures sound { OnOk result (AreSound (rows + more) (length items.now) table.new.values) }
-    ensures placed { OnOk result (IsPlaced table.new) }
+    requires known { HavePlaces (names (plain_places places.now.entries)) table.old.places }
+    ensures joined { (q : List Cell) → at (seen table.new) q ≡ merged items.now (at (seen table.old) q)
+        (at (seen (record { places = plain_places places.now.entries; values = lists values.now })) q) }
+    ensures places { table.new.places ≡ table.old.places }
+    ensures sound { AreSound (rows + more) (length items.now) table.new.values }
+    ensures placed { IsPlaced table.new }
 {
     for (key, place) in places {
-        table.add_group(items, key, values_of(values, *place), rows, more)?;
+        table.join_known(items, key, values_of(values, *place), rows, more);
     }
-    Ok(())
 }
 
 // The first sum in key order that is no whole number of 64 bits.
@@ -228,11 +264,6 @@ impl GroupTable {
             places: BTreeMap::new(alloc),
             values: Vec::new(alloc),
         }
-    }
-
-    /// The allocator of the table.
-    pub(crate) fn allocator(&self) -> Global {
-        *self.values.allocator()
     }
 
     /// The place of a key, which is made where the key is new. It takes no memory where the key is known.
@@ -348,34 +379,30 @@ impl GroupTable {
         join_at(&mut self.values, place, items, others, rows, more);
     }
 
-    // Adds to the values of a key its values over other rows.
-    fn add_group(
-        &mut self,
-        items: &[Item],
-        key: &[Cell],
-        others: &[Running],
-        rows: u32,
-        more: u32,
-    ) -> Result<(), Memory>
+    // Adds to the values of a key that has a place its values over other rows.
+    fn join_known(&mut self, items: &[Item], key: &[Cell], others: &[Running], rows: u32, more: u32)
         requires few { rows + more ≤ MOST_ROWS }
+        requires known { is_some (place_at self.old.places key.now) ≡ true }
         requires same { length others.now ≡ length items.now }
         requires room_more { All (HasRoom more) others.now }
         requires room { HasRoomAt rows (length items.now) (at (seen self.old) key.now) }
         requires sound { AreSound (rows + more) (length items.now) self.old.values }
-        ensures joined { OnOk result (Puts key.now
-            (joins items.now (base items.now (at (seen self.old) key.now)) others.now) (seen self.old)
-            (seen self.new)) }
-        ensures sound { OnOk result (AreSound (rows + more) (length items.now) self.new.values) }
-        ensures placed { OnOk result (IsPlaced self.new) }
+        requires placed { IsPlaced self.old }
+        ensures joined { Puts key.now (joins items.now (base items.now (at (seen self.old) key.now)) others.now)
+            (seen self.old) (seen self.new) }
+        ensures places { self.new.places ≡ self.old.places }
+        ensures sound { AreSound (rows + more) (length items.now) self.new.values }
+        ensures placed { IsPlaced self.new }
     {
-        let place = self.place_for(items, key)?;
-        self.join(place, items, others, rows, more);
-        Ok(())
+        if let Some(place) = place_in(&self.places, key) {
+            self.join(place, items, others, rows, more);
+        }
     }
 
-    /// Adds the groups of another table, whose values are over `more` rows.
+    /// Adds the groups of another table, whose values are over `more` rows. First each of their keys gets a place, so
+    /// that joining can't fail. Each key keeps its place.
     ///
-    /// Out of memory, some of them may have been added.
+    /// Out of memory, the groups are as they were.
     pub(crate) fn absorb(
         &mut self,
         items: &[Item],
@@ -390,9 +417,14 @@ impl GroupTable {
         ensures joined { OnOk result ((q : List Cell) → at (seen self.new) q
             ≡ merged items.now (at (seen self.old) q) (at (seen other.now) q)) }
         ensures sound { OnOk result (AreSound (rows + more) (length items.now) self.new.values) }
-        ensures placed { OnOk result (IsPlaced self.new) }
+        ensures err { OnErr result (seen self.new ≡ seen self.old) }
+        ensures err_sound { OnErr result (AreSound rows (length items.now) self.new.values) }
+        ensures kept { KeepsPlaces self.old.places self.new.places }
+        ensures placed { IsPlaced self.new }
     {
-        absorb_all(self, items, &other.places, &other.values, rows, more)
+        make_places(self, items, &other.places)?;
+        join_groups(self, items, &other.places, &other.values, rows, more);
+        Ok(())
     }
 
     /// The first sum, in key order and then in item order, that is no whole number of 64 bits.

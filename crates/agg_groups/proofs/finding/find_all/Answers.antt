@@ -1,6 +1,6 @@
 use Rattle.std.proofs.Common.{◌≡◌, ◌∙◌, ◌==◌, ◌<◌, ℕ, [], true, false, length, map, set, get_or, sym, ap, subst, arith, inl, inr}
 use Rattle.std.specs.Int.{bit_at}
-use Rattle.std.specs.Prelude.{◌||◌, OnErr, Result, Ok, Err, Some, is_some}
+use Rattle.std.specs.Prelude.{◌||◌, Some, is_some}
 use Rattle.std.proofs.lemmas.Bool.{cases_Bool, eqb-true, eqb-false, false≢true}
 use Rattle.std.proofs.lemmas.List.{get_or-set_same, get_or-set_other, length-set}
 use Rattle.row_blocks.specs.Blocks.{row_at}
@@ -11,6 +11,7 @@ use Rattle.agg_groups.proofs.Grown.{grown_more, named_more, or_assoc, place_kept
 use Rattle.agg_groups.proofs.Keys.{has-push}
 use Rattle.agg_groups.proofs.Order.{same_key}
 use Rattle.agg_groups.proofs.Placing.{chosen-at, first_chosen, no_more, one_more}
+use Rattle.agg_groups.proofs.Refusals.{on_err}
 use Rattle.agg_groups.proofs.Seen.{place_there, sound_place}
 use Rattle.agg_groups.proofs.finding.find_all.Goals as goal
 
@@ -75,10 +76,6 @@ loop-row-preserved c =
       long = length-set places i place ∙ before.long;
     }
 
-on_err : {A E : Type 0} (r : Result A E) (X : Type 0) → X → OnErr r X
-on_err (Ok a) X x = tt
-on_err (Err e) X x = x
-
 pub returns-in_err-place-clause-unknown : goal.returns-in_err-place-clause-unknown
 returns-in_err-place-clause-unknown c =
     let b = c.args.block.now in
@@ -88,7 +85,7 @@ returns-in_err-place-clause-unknown c =
     let start = c.args.table.now in
     let low : i < b.count = omega (arith, c.loop-row-test.true, c.len-row-end.ensures.len) in
     let set' : (bit_at word i == 1) ≡ true = sym c.is_chosen.ensures ∙ c.if-not-is_chosen.false in
-    on_err c.from_residual.result _ (λ all. still_known c.args.items.now start c.loop-row.table c.loop-row.invariant.grown (f (row_at b i))
+    on_err c.from_residual.result (λ all. still_known c.args.items.now start c.loop-row.table c.loop-row.invariant.grown (f (row_at b i))
     (chosen-at b word (λ row. is_some (place_at start.places (f row)) ≡ true) all i low (eqb-true (bit_at word i) 1 set')) c.in_err-place.ensures.unknown)
 
 pub returns-in_err-place-clause-sound : goal.returns-in_err-place-clause-sound

@@ -1,9 +1,9 @@
 use Rattle.std.proofs.Common.{◌≡◌, ◌+◌, List, length}
 use Rattle.table_core.specs.declared.cell.Cell.{Cell}
 use Rattle.table_core.specs.Lists.{lists}
-use Rattle.agg_groups.specs.Table.{AreBelow, AreSound, IsPlaced, Rising, names, at, seen, plain_places}
+use Rattle.agg_groups.specs.Table.{AreBelow, AreSound, HavePlaces, IsPlaced, Rising, names, at, seen, plain_places}
 use Rattle.agg_groups.proofs.Merge.{absorb, IsLeft}
-use Rattle.agg_groups.proofs.table.absorb_all.Given as goal
+use Rattle.agg_groups.proofs.table.join_groups.Given as goal
 
 abbrev pub invariant-loop-key : goal.invariant-loop-key
 invariant-loop-key l = record {
@@ -12,6 +12,8 @@ invariant-loop-key l = record {
   rising : Rising (names (plain_places l.key-iterator));
   below : AreBelow (length (lists l.values)) (plain_places l.key-iterator);
   left : IsLeft l.rows (length l.items) (names (plain_places l.key-iterator)) (seen l.table);
+  known : HavePlaces (names (plain_places l.key-iterator)) l.table.places;
+  places : l.table.places ≡ l.initial.table.places;
   placed : IsPlaced l.table;
   sound : AreSound (l.rows + l.more) (length l.items) l.table.values;
 }
