@@ -8,7 +8,7 @@ use Rattle.table_core.specs.declared.cell.Cell.{Cell}
 use Rattle.agg_groups.specs.declared.item.Item.{Item}
 use Rattle.agg_groups.specs.declared.met.Met.{Met}
 use Rattle.agg_groups.specs.Running.{runnings}
-use Rattle.agg_groups.specs.Table.{Placed, IsPlaced, IsNewPlace, IsPlaceFor, IsMet, AreMet, HasGrown, at, base, first_places, place_at, seen, values_at}
+use Rattle.agg_groups.specs.Table.{Placed, IsPlaced, IsNewPlace, IsPlaceFor, IsMet, AreMet, IsReady, HasGrown, KeepsPlaces, at, base, first_places, place_at, seen, values_at}
 use Rattle.agg_groups.proofs.Keys.{same_groups}
 use Rattle.agg_groups.proofs.Order.{same_key, same}
 use Rattle.agg_groups.proofs.Places.{below, place_first}
@@ -31,6 +31,27 @@ met_kept n old new slots kept met = λ k d low. one (get_or slots k d) (met k d 
   one : (o : Option Met) → IsMet n old o → IsMet n new o
   one None h = tt
   one (Some m) h = kept (take n (m.first ∷ m.second ∷ [])) m.place h
+
+pub same_places : (old new : Placed) → new.places ≡ old.places → KeepsPlaces old.places new.places
+same_places old new e q i is = ap (λ es. place_at es q) e ∙ is
+
+-- places can be looked for where no group was met last
+pub ready_none : (width : ℕ) (key : List Cell) (slots : List (Option Met)) (t : Placed) → length key ≡ width → IsPlaced t → AreMet width t slots → IsReady width key None slots t
+ready_none width key slots t long placed met = record {
+  long = long;
+  placed = placed;
+  last = λ i e. absurd (let d : None ≡ Some i = e in cc);
+  met = met;
+}
+
+-- where keys keep their places, places can still be looked for
+pub ready_on : (width : ℕ) (key : List Cell) (place : Option ℕ) (slots : List (Option Met)) (old new : Placed) → IsPlaced new → KeepsPlaces old.places new.places → IsReady width key place slots old → IsReady width key place slots new
+ready_on width key place slots old new p kept r = record {
+  long = r.long;
+  placed = p;
+  last = λ i e. kept key i (r.last i e);
+  met = met_kept width old new slots kept r.met;
+}
 
 pub grown_none : (items : List Item) (t : Placed) → HasGrown items t t
 grown_none items t = record {

@@ -10,4 +10,5 @@ pub mod Stands
 pub mod One
 pub mod Grown
 pub mod Refusals
+pub mod Writing
 pub mod Placing

@@ -9,7 +9,7 @@ use Rattle.agg_groups.specs.declared.item.Item.{Item}
 use Rattle.agg_groups.specs.Running.{joins, HasRoom}
 use Rattle.agg_groups.specs.Groups.{Group}
 use Rattle.agg_groups.proofs.Seen.{at-seen, placed_below}
-use Rattle.agg_groups.specs.Table.{Placed, IsPlaced, HasGrown, HasNamed, HavePlaces, place_at, values_at, AreSound, HasRoomAt, Rising, at, base, merged, names, Puts, seen}
+use Rattle.agg_groups.specs.Table.{Placed, IsPlaced, HasGrown, HasNamed, HasValues, HavePlaces, place_at, values_at, AreSound, HasRoomAt, Rising, at, base, merged, names, Puts, seen}
 use Rattle.agg_groups.proofs.Keys.{at_names}
 use Rattle.agg_groups.proofs.Order.{same_key, same, itself, has_key, below_apart}
 use Rattle.agg_groups.proofs.Values.{joins_room, starts_len, starts_room}
@@ -67,7 +67,7 @@ joined_at items g kept new puts q = elim (cases_Bool (same_key q g.0)) [
 ]
 
 -- what stands at a key, or else the values of no rows, has room
-pub base_room : (n : ℕ) (items : List Item) (o : Option (List Running)) → HasRoomAt n (length items) o → (length (base items o) ≡ length items) × All (HasRoom n) (base items o)
+base_room : (n : ℕ) (items : List Item) (o : Option (List Running)) → HasRoomAt n (length items) o → (length (base items o) ≡ length items) × All (HasRoom n) (base items o)
 base_room n items None h = (starts_len items, starts_room items n)
 base_room n items (Some vs) h = h
 
@@ -77,6 +77,12 @@ joined_room items rs ss m n h g = All-from_recursion (HasRoom (m + n)) (joins it
 -- the values at the place of a key
 pub known_values : (items : List Item) (t : Placed) (key : List Cell) (i : ℕ) → place_at t.places key ≡ Some i → values_at t.values i ≡ base items (at (seen t) key)
 known_values items t key i e = sym (ap (base items) (at-seen t key ∙ ap (option_map (values_at t.values)) e))
+
+-- the values at the place of a key have the room of the key
+pub known_room : (n : ℕ) (items : List Item) (t : Placed) (key : List Cell) (i : ℕ) → IsPlaced t → place_at t.places key ≡ Some i → HasRoomAt n (length items) (at (seen t) key) → HasValues n (length items) i t.values
+known_room n items t key i p e h =
+    let room = subst (λ vs. (length vs ≡ length items) × All (HasRoom n) vs) (sym (known_values items t key i e)) (base_room n items (at (seen t) key) h) in
+    record { there = placed_below t key i p e; same = room.0; room = room.1 }
 
 -- before the first group is joined all keys have their old room
 pub all_left : (n m : ℕ) (t : Placed) (ks : List (List Cell)) → IsPlaced t → AreSound n m t.values → IsLeft n m ks (seen t)

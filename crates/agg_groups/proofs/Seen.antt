@@ -8,7 +8,7 @@ use Rattle.agg_groups.specs.declared.running.Running.{Running}
 use Rattle.agg_groups.specs.declared.item.Item.{Item}
 use Rattle.agg_groups.specs.Running.{runnings, HasRoom}
 use Rattle.agg_groups.specs.Groups.{Group}
-use Rattle.agg_groups.specs.Table.{Placed, IsPlaced, IsNewPlace, IsPlaceFor, AreSound, place_at, values_at, seen, at, base, Puts, names}
+use Rattle.agg_groups.specs.Table.{Placed, IsPlaced, IsNewPlace, IsPlaceFor, AreSound, HasValues, place_at, values_at, seen, at, base, Puts, names}
 use Rattle.agg_groups.proofs.Order.{same_key, same, itself}
 use Rattle.agg_groups.proofs.Places.{place_below}
 use Rattle.agg_groups.proofs.Values.{starts_len, starts_room, room_wider}
@@ -135,6 +135,14 @@ sound_set n m k i ws vs l e r s j h = elim (cases_Bool (j == i)) [
 -- the values at the place of a key are among those that are kept
 pub placed_below : (t : Placed) (q : List Cell) (i : ℕ) → IsPlaced t → place_at t.places q ≡ Some i → i < length t.values
 placed_below t q i p e = place_below (length t.values) t.places q i p.below e
+
+-- a place that was looked for is there, and its values belong to the items and have room
+pub sound_there : (n : ℕ) (items : List Item) (key : List Cell) (i : ℕ) (old new : Placed) → IsPlaced new → IsPlaceFor items key i old new → AreSound n (length items) old.values
+    → HasValues n (length items) i new.values
+sound_there n items key i old new p h s =
+    let there = placed_below new key i p (place_there items key i old new h) in
+    let here = sound_place n items key i old new h s i there in
+    record { there = there; same = here.0; room = here.1 }
 
 -- new values at the place that was looked for, by what stood at the key or else by those of no rows
 pub placed_put : (items : List Item) (key : List Cell) (i : ℕ) (old mid new : Placed) (f : List Running → List Running) → IsPlaced mid → IsPlaceFor items key i old mid

@@ -1,5 +1,5 @@
 -- The lists of rows that groups stand for: one row more, other groups' rows behind, and the same rows in another order.
-use Rattle.std.proofs.Common.{◌≡◌, ℕ, ◌<◌, Bool, true, false, List, [], ◌∷◌, ◌++◌, length, map, filter, set, get_or, zero, suc, refl, sym, ap, subst, ◌∙◌, arith}
+use Rattle.std.proofs.Common.{◌≡◌, ℕ, ◌<◌, Bool, List, [], ◌∷◌, ◌++◌, length, map, filter, set, get_or, zero, suc, refl, sym, ap, subst, ◌∙◌, arith}
 use Rattle.std.specs.Prelude.{Option, Some, None, if◌then◌else◌, IsPermutation}
 use Rattle.std.specs.List.{swap}
 use Rattle.std.proofs.Math.Bool.{or-false, or_comm}
@@ -13,7 +13,7 @@ use Rattle.agg_groups.specs.Running.{runnings, nexts}
 use Rattle.agg_groups.specs.Groups.{Kept, StandsInSomeOrder, groups_of}
 use Rattle.agg_groups.specs.Table.{Placed, IsPlaced, IsPlaceFor, AreSound, Rising, Puts, IsFirst, at, base, merged, names, seen}
 use Rattle.agg_groups.proofs.Order.{same_key, has_key, distinct_rising}
-use Rattle.agg_groups.proofs.Values.{joins-values, runnings-comm}
+use Rattle.agg_groups.proofs.Values.{runnings-comm}
 use Rattle.agg_groups.proofs.Keys.{state_of, state-append, stands_more, at-groups_of, groups_are, filter-append, has-append}
 use Rattle.agg_groups.proofs.Seen.{names-seen, place_puts, sound_place}
 

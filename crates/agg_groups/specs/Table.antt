@@ -58,6 +58,16 @@ pub record IsPlaced (t : Placed) : Type 0 where
 abbrev pub AreSound : ℕ → ℕ → List (List Running) → Type 0
 AreSound n m vs = (i : ℕ) → i < length vs → (length (values_at vs i) ≡ m) × All (HasRoom n) (values_at vs i)
 
+-- there are values at the place, of m items over at most n rows
+pub record HasValues (n m place : ℕ) (vs : List (List Running)) : Type 0 where
+  pub there : place < length vs
+  pub same : length (values_at vs place) ≡ m
+  pub room : All (HasRoom n) (values_at vs place)
+
+-- values that belonged to m items, with room, still do
+abbrev pub StaySound : ℕ → List (List Running) → List (List Running) → Type 0
+StaySound m old new = (n : ℕ) → AreSound n m old → AreSound n m new
+
 -- a place for a key that had none, with the values of no rows
 pub record IsNewPlace (items : List Item) (key : List Cell) (place : ℕ) (old new : Placed) : Type 0 where
   pub is_last : place ≡ length old.values
@@ -133,6 +143,10 @@ pub record HasGrown (items : List Item) (old new : Placed) : Type 0 where
 abbrev pub AreFound : List ℕ → BlockView → ℕ → List ℕ → Placed → Type 0
 AreFound keys b word places t = (i : ℕ) → i < b.count → bit_at word i ≡ 1 → place_at t.places (key_of codes keys (row_at b i)) ≡ Some (slice_index_or places i 0)
 
+-- the key of each of these rows has a place
+abbrev pub KnowsRows : List ℕ → List (List Cell) → Placed → Type 0
+KnowsRows keys rows t = All (λ row. is_some (place_at t.places (key_of codes keys row)) ≡ true) rows
+
 -- the chosen rows that f picks are those with this place
 abbrev pub PicksPlace : BlockView → ℕ → List ℕ → ℕ → (List Cell → Bool) → Type 0
 PicksPlace b word places p f = (i : ℕ) → i < b.count → bit_at word i ≡ 1 → (slice_index_or places i 0 == p) ≡ f (row_at b i)
@@ -164,14 +178,18 @@ abbrev pub HasRoomAt : ℕ → ℕ → Option (List Running) → Type 0
 HasRoomAt n m None = Unit {0}
 HasRoomAt n m (Some vs) = (length vs ≡ m) × All (HasRoom n) vs
 
+-- places of keys of so many cells can be looked for: what is remembered of a table is so
+pub record IsReady (width : ℕ) (key : List Cell) (place : Option ℕ) (slots : List (Option Met)) (t : Placed) : Type 0 where
+  pub long : length key ≡ width
+  pub placed : IsPlaced t
+  pub last : IsLast key place t
+  pub met : AreMet width t slots
+
 -- what the parts of kept groups are to one another: few rows, few items, values with room, and groups met lately that are there
 pub record IsKept (items : List Item) (keys : List ℕ) (rows : ℕ) (key : List Cell) (place : Option ℕ) (slots : List (Option Met)) (t : Placed) : Type 0 where
   pub few : rows ≤ MOST_ROWS
   pub short : length items < 2 ^ 32
-  pub long : length key ≡ length keys
-  pub placed : IsPlaced t
-  pub last : IsLast key place t
-  pub met : AreMet (length keys) t slots
+  pub ready : IsReady (length keys) key place slots t
   pub sound : AreSound rows (length items) t.values
 
 -- the groups of no rows: none, but for the one group of a query without key columns

@@ -1,11 +1,10 @@
 // The places of the rows of a block.
-ghost use Rattle.std.specs.Prelude.{◌≡◌, ◌<◌, ◌||◌, ℕ, List, length, map, is_some, None, true, All, OnErr, OnOk, IfOk};
-ghost use Rattle.table_core.specs.declared.cell.Cell.{Cell};
+ghost use Rattle.std.specs.Prelude.{◌≡◌, ◌<◌, length, map, None, All, OnErr, OnOk, IfOk};
 ghost use Rattle.row_blocks.specs.Blocks.{row_at};
 ghost use Rattle.agg_groups.specs.Blocks.{chosen_in};
 ghost use Rattle.agg_groups.specs.Cells.{codes};
 ghost use Rattle.agg_groups.specs.Meaning.{cell, key_of};
-ghost use Rattle.agg_groups.specs.Table.{AreFound, AreMet, AreSound, HasGrown, IsLast, IsPlaceFor, IsPlaced, has_key, place_at, seen};
+ghost use Rattle.agg_groups.specs.Table.{AreFound, HasGrown, HasNamed, IsPlaceFor, IsReady, KnowsRows, StaySound, place_at, seen};
 
 use crate::item::Item;
 use crate::lanes::cell_in;
@@ -38,16 +37,11 @@ fn look_up(
     row: u32,
 ) -> Result<usize, Memory>
     requires row { row < 64 }
-    requires same { length last.old.key.items ≡ length keys.now }
+    requires ready { IsReady (length keys.now) last.old.key.items last.old.place last.old.met.items table.old }
     requires in_row { All (λ x. x < block.now.width) keys.now }
-    requires placed { IsPlaced table.old }
-    requires met { AreMet (length keys.now) table.old last.old.met.items }
     ensures ok { IfOk result (λ place. IsPlaceFor items.now (key_of codes keys.now (row_at block.now row)) place
         table.old table.new) }
-    ensures last { IsLast last.new.key.items last.new.place table.new }
-    ensures len { length last.new.key.items ≡ length keys.now }
-    ensures placed { IsPlaced table.new }
-    ensures met { AreMet (length keys.now) table.new last.new.met.items }
+    ensures ready { IsReady (length keys.now) last.new.key.items last.new.place last.new.met.items table.new }
     ensures err { OnErr result (table.new ≡ table.old) }
     ensures unknown { OnErr result (place_at table.old.places (key_of codes keys.now (row_at block.now row)) ≡ None) }
 {
@@ -68,17 +62,11 @@ fn place_of(
     row: u32,
 ) -> Result<usize, Memory>
     requires row { row < 64 }
-    requires same { length last.old.key.items ≡ length keys.now }
+    requires ready { IsReady (length keys.now) last.old.key.items last.old.place last.old.met.items table.old }
     requires in_row { All (λ x. x < block.now.width) keys.now }
-    requires last { IsLast last.old.key.items last.old.place table.old }
-    requires placed { IsPlaced table.old }
-    requires met { AreMet (length keys.now) table.old last.old.met.items }
     ensures ok { IfOk result (λ place. IsPlaceFor items.now (key_of codes keys.now (row_at block.now row)) place
         table.old table.new) }
-    ensures last { IsLast last.new.key.items last.new.place table.new }
-    ensures len { length last.new.key.items ≡ length keys.now }
-    ensures placed { IsPlaced table.new }
-    ensures met { AreMet (length keys.now) table.new last.new.met.items }
+    ensures ready { IsReady (length keys.now) last.new.key.items last.new.place last.new.met.items table.new }
     ensures err { OnErr result (table.new ≡ table.old) }
     ensures unknown { OnErr result (place_at table.old.places (key_of codes keys.now (row_at block.now row)) ≡ None) }
 {
@@ -104,24 +92,16 @@ fn find_all(
     word: u64,
     places: &mut [usize],
 ) -> Result<(), Memory>
-    requires same { length last.old.key.items ≡ length keys.now }
+    requires ready { IsReady (length keys.now) last.old.key.items last.old.place last.old.met.items table.old }
     requires in_row { All (λ x. x < block.now.width) keys.now }
-    requires last { IsLast last.old.key.items last.old.place table.old }
-    requires placed { IsPlaced table.old }
-    requires met { AreMet (length keys.now) table.old last.old.met.items }
     requires long { length places.old ≡ 64 }
     ensures found { OnOk result (AreFound keys.now block.now word places.new table.new) }
-    ensures named { OnOk result ((q : List Cell) → is_some (place_at table.new.places q)
-        ≡ (is_some (place_at table.old.places q) || has_key (map (key_of codes keys.now) (chosen_in block.now word)) q)) }
-    ensures unknown { OnErr result (All (λ row. is_some (place_at table.old.places (key_of codes keys.now row)) ≡ true)
-        (chosen_in block.now word) → ⊥) }
+    ensures named { OnOk result (HasNamed table.old.places (map (key_of codes keys.now) (chosen_in block.now word))
+        table.new.places) }
+    ensures unknown { OnErr result (KnowsRows keys.now (chosen_in block.now word) table.old → ⊥) }
     ensures grown { HasGrown items.now table.old table.new }
-    ensures last { IsLast last.new.key.items last.new.place table.new }
-    ensures len { length last.new.key.items ≡ length keys.now }
-    ensures placed { IsPlaced table.new }
-    ensures met { AreMet (length keys.now) table.new last.new.met.items }
-    ensures sound { (n : ℕ) → AreSound n (length items.now) table.old.values
-        → AreSound n (length items.now) table.new.values }
+    ensures ready { IsReady (length keys.now) last.new.key.items last.new.place last.new.met.items table.new }
+    ensures sound { StaySound (length items.now) table.old.values table.new.values }
     ensures long { length places.new ≡ 64 }
 {
     for row in 0..block.len() {
@@ -147,25 +127,17 @@ pub(crate) fn places_in_block(
     word: u64,
     places: &mut [usize],
 ) -> Result<(), Memory>
-    requires same { length last.old.key.items ≡ length keys.now }
+    requires ready { IsReady (length keys.now) last.old.key.items last.old.place last.old.met.items table.old }
     requires in_row { All (λ x. x < block.now.width) keys.now }
-    requires last { IsLast last.old.key.items last.old.place table.old }
-    requires placed { IsPlaced table.old }
-    requires met { AreMet (length keys.now) table.old last.old.met.items }
     requires long { length places.old ≡ 64 }
     ensures found { OnOk result (AreFound keys.now block.now word places.new table.new) }
-    ensures named { OnOk result ((q : List Cell) → is_some (place_at table.new.places q)
-        ≡ (is_some (place_at table.old.places q) || has_key (map (key_of codes keys.now) (chosen_in block.now word)) q)) }
+    ensures named { OnOk result (HasNamed table.old.places (map (key_of codes keys.now) (chosen_in block.now word))
+        table.new.places) }
     ensures grown { OnOk result (HasGrown items.now table.old table.new) }
-    ensures unknown { OnErr result (All (λ row. is_some (place_at table.old.places (key_of codes keys.now row)) ≡ true)
-        (chosen_in block.now word) → ⊥) }
+    ensures unknown { OnErr result (KnowsRows keys.now (chosen_in block.now word) table.old → ⊥) }
     ensures err { OnErr result (seen table.new ≡ seen table.old) }
-    ensures last { IsLast last.new.key.items last.new.place table.new }
-    ensures len { length last.new.key.items ≡ length keys.now }
-    ensures placed { IsPlaced table.new }
-    ensures met { AreMet (length keys.now) table.new last.new.met.items }
-    ensures sound { (n : ℕ) → AreSound n (length items.now) table.old.values
-        → AreSound n (length items.now) table.new.values }
+    ensures ready { IsReady (length keys.now) last.new.key.items last.new.place last.new.met.items table.new }
+    ensures sound { StaySound (length items.now) table.old.values table.new.values }
     ensures long { length places.new ≡ 64 }
 {
     let count = table.len();

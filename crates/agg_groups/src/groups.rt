@@ -6,7 +6,7 @@ ghost use Rattle.agg_groups.specs.Blocks.{AreInBlock, chosen_in};
 ghost use Rattle.agg_groups.specs.Cells.{codes};
 ghost use Rattle.agg_groups.specs.Meaning.{key_of, meaning, overflow};
 ghost use Rattle.agg_groups.specs.Groups.{Kept, KnowsAll, Stands, StandsInSomeOrder, NamesPlaces, IsFault, IsKnown};
-ghost use Rattle.agg_groups.specs.Table.{AreMet, AreSound, IsPlaced, IsLast, IsKept, IsFirst, seen};
+ghost use Rattle.agg_groups.specs.Table.{AreSound, IsReady, IsKept, IsFirst, seen};
 ghost use Rattle.agg_groups.specs.declared.rows.FinishFault.TheVariants as FinishFault;
 
 use crate::finding::places_in_block;
@@ -46,10 +46,7 @@ impl Model for Groups {
 // The groups of no rows: none, but for the one group of a query without key columns.
 fn first_groups(alloc: Global, items: &[Item], keys: &[u32]) -> Result<(GroupTable, Last), Memory>
     ensures first { IfOk result (λ g. IsFirst items.now keys.now g.0) }
-    ensures long { IfOk result (λ g. length g.1.key.items ≡ length keys.now) }
-    ensures last { IfOk result (λ g. IsLast g.1.key.items g.1.place g.0) }
-    ensures met { IfOk result (λ g. AreMet (length keys.now) g.0 g.1.met.items) }
-    ensures placed { IfOk result (λ g. IsPlaced g.0) }
+    ensures ready { IfOk result (λ g. IsReady (length keys.now) g.1.key.items g.1.place g.1.met.items g.0) }
     ensures sound { IfOk result (λ g. AreSound 0 (length items.now) g.0.values) }
 {
     let key = vec![in alloc; Cell::Null; keys.len()]?;
@@ -112,14 +109,9 @@ impl Groups {
         ensures keys { self.new.keys ≡ self.old.keys }
         ensures err { OnErr result (self.new ≡ self.old) }
     {
-        let place = place_of(
-            &mut self.table,
-            &mut self.last,
-            &self.items,
-            &self.keys,
-            row,
-        )?;
-        self.table.step(place, &self.items, row, self.rows);
+        let items = self.items.as_slice();
+        let place = place_of(&mut self.table, &mut self.last, items, &self.keys, row)?;
+        self.table.step(place, items, row, self.rows);
         self.rows += 1;
         Ok(())
     }
@@ -138,15 +130,9 @@ impl Groups {
         ensures keys { self.new.keys ≡ self.old.keys }
         ensures err { OnErr result (self.new ≡ self.old) }
     {
-        let place = place_of(
-            &mut self.table,
-            &mut self.last,
-            &self.items,
-            &self.keys,
-            &[],
-        )?;
-        self.table
-            .add_chosen(place, &self.items, block, word, self.rows);
+        let items = self.items.as_slice();
+        let place = place_of(&mut self.table, &mut self.last, items, &self.keys, &[])?;
+        self.table.add_chosen(place, items, block, word, self.rows);
         self.rows += count_of(word);
         Ok(())
     }
@@ -164,18 +150,18 @@ impl Groups {
         ensures keys { self.new.keys ≡ self.old.keys }
         ensures err { OnErr result (self.new ≡ self.old) }
     {
+        let items = self.items.as_slice();
         let mut places = [0; 64];
         places_in_block(
             &mut self.table,
             &mut self.last,
-            &self.items,
+            items,
             &self.keys,
             block,
             word,
             &mut places,
         )?;
-        self.table
-            .add_rows(&places, &self.items, block, word, self.rows);
+        self.table.add_rows(&places, items, block, word, self.rows);
         self.rows += count_of(word);
         Ok(())
     }

@@ -2,7 +2,7 @@
 ghost use Rattle.std.specs.Prelude.{◌≡◌, ◌<◌, ◌↔◌, ℕ, length, map, All, Contains, IsTrue, OnErr, IfOk};
 ghost use Rattle.agg_groups.specs.Cells.{codes};
 ghost use Rattle.agg_groups.specs.Meaning.{key_of, cell};
-ghost use Rattle.agg_groups.specs.Table.{AreMet, IsLast, IsPlaceFor, IsPlaced, names};
+ghost use Rattle.agg_groups.specs.Table.{IsPlaceFor, IsReady, names};
 
 use crate::item::Item;
 use crate::met::Met;
@@ -58,16 +58,10 @@ pub(crate) fn place_of(
     keys: &[u32],
     row: &[Cell],
 ) -> Result<usize, Memory>
-    requires same { length last.old.key.items ≡ length keys.now }
+    requires ready { IsReady (length keys.now) last.old.key.items last.old.place last.old.met.items table.old }
     requires in_row { All (λ x. x < length row.now) keys.now }
-    requires last { IsLast last.old.key.items last.old.place table.old }
-    requires placed { IsPlaced table.old }
-    requires met { AreMet (length keys.now) table.old last.old.met.items }
     ensures ok { IfOk result (λ place. IsPlaceFor items.now (key_of codes keys.now row.now) place table.old table.new) }
-    ensures last { IsLast last.new.key.items last.new.place table.new }
-    ensures len { length last.new.key.items ≡ length keys.now }
-    ensures placed { IsPlaced table.new }
-    ensures met { AreMet (length keys.now) table.new last.new.met.items }
+    ensures ready { IsReady (length keys.now) last.new.key.items last.new.place last.new.met.items table.new }
     ensures err { OnErr result (table.new ≡ table.old) }
     ensures unknown { OnErr result (Contains (names table.old.places) (key_of codes keys.now row.now) → ⊥) }
 {

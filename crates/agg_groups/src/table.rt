@@ -6,7 +6,7 @@ ghost use Rattle.agg_groups.specs.Cells.{codes};
 ghost use Rattle.agg_groups.specs.Running.{HasRoom, IsInRow, nexts, joins, runnings, all_shown, FitsCell};
 ghost use Rattle.table_core.specs.Lists.{lists};
 ghost use Rattle.agg_groups.specs.Blocks.{AreInBlock, chosen_in};
-ghost use Rattle.agg_groups.specs.Table.{AddsRows, first_places, Placed, IsPlaced, IsNewPlace, IsPlaceFor, AreSound, place_at, values_at, seen, at, merged, first_over, result_rows, AllFit, AreBelow, Puts, base, HasGrown, HasNamed, HavePlaces, HasRoomAt, KeepsPlaces, names, plain_places};
+ghost use Rattle.agg_groups.specs.Table.{AddsRows, first_places, Placed, IsPlaced, IsNewPlace, IsPlaceFor, AreSound, StaySound, place_at, values_at, seen, at, merged, first_over, result_rows, AllFit, AreBelow, Puts, base, HasGrown, HasNamed, HasValues, HavePlaces, HasRoomAt, KeepsPlaces, names, plain_places};
 
 use crate::item::Item;
 use crate::lanes::add_chosen;
@@ -35,14 +35,6 @@ impl Model for GroupTable {
     ghost view = { λ t. record { places = plain_places t.places.entries; values = lists t.values.items } };
 
     ghost invariant = { λ t. IsPlaced (record { places = plain_places t.places.entries; values = lists t.values.items }) };
-}
-
-// The place of a key.
-fn place_in(places: &Places, key: &[Cell]) -> Option<usize>
-    ensures { result ≡ place_at (plain_places places.now.entries) key.now }
-{
-    cell_order();
-    places.get(key).copied()
 }
 
 // Puts a key that had no place at a new one, with the values of no rows.
@@ -157,8 +149,7 @@ fn place_all(table: &mut GroupTable, items: &[Item], others: &Places) -> Result<
     ensures named { OnOk result (HasNamed table.old.places (names (plain_places others.now.entries)) table.new.places) }
     ensures grown { HasGrown items.now table.old table.new }
     ensures placed { IsPlaced table.new }
-    ensures sound { (n : ℕ) → AreSound n (length items.now) table.old.values
-        → AreSound n (length items.now) table.new.values }
+    ensures sound { StaySound (length items.now) table.old.values table.new.values }
 {
     for (key, _) in others {
         table.place_for(items, key)?;
@@ -174,8 +165,7 @@ fn make_places(table: &mut GroupTable, items: &[Item], others: &Places) -> Resul
     ensures err { OnErr result (seen table.new ≡ seen table.old) }
     ensures kept { KeepsPlaces table.old.places table.new.places }
     ensures placed { IsPlaced table.new }
-    ensures sound { (n : ℕ) → AreSound n (length items.now) table.old.values
-        → AreSound n (length items.now) table.new.values }
+    ensures sound { StaySound (length items.now) table.old.values table.new.values }
 {
     let count = table.len();
     match place_all(table, items, others) {
@@ -266,6 +256,14 @@ impl GroupTable {
         }
     }
 
+    // The place of a key.
+    fn known(&self, key: &[Cell]) -> Option<usize>
+        ensures { result ≡ place_at self.now.places key.now }
+    {
+        cell_order();
+        self.places.get(key).copied()
+    }
+
     /// The place of a key, which is made where the key is new. It takes no memory where the key is known.
     pub(crate) fn place_for(&mut self, items: &[Item], key: &[Cell]) -> Result<usize, Memory>
         ensures ok { IfOk result (λ place. IsPlaceFor items.now key.now place self.old self.new) }
@@ -274,7 +272,7 @@ impl GroupTable {
         ensures none { OnErr result (place_at self.old.places key.now ≡ None) }
         ensures placed { IsPlaced self.new }
     {
-        match place_in(&self.places, key) {
+        match self.known(key) {
             Some(place) => Ok(place),
             None => put_start(&mut self.places, &mut self.values, items, key),
         }
@@ -326,9 +324,7 @@ impl GroupTable {
     pub(crate) fn step(&mut self, place: usize, items: &[Item], row: &[Cell], rows: u32)
         requires in_row { All (λ i. IsInRow i (length row.now)) items.now }
         requires few { rows < MOST_ROWS }
-        requires there { place < length self.old.values }
-        requires same { length (values_at self.old.values place) ≡ length items.now }
-        requires room { All (HasRoom rows) (values_at self.old.values place) }
+        requires values { HasValues rows (length items.now) place self.old.values }
         ensures places { self.new.places ≡ self.old.places }
         ensures values { self.new.values ≡ set self.old.values place
             (nexts items.now row.now (values_at self.old.values place)) }
@@ -350,9 +346,7 @@ impl GroupTable {
         requires few { rows + block.now.count ≤ MOST_ROWS }
         requires in_row { All (λ i. IsInRow i block.now.width) items.now }
         requires below { AreInBlock block.now.count word }
-        requires there { place < length self.old.values }
-        requires same { length (values_at self.old.values place) ≡ length items.now }
-        requires room { All (HasRoom rows) (values_at self.old.values place) }
+        requires values { HasValues rows (length items.now) place self.old.values }
         ensures places { self.new.places ≡ self.old.places }
         ensures values { self.new.values ≡ set self.old.values place
             (joins items.now (values_at self.old.values place) (runnings items.now (chosen_in block.now word))) }
@@ -366,10 +360,8 @@ impl GroupTable {
     // Adds the values over other rows to those at a place.
     fn join(&mut self, place: usize, items: &[Item], others: &[Running], rows: u32, more: u32)
         requires few { rows + more ≤ MOST_ROWS }
-        requires there { place < length self.old.values }
-        requires same { length (values_at self.old.values place) ≡ length items.now }
+        requires values { HasValues rows (length items.now) place self.old.values }
         requires same_more { length others.now ≡ length items.now }
-        requires room { All (HasRoom rows) (values_at self.old.values place) }
         requires room_more { All (HasRoom more) others.now }
         ensures places { self.new.places ≡ self.old.places }
         ensures values { self.new.values ≡ set self.old.values place
@@ -394,7 +386,7 @@ impl GroupTable {
         ensures sound { AreSound (rows + more) (length items.now) self.new.values }
         ensures placed { IsPlaced self.new }
     {
-        if let Some(place) = place_in(&self.places, key) {
+        if let Some(place) = self.known(key) {
             self.join(place, items, others, rows, more);
         }
     }

@@ -31,10 +31,7 @@ loop-row-preserved-then-not-is_chosen c =
       named = λ q. before.named q
           ∙ ap (λ rows. is_some (place_at c.args.table.now.places q) || has_key (map (key_of codes c.args.keys.now) rows) q) (sym (no_more b word i clear));
       grown = before.grown;
-      same = before.same;
-      last = before.last;
-      placed = before.placed;
-      met = before.met;
+      ready = before.ready;
       sound = before.sound;
       long = before.long;
     }
@@ -67,11 +64,8 @@ loop-row-preserved c =
           ∙ or_assoc (is_some (place_at start.places q)) (has_key (map f (first_chosen b word i)) q) (same_key q key)
           ∙ ap (λ c. is_some (place_at start.places q) || c) (sym (has-push [] f (first_chosen b word i) (row_at b i) q)
           ∙ ap (λ rows. has_key (map f rows) q) (sym (one_more b word i set')));
-      grown = grown_more items key place start old new c.in_ok-place.ensures.placed before.grown ok;
-      same = c.in_ok-place.ensures.len;
-      last = c.in_ok-place.ensures.last;
-      placed = c.in_ok-place.ensures.placed;
-      met = c.in_ok-place.ensures.met;
+      grown = grown_more items key place start old new c.in_ok-place.ensures.ready.placed before.grown ok;
+      ready = c.in_ok-place.ensures.ready;
       sound = λ n s. sound_place n items key place old new ok (before.sound n s);
       long = length-set places i place ∙ before.long;
     }

@@ -5,7 +5,7 @@ use Rattle.table_core.specs.declared.cell.Cell.{Cell}
 use Rattle.row_blocks.specs.Blocks.{row_at}
 use Rattle.agg_groups.specs.Cells.{codes}
 use Rattle.agg_groups.specs.Meaning.{key_of}
-use Rattle.agg_groups.specs.Table.{AreMet, AreSound, HasGrown, IsLast, IsPlaced, has_key, place_at}
+use Rattle.agg_groups.specs.Table.{HasGrown, IsReady, StaySound, has_key, place_at}
 use Rattle.agg_groups.proofs.Placing.{first_chosen}
 use Rattle.agg_groups.proofs.finding.find_all.Given as goal
 
@@ -15,10 +15,7 @@ invariant-loop-row l = record {
   found : (j : ℕ) → j < l.row → bit_at l.word j ≡ 1 → place_at l.table.places (key_of codes l.keys (row_at l.block j)) ≡ Some (slice_index_or l.places j 0);
   named : (q : List Cell) → is_some (place_at l.table.places q) ≡ (is_some (place_at l.initial.table.places q) || has_key (map (key_of codes l.keys) (first_chosen l.block l.word l.row)) q);
   grown : HasGrown l.items l.initial.table l.table;
-  same : length l.last.key.items ≡ length l.keys;
-  last : IsLast l.last.key.items l.last.place l.table;
-  placed : IsPlaced l.table;
-  met : AreMet (length l.keys) l.table l.last.met.items;
-  sound : (n : ℕ) → AreSound n (length l.items) l.initial.table.values → AreSound n (length l.items) l.table.values;
+  ready : IsReady (length l.keys) l.last.key.items l.last.place l.last.met.items l.table;
+  sound : StaySound (length l.items) l.initial.table.values l.table.values;
   long : length l.places ≡ 64;
 }

@@ -1,19 +1,8 @@
-use Rattle.std.proofs.Common.{◌≡◌, ◌∙◌, sym, ap, length, get_or, set}
-use Rattle.std.specs.Prelude.{Vec}
-use Rattle.std.specs.Global.{Global}
-use Rattle.std.specs.Vec.{with_items}
-use Rattle.std.proofs.lemmas.List.{with_items_is, map-set}
-use Rattle.agg_groups.specs.declared.running.Running.{Running}
 use Rattle.agg_groups.specs.Running.{joins}
-use Rattle.table_core.specs.Lists.{lists}
-use Rattle.table_core.proofs.Lists.{lists_at}
+use Rattle.agg_groups.proofs.Writing.{set_items}
 use Rattle.agg_groups.proofs.table.join_at.Goals as goal
 
 pub returns : goal.returns
 returns c =
-    let vs = c.args.values.now in
-    let v = get_or vs c.args.place c.index-values-place.result in
-    let l : length c.join_all.new.values ≡ v.len = c.join_all.ensures.len ∙ ap length c.deref_mut.ensures.value ∙ sym v.ok.0 in
-    map-set (λ (v : Vec Running Global). v.items) vs c.args.place (with_items v c.join_all.new.values)
-    ∙ ap (set (lists vs) c.args.place) (with_items_is v c.join_all.new.values l ∙ c.join_all.ensures.value
-    ∙ ap (λ rs. joins c.args.items.now rs c.args.others.now) (c.deref_mut.ensures.value ∙ sym (lists_at vs c.args.place c.index-values-place.result c.requires.there)))
+    set_items c.args.values.now c.args.place c.index-values-place.result c.deref_mut.result.now c.join_all.new.values (λ rs. joins c.args.items.now rs c.args.others.now)
+    c.requires.there c.deref_mut.ensures.value c.join_all.ensures.len c.join_all.ensures.value

@@ -1,19 +1,8 @@
-use Rattle.std.proofs.Common.{◌≡◌, ◌∙◌, sym, ap, length, get_or, set}
-use Rattle.std.specs.Prelude.{Vec}
-use Rattle.std.specs.Global.{Global}
-use Rattle.std.specs.Vec.{with_items}
-use Rattle.std.proofs.lemmas.List.{with_items_is, map-set}
-use Rattle.agg_groups.specs.declared.running.Running.{Running}
 use Rattle.agg_groups.specs.Running.{nexts}
-use Rattle.table_core.specs.Lists.{lists}
-use Rattle.table_core.proofs.Lists.{lists_at}
+use Rattle.agg_groups.proofs.Writing.{set_items}
 use Rattle.agg_groups.proofs.table.step_at.Goals as goal
 
 pub returns-clause-values : goal.returns-clause-values
 returns-clause-values c =
-    let vs = c.args.values.now in
-    let v = get_or vs c.args.place c.index-values-place.result in
-    let l : length c.step.new.values ≡ v.len = c.step.ensures.len ∙ ap length c.deref_mut.ensures.value ∙ sym v.ok.0 in
-    map-set (λ (v : Vec Running Global). v.items) vs c.args.place (with_items v c.step.new.values)
-    ∙ ap (set (lists vs) c.args.place) (with_items_is v c.step.new.values l ∙ c.step.ensures.value
-    ∙ ap (nexts c.args.items.now c.args.row.now) (c.deref_mut.ensures.value ∙ sym (lists_at vs c.args.place c.index-values-place.result c.requires.there)))
+    set_items c.args.values.now c.args.place c.index-values-place.result c.deref_mut.result.now c.step.new.values (nexts c.args.items.now c.args.row.now)
+    c.requires.there c.deref_mut.ensures.value c.step.ensures.len c.step.ensures.value

@@ -1,15 +1,14 @@
-use Rattle.std.proofs.Common.{◌≡◌, ◌∙◌, ◌+◌, sym, ap, subst, List, ℕ, length, length-append, get_or, map, All, arith}
-use Rattle.std.specs.Prelude.{◌||◌, Contains, count_ones, is_some}
-use Rattle.table_core.specs.declared.cell.Cell.{Cell}
+use Rattle.std.proofs.Common.{◌+◌, sym, ap, subst, List, ℕ, length, length-append, get_or, map, All, arith}
+use Rattle.std.specs.Prelude.{Contains, count_ones}
 use Rattle.row_blocks.specs.Blocks.{row_at}
 use Rattle.agg_groups.specs.declared.item.Item.{Item}
 use Rattle.agg_groups.specs.Blocks.{chosen_in}
 use Rattle.agg_groups.specs.Cells.{codes}
 use Rattle.agg_groups.specs.Meaning.{key_of}
 use Rattle.agg_groups.specs.Groups.{Kept, KnowsAll, Stands}
-use Rattle.agg_groups.specs.Table.{AddsRows, AreFound, AreMet, AreSound, HasGrown, has_key, names, place_at, seen}
+use Rattle.agg_groups.specs.Table.{AddsRows, AreFound, AreSound, HasGrown, HasNamed, IsReady, names, seen}
 use Rattle.agg_groups.proofs.Columns.{few-chosen, ones-block}
-use Rattle.agg_groups.proofs.Grown.{met_kept}
+use Rattle.agg_groups.proofs.Grown.{ready_on, same_places}
 use Rattle.agg_groups.proofs.Placing.{groups_rows, known_all}
 use Rattle.agg_groups.proofs.Seen.{placed_below}
 use Rattle.agg_groups.proofs.groups.Groups.add_to_places.Goals as goal
@@ -20,15 +19,13 @@ invariant_of-self c =
     let before = c.self.invariant in
     let found = c.places_in_block.ensures in
     let new = c.places_in_block.new.table in
+    let last = c.places_in_block.new.last in
     record {
       few = before.few;
       short = before.short;
-      long = found.len ∙ ap length c.deref-2.ensures.value;
-      placed = found.placed;
-      last = found.last;
-      met = subst (λ (ks : List ℕ). AreMet (length ks) new c.places_in_block.new.last.met.items) c.deref-2.ensures.value found.met;
-      sound = subst (λ (is : List Item). AreSound n (length is) new.values) c.deref.ensures.value
-          (found.sound n (subst (λ (is : List Item). AreSound n (length is) c.self.inside.table.values) (sym c.deref.ensures.value) before.sound));
+      ready = subst (λ (ks : List ℕ). IsReady (length ks) last.key.items last.place last.met.items new) c.deref.ensures.value found.ready;
+      sound = subst (λ (is : List Item). AreSound n (length is) new.values) c.as_slice-items.ensures.value
+          (found.sound n (subst (λ (is : List Item). AreSound n (length is) c.self.inside.table.values) (sym c.as_slice-items.ensures.value) before.sound));
     }
 
 -- keys that are known have places
@@ -38,18 +35,17 @@ returns-in_err-places_in_block-clause-free c = λ known.
     let more = chosen_in c.args.block.now c.args.word in
     let G : Kept → Type 0 = λ g. KnowsAll g more in
     let K : List ℕ → Type 0 = λ ks. All (λ row. Contains (names (seen t)) (key_of codes ks row)) more in
-    absurd (c.in_err-places_in_block.ensures.unknown (known_all t c.deref-2.result.now more (subst K (sym c.deref-2.ensures.value) (subst G (sym c.self.view_is) known))))
+    absurd (c.in_err-places_in_block.ensures.unknown (known_all t c.deref.result.now more (subst K (sym c.deref.ensures.value) (subst G (sym c.self.view_is) known))))
 
 pub add_rows-requires-clause-there : goal.add_rows-requires-clause-there
 add_rows-requires-clause-there c = λ i low is.
-    placed_below c.places_in_block.new.table (key_of codes c.deref-2.result.now (row_at c.args.block.now i)) (get_or c.places_in_block.new.places i 0) c.places_in_block.ensures.placed
+    placed_below c.places_in_block.new.table (key_of codes c.deref.result.now (row_at c.args.block.now i)) (get_or c.places_in_block.new.places i 0) c.places_in_block.ensures.ready.placed
     (c.in_ok-places_in_block.ensures.found i low is)
 
 pub add_rows-requires-clause-sound : goal.add_rows-requires-clause-sound
 add_rows-requires-clause-sound c =
     let n = c.self.inside.rows in
-    subst (λ (is : List Item). AreSound n (length is) c.places_in_block.new.table.values) (c.deref.ensures.value ∙ sym c.deref-3.ensures.value)
-    (c.places_in_block.ensures.sound n (subst (λ (is : List Item). AreSound n (length is) c.self.inside.table.values) (sym c.deref.ensures.value) c.self.invariant.sound))
+    c.places_in_block.ensures.sound n (subst (λ (is : List Item). AreSound n (length is) c.self.inside.table.values) (sym c.as_slice-items.ensures.value) c.self.invariant.sound)
 
 pub invariant_of-self-2 : goal.invariant_of-self-2
 invariant_of-self-2 c =
@@ -60,19 +56,15 @@ invariant_of-self-2 c =
     let found = c.places_in_block.ensures in
     let mid = c.places_in_block.new.table in
     let new = c.add_rows.new.self in
-    let slots = c.places_in_block.new.last.met.items in
     let last = c.places_in_block.new.last in
     let ones = c.count_of.ensures.count in
     record {
       few = omega (arith, c.requires.few, ap (λ (g : Kept). g.rows) c.self.view_is, ones, ones-block b word c.requires.below, few-chosen b word);
       short = before.short;
-      long = found.len ∙ ap length c.deref-2.ensures.value;
-      placed = c.add_rows.ensures.placed;
-      last = λ j e. ap (λ (es : List (List Cell × ℕ)). place_at es last.key.items) c.add_rows.ensures.places ∙ found.last j e;
-      met = met_kept (length c.self.inside.keys.items) mid new slots (λ q j e. ap (λ (es : List (List Cell × ℕ)). place_at es q) c.add_rows.ensures.places ∙ e)
-          (subst (λ (ks : List ℕ). AreMet (length ks) mid slots) c.deref-2.ensures.value found.met);
+      ready = ready_on (length c.self.inside.keys.items) last.key.items last.place last.met.items mid new c.add_rows.ensures.placed (same_places mid new c.add_rows.ensures.places)
+          (subst (λ (ks : List ℕ). IsReady (length ks) last.key.items last.place last.met.items mid) c.deref.ensures.value found.ready);
       sound = subst (λ m. AreSound (n + m) (length c.self.inside.items.items) new.values) (sym ones)
-          (subst (λ (is : List Item). AreSound (n + count_ones word) (length is) new.values) c.deref-3.ensures.value c.add_rows.ensures.sound);
+          (subst (λ (is : List Item). AreSound (n + count_ones word) (length is) new.values) c.as_slice-items.ensures.value c.add_rows.ensures.sound);
     }
 
 pub returns-clause-count : goal.returns-clause-count
@@ -92,12 +84,11 @@ returns-clause-ok c = λ rows s.
     let places = c.places_in_block.new.places in
     let found = c.in_ok-places_in_block.ensures in
     let stands = subst (λ (g : Kept). Stands g rows) (sym c.self.view_is) s in
-    let grown = subst (λ (is : List Item). HasGrown is old mid) c.deref.ensures.value found.grown in
-    let Named : List ℕ → Type 0 = λ ks. (q : List Cell) → is_some (place_at mid.places q) ≡ (is_some (place_at old.places q) || has_key (map (key_of codes ks) more) q) in
-    let named = subst Named c.deref-2.ensures.value found.named in
-    let each = subst (λ (ks : List ℕ). AreFound ks b word places mid) c.deref-2.ensures.value found.found in
-    let added = subst (λ (is : List Item). AddsRows is b word places mid.values new.values) c.deref-3.ensures.value c.add_rows.ensures.added in
+    let grown = subst (λ (is : List Item). HasGrown is old mid) c.as_slice-items.ensures.value found.grown in
+    let named = subst (λ (ks : List ℕ). HasNamed old.places (map (key_of codes ks) more) mid.places) c.deref.ensures.value found.named in
+    let each = subst (λ (ks : List ℕ). AreFound ks b word places mid) c.deref.ensures.value found.found in
+    let added = subst (λ (is : List Item). AddsRows is b word places mid.values new.values) c.as_slice-items.ensures.value c.add_rows.ensures.added in
     record {
       count = omega (arith, stands.count, c.count_of.ensures.count, ones-block b word c.requires.below, length-append rows more);
-      groups = groups_rows items keys b word places old mid new c.places_in_block.ensures.placed c.add_rows.ensures.placed grown named each c.add_rows.ensures.places added rows stands.groups;
+      groups = groups_rows items keys b word places old mid new c.places_in_block.ensures.ready.placed c.add_rows.ensures.placed grown named each c.add_rows.ensures.places added rows stands.groups;
     }

@@ -3,7 +3,7 @@ use Rattle.table_core.specs.declared.cell.Cell.{Cell}
 use Rattle.agg_groups.specs.declared.item.Item.{Item}
 use Rattle.agg_groups.specs.Groups.{Kept, Stands, groups_of}
 use Rattle.agg_groups.specs.Table.{AreSound, at, merged, seen}
-use Rattle.agg_groups.proofs.Grown.{met_kept}
+use Rattle.agg_groups.proofs.Grown.{ready_on}
 use Rattle.agg_groups.proofs.Stands.{groups_joined}
 use Rattle.agg_groups.proofs.groups.Groups.merge.Goals as goal
 
@@ -36,10 +36,7 @@ invariant_of-self c =
     record {
       few = omega (arith, c.requires.few, ap (λ (k : Kept). k.rows) c.self.view_is, ap (λ (k : Kept). k.rows) c.other.view_is);
       short = before.short;
-      long = before.long;
-      placed = c.absorb.ensures.placed;
-      last = λ i e. c.absorb.ensures.kept last.key.items i (before.last i e);
-      met = met_kept (length c.self.inside.keys.items) c.self.inside.table new last.met.items c.absorb.ensures.kept before.met;
+      ready = ready_on (length c.self.inside.keys.items) last.key.items last.place last.met.items c.self.inside.table new c.absorb.ensures.placed c.absorb.ensures.kept before.ready;
       sound = subst (λ (is : List Item). AreSound n (length is) new.values) c.deref.ensures.value c.in-Ok.ensures.sound;
     }
 
@@ -51,9 +48,6 @@ invariant_of-self-in-Err c =
     record {
       few = before.few;
       short = before.short;
-      long = before.long;
-      placed = c.absorb.ensures.placed;
-      last = λ i e. c.absorb.ensures.kept last.key.items i (before.last i e);
-      met = met_kept (length c.self.inside.keys.items) c.self.inside.table new last.met.items c.absorb.ensures.kept before.met;
+      ready = ready_on (length c.self.inside.keys.items) last.key.items last.place last.met.items c.self.inside.table new c.absorb.ensures.placed c.absorb.ensures.kept before.ready;
       sound = subst (λ (is : List Item). AreSound c.self.inside.rows (length is) new.values) c.deref.ensures.value c.in-Err.ensures.err_sound;
     }

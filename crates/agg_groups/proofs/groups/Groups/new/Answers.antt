@@ -10,5 +10,5 @@ returns-clause-stands c =
     let K : List ℕ → Type 0 = λ ks. IsFirst c.args.items.items ks c.in_ok-table.table in
     record {
       count = refl;
-      groups = groups_first c.args.items.items c.args.keys.items c.in_ok-table.table c.in_ok-table.ensures.placed (subst K c.deref-2.ensures.value (subst I c.deref.ensures.value c.in_ok-table.ensures.first));
+      groups = groups_first c.args.items.items c.args.keys.items c.in_ok-table.table c.in_ok-table.ensures.ready.placed (subst K c.deref-2.ensures.value (subst I c.deref.ensures.value c.in_ok-table.ensures.first));
     }
