@@ -1,6 +1,6 @@
 -- The chosen rows of a block, added one after another.
 use Rattle.std.proofs.Common.{◌≡◌, ◌∙◌, ◌<◌, ◌+◌, ◌==◌, ◌++◌, ◌∷◌, [], ℕ, zero, suc, true, false, if◌then◌else◌, List, length, map, take, refl, sym, ap, subst, arith, append_assoc, append-nil}
-use Rattle.std.specs.Prelude.{All, OnErr, Result, Ok, Err}
+use Rattle.std.specs.Prelude.{All}
 use Rattle.std.specs.Int.{bit_at}
 use Rattle.std.specs.List.{range_with_len}
 use Rattle.std.proofs.Math.Seq.{take-length}
@@ -14,11 +14,6 @@ use Rattle.top_rows.specs.Rows.{AreDistinct, has_number}
 use Rattle.top_rows.specs.Top.{IsBehind, Kept, Stands}
 use Rattle.top_rows.proofs.Before.{Row}
 use Rattle.top_rows.proofs.Stands.{distinct_behind}
-
--- what holds in any case holds on an Err
-pub on_err : {T E P : Type 0} (r : Result T E) → P → OnErr r P
-on_err (Ok x) p = tt
-on_err (Err e) p = p
 
 module _ {T : Type 0} where
   -- it holds of these rows and some more, that were added: these are left
@@ -91,3 +86,16 @@ module _ (first : ℕ) (b : BlockView) (word : ℕ) where
         | true ↦ (lacks_before (i + 1) k (first + i) (omega arith), rest)
         | false ↦ rest
       ]
+
+  -- a chosen row is the first of those that are left
+  pub chosen_set : (i k : ℕ) → (bit_at word i == 1) ≡ true → chosen_on i (suc k) ≡ numbered_at first b i ∷ chosen_on (i + 1) k
+  chosen_set i k set = ap (λ c. if c then numbered_at first b i ∷ chosen_on (i + 1) k else chosen_on (i + 1) k) set
+
+  -- a chosen row is added
+  pub added_row : (i k : ℕ) (old new : Kept) (rows these : List Row) → (bit_at word i == 1) ≡ true → ((rs : List Row) → Stands old rs → has_number rs (first + i) ≡ false → Stands new (rs ++ numbered_at first b i ∷ []))
+      → AreDistinct (rows ++ these) → IsAdded (Stands old) rows (chosen_on i (suc k)) these → IsAdded (Stands new) rows (chosen_on (i + 1) k) these
+  added_row i k old new rows these set adds d a =
+      let r : Row = numbered_at first b i in
+      let left = chosen_on (i + 1) k in
+      added_more (Stands old) (Stands new) r rows left these (stands_on old new r rows left these adds d)
+      (subst (λ all. IsAdded (Stands old) rows all these) (chosen_set i k set) a)

@@ -10,7 +10,8 @@ use Rattle.top_rows.specs.Top.{IsBehind, Kept, Stands}
 use Rattle.top_rows.proofs.Before.{Row}
 use Rattle.top_rows.proofs.Firsts.{distinct-append}
 use Rattle.top_rows.proofs.Stands.{stands_more}
-use Rattle.top_rows.proofs.Blocks.{IsAdded, IsSpared, added_all, added_more, added_none, added_part, chosen_on, distinct_chosen, on_err, spared_first, spared_rest, stands_on}
+use Rattle.top_rows.proofs.Blocks.{IsAdded, IsSpared, added_all, added_none, added_part, added_row, chosen_on, chosen_set, distinct_chosen, spared_first, spared_rest}
+use Rattle.agg_groups.proofs.Refusals.{on_err}
 use Rattle.top_rows.proofs.top.TopRows.add_block.Goals as goal
 
 pub loop-row-init : goal.loop-row-init
@@ -64,14 +65,11 @@ loop-row-preserved-then-passes_over c =
       plan = before.plan;
       width = before.width;
       added = λ rows k s apart whole.
-          let more = chosen_on first b word (i + 1) k in
-          let left : IsAdded (Stands t) rows (r ∷ more) these =
-          subst (λ (is : Bool). IsAdded (Stands t) rows (if is then r ∷ more else more) these) set (before.added rows (suc k) s apart (omega (arith, whole))) in
-          added_more (Stands t) (Stands t) r rows more these
-          (stands_on t t r rows more these (stands_more t t r refl (λ n. sym c.if-passes_over.ensures.behind)) (distinct-append rows these s.distinct (distinct_chosen first b word 0 b.count) apart)) left;
+          added_row first b word i k t t rows these set (stands_more t t r refl (λ n. sym c.if-passes_over.ensures.behind))
+          (distinct-append rows these s.distinct (distinct_chosen first b word 0 b.count) apart) (before.added rows (suc k) s apart (omega (arith, whole)));
       free = λ behind k whole.
-          let more = chosen_on first b word (i + 1) k in
-          spared_rest c.args.self.now t r more (subst (λ (is : Bool). IsSpared c.args.self.now t (if is then r ∷ more else more)) set (before.free behind (suc k) (omega (arith, whole))));
+          spared_rest c.args.self.now t r (chosen_on first b word (i + 1) k)
+          (subst (λ left. IsSpared c.args.self.now t left) (chosen_set first b word i k set) (before.free behind (suc k) (omega (arith, whole))));
     }
 
 pub loop-row-preserved : goal.loop-row-preserved
@@ -91,15 +89,11 @@ loop-row-preserved c =
       plan = c.add.ensures.plan ∙ before.plan;
       width = ap length c.row.ensures ∙ length-row b i;
       added = λ rows k s apart whole.
-          let more = chosen_on first b word (i + 1) k in
-          let left : IsAdded (Stands old) rows (r ∷ more) these =
-          subst (λ (is : Bool). IsAdded (Stands old) rows (if is then r ∷ more else more) these) set (before.added rows (suc k) s apart (omega (arith, whole))) in
-          added_more (Stands old) (Stands new) r rows more these
-          (stands_on old new r rows more these (subst Adds c.row.ensures c.in_ok-add.ensures.ok) (distinct-append rows these s.distinct (distinct_chosen first b word 0 b.count) apart)) left;
+          added_row first b word i k old new rows these set (subst Adds c.row.ensures c.in_ok-add.ensures.ok)
+          (distinct-append rows these s.distinct (distinct_chosen first b word 0 b.count) apart) (before.added rows (suc k) s apart (omega (arith, whole)));
       free = λ behind k whole.
-          let more = chosen_on first b word (i + 1) k in
-          absurd (c.if-passes_over.ensures.among (spared_first c.args.self.now old r more
-          (subst (λ (is : Bool). IsSpared c.args.self.now old (if is then r ∷ more else more)) set (before.free behind (suc k) (omega (arith, whole))))));
+          absurd (c.if-passes_over.ensures.among (spared_first c.args.self.now old r (chosen_on first b word (i + 1) k)
+          (subst (λ left. IsSpared c.args.self.now old left) (chosen_set first b word i k set) (before.free behind (suc k) (omega (arith, whole))))));
     }
 
 pub returns-in_err-add-clause-free : goal.returns-in_err-add-clause-free
@@ -111,11 +105,10 @@ returns-in_err-add-clause-free c = λ behind.
     let r : Row = numbered_at first b i in
     let t = c.loop-row.self in
     let k : ℕ = b.count - i - 1 in
-    let more = chosen_on first b word (i + 1) k in
     let set : (bit_at word i == 1) ≡ true = sym c.is_chosen.ensures ∙ c.if-not-is_chosen.false in
     let whole : i + suc k ≡ b.count = omega (arith, c.loop-row-test.true, c.len-row-end.ensures.len) in
-    absurd (c.if-passes_over.ensures.among (spared_first c.args.self.now t r more
-    (subst (λ (is : Bool). IsSpared c.args.self.now t (if is then r ∷ more else more)) set (c.loop-row.invariant.free behind (suc k) whole))))
+    absurd (c.if-passes_over.ensures.among (spared_first c.args.self.now t r (chosen_on first b word (i + 1) k)
+    (subst (λ left. IsSpared c.args.self.now t left) (chosen_set first b word i k set) (c.loop-row.invariant.free behind (suc k) whole))))
 
 pub returns-in_err-add-clause-err : goal.returns-in_err-add-clause-err
 returns-in_err-add-clause-err c = on_err c.from_residual.result (λ rows s apart.
