@@ -1,7 +1,8 @@
+pub mod Columns
 pub mod Cutting
 pub mod Members
+pub mod Nulls
 pub mod Rising
-pub mod Rows
 pub mod Lists
 pub mod Writing
 pub mod Fitting

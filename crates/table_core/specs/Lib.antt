@@ -1,5 +1,8 @@
 pub mod Cell
 pub mod Chunk
+pub mod Codes
+pub mod Columns
+pub mod Numbers
 pub mod Dict
 pub mod Sets
 pub mod Table

@@ -1,12 +1,15 @@
-//! What a table is: typed cells in rows, the columns they stand in, dictionaries of texts, sets of chunks and columns,
+//! What a table is: typed cells, the columns they stand in, dictionaries of texts, sets of chunks and columns,
 //! the text of a value and of an answer, and the words and limits that all crates above share.
 //!
 //!     let (kind, dict) = (Kind::Dec { places: 2 }, Dict::new(alloc));
 //!     let schema = Schema::new(vec![in alloc; Column { name, kind }]?);
-//!     let table = Table::new(schema, vec![in alloc; Cell::Int(300), Cell::Null]?);
+//!     let mut prices = Numbers::new(alloc);
+//!     prices.push(Some(300))?;
+//!     prices.push(None)?;
+//!     let table = Table::new(schema, vec![in alloc; Cells::Numbers(prices)]?, 2);
 //!     let mut out = Bytes::new(Vec::new(alloc));
-//!     for place in 0..table.len() {
-//!         write_value(&mut out, kind, &dict, table.row(place)[0])?;    // 3.00, then NULL
+//!     for row in 0..table.len() {
+//!         write_value(&mut out, kind, &dict, table.cell(row, 0))?;    // 3.00, then NULL
 //!     }
 //!
 //! docs/TABLES.md has the rules, and docs/ANSWERS.md the text of an answer.
@@ -15,12 +18,15 @@
 mod answer;
 mod bytes;
 mod cell;
+mod cells;
 mod chunk;
 mod chunk_set;
+mod codes;
 mod column_set;
 mod dict;
 mod limits;
 mod memory;
+mod numbers;
 mod op;
 mod schema;
 mod table;
@@ -31,12 +37,15 @@ mod words;
 pub use answer::text_of_answer;
 pub use bytes::Bytes;
 pub use cell::{Cell, cell_order};
+pub use cells::Cells;
 pub use chunk::{chunk_count, chunk_span};
 pub use chunk_set::ChunkSet;
+pub use codes::Codes;
 pub use column_set::ColumnSet;
 pub use dict::Dict;
 pub use limits::{MOST_CHUNK_ROWS, MOST_CHUNKS, MOST_COLUMNS, MOST_PLACES, MOST_ROWS};
 pub use memory::Memory;
+pub use numbers::Numbers;
 pub use op::Op;
 pub use schema::{Column, Kind, Schema};
 pub use table::Table;

@@ -1,69 +1,55 @@
-// A table: a schema and rows of cells.
-ghost use Rattle.std.specs.Prelude.{◌≡◌, ◌<◌, ◌≤◌, ◌-◌, length, slice_index_or, take, drop, []};
-ghost use Rattle.table_core.specs.Table.{AreWholeRows, TableRows, rows_of};
+// A table: a schema and cells column by column.
+ghost use Rattle.std.specs.Prelude.{◌≡◌, ◌<◌, ℕ, All, length, slice_index_or, []};
+ghost use Rattle.table_core.specs.Columns.{AreColumnsOf, column_cells, row_of_columns, rows_of_columns};
+ghost use Rattle.table_core.specs.Table.{TableRows};
 ghost use Rattle.table_core.specs.declared.cell.Cell.TheVariants.{Null};
 
 use crate::cell::Cell;
+use crate::cells::Cells;
 use crate::schema::Schema;
 use std::marker::Model;
 
 /// A table, seen as its columns and the list of its rows.
 ///
-/// The cells stand row by row, so each row has one cell for each column.
+/// The cells stand column by column, and each row has one cell for each column.
 #[derive(Debug, Drop)]
 pub struct Table {
-    pub schema: Schema,
-    pub cells: Vec<Cell>,
+    schema: Schema,
+    columns: Vec<Cells>,
+    rows: usize,
 }
 
 impl Model for Table {
     ghost Value = { TableRows };
 
-    ghost view = { λ t. record { columns = t.schema; rows = rows_of (length t.schema) t.cells.items } };
+    ghost view = { λ t. record { columns = t.schema; rows = rows_of_columns t.rows t.columns.items } };
 
-    ghost invariant = { λ t. AreWholeRows (length t.schema) t.cells.items };
+    ghost invariant = { λ t. AreColumnsOf (length t.schema) t.rows t.columns.items };
 }
 
-// How many rows cells make.
-fn row_count(cells: &[Cell], width: usize) -> usize
-    requires { AreWholeRows width cells.now }
-    ensures { result ≡ length (rows_of width cells.now) }
+// The cells of a row, one for each column.
+fn read_row(columns: &[Cells], row: usize, into: &mut [Cell])
+    requires width { length into.old ≡ length columns.now }
+    requires there { All (λ column. row < length (column_cells column)) columns.now }
+    ensures { into.new ≡ row_of_columns columns.now row }
 {
-    if width == 0 {
-        return 0;
+    for place in 0..into.len() {
+        into[place] = columns[place].get(row);
     }
-    cells.len() / width
-}
-
-// The rows from one place up to another.
-fn rows_between(cells: &[Cell], width: usize, from: usize, to: usize) -> &[Cell]
-    requires whole { AreWholeRows width cells.now }
-    requires rises { from ≤ to }
-    requires there { to ≤ length (rows_of width cells.now) }
-    ensures whole { AreWholeRows width result.now }
-    ensures rows { rows_of width result.now ≡ take (to - from) (drop from (rows_of width cells.now)) }
-{
-    &cells[from * width..to * width]
-}
-
-// One row.
-fn row_at(cells: &[Cell], width: usize, row: usize) -> &[Cell]
-    requires whole { AreWholeRows width cells.now }
-    requires there { row < length (rows_of width cells.now) }
-    ensures { result.now ≡ slice_index_or (rows_of width cells.now) row [] }
-{
-    let from = row * width;
-    &cells[from..from + width]
 }
 
 impl Table {
-    /// A table of these columns, whose rows are these cells from the first row to the last.
-    pub fn new(schema: Schema, cells: Vec<Cell>) -> Self
-        requires { AreWholeRows (length schema) cells.items }
+    /// A table of these columns, each with so many cells; without columns there are no rows.
+    pub fn new(schema: Schema, columns: Vec<Cells>, rows: usize) -> Self
+        requires { AreColumnsOf (length schema) rows columns.items }
         ensures columns { result.columns ≡ schema }
-        ensures rows { result.rows ≡ rows_of (length schema) cells.items }
+        ensures rows { result.rows ≡ rows_of_columns rows columns.items }
     {
-        Table { schema, cells }
+        Table {
+            schema,
+            columns,
+            rows,
+        }
     }
 
     /// The columns.
@@ -77,24 +63,34 @@ impl Table {
     pub fn len(&self) -> usize
         ensures { result ≡ length self.now.rows }
     {
-        row_count(self.cells.as_slice(), self.schema.len())
+        self.rows
     }
 
-    /// A row, counted from 0.
-    pub fn row(&self, row: usize) -> &[Cell]
-        requires { row < length self.now.rows }
-        ensures { result.now ≡ slice_index_or self.now.rows row [] }
+    /// The cell of a row and a column, both counted from 0.
+    pub fn cell(&self, row: usize, column: usize) -> Cell
+        requires row { row < length self.now.rows }
+        requires column { column < length self.now.columns }
+        ensures { result ≡ slice_index_or (slice_index_or self.now.rows row []) column Null }
     {
-        row_at(self.cells.as_slice(), self.schema.len(), row)
+        self.columns[column].get(row)
     }
 
-    /// The cells of the rows from one place up to, not including, another.
-    pub fn rows(&self, from: usize, to: usize) -> &[Cell]
-        requires rises { from ≤ to }
-        requires there { to ≤ length self.now.rows }
-        ensures whole { AreWholeRows (length self.now.columns) result.now }
-        ensures rows { rows_of (length self.now.columns) result.now ≡ take (to - from) (drop from self.now.rows) }
+    /// Reads a row, counted from 0, which has a place for each column.
+    pub fn row(&self, row: usize, into: &mut [Cell])
+        requires there { row < length self.now.rows }
+        requires width { length into.old ≡ length self.now.columns }
+        ensures { into.new ≡ slice_index_or self.now.rows row [] }
     {
-        rows_between(self.cells.as_slice(), self.schema.len(), from, to)
+        read_row(self.columns.as_slice(), row, into);
+    }
+
+    /// The cells of a column, counted from 0, from the first row to the last.
+    pub fn column(&self, column: usize) -> &Cells
+        requires { column < length self.now.columns }
+        ensures len { length (column_cells result.now) ≡ length self.now.rows }
+        ensures cells { (row : ℕ) → row < length self.now.rows → slice_index_or (column_cells result.now) row Null
+            ≡ slice_index_or (slice_index_or self.now.rows row []) column Null }
+    {
+        &self.columns[column]
     }
 }
