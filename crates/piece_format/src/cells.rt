@@ -1,27 +1,44 @@
 // The words of one cell.
-ghost use Rattle.std.specs.Prelude.{◌≡◌, ◌+◌, ◌<◌, ◌≤◌, ◌^◌, nat_le, if◌then◌else◌};
+ghost use Rattle.std.specs.Prelude.{◌≡◌, ◌+◌, ◌<◌, ◌≤◌, ◌^◌, length, nat_le, slice_index_or, if◌then◌else◌};
+ghost use Rattle.table_core.specs.Columns.{code_cell, column_cells};
+ghost use Rattle.table_core.specs.declared.cell.Cell.TheVariants.{Null};
 ghost use Rattle.piece_format.specs.Cells as spec;
 ghost use Rattle.piece_format.specs.Encoding.{IsKept};
 ghost use Rattle.std.specs.Int.{bit_at};
 ghost use Rattle.std.specs.Prelude.{◌==◌};
 
-use table_core::{Cell, Kind};
+use table_core::{Cell, Cells, Kind};
 
-pub(crate) fn is_null(cell: Cell) -> bool
-    ensures { result ≡ spec.is_null cell }
+// Whether a cell of a column is NULL.
+pub(crate) fn is_null_at(column: &Cells, row: usize) -> bool
+    requires { row < length (column_cells column.now) }
+    ensures { result ≡ spec.is_null (slice_index_or (column_cells column.now) row Null) }
 {
-    matches!(cell, Cell::Null)
+    match column {
+        Cells::Numbers(numbers) => numbers.is_none(row),
+        Cells::Codes(codes) => codes.get(row).is_none(),
+    }
 }
 
-// The value word of a cell, which gives the cell back.
-pub(crate) fn value_word(cell: Cell) -> u64
-    ensures word { result ≡ spec.value_word cell }
-    ensures kept { IsKept cell }
+// The value word of a code, if there is one.
+fn code_word(code: Option<u32>) -> u64
+    ensures { result ≡ spec.value_word (code_cell code) }
 {
-    match cell {
-        Cell::Null => 0,
-        Cell::Int(n) => n.cast_unsigned(),
-        Cell::Code(code) => u64::from(code),
+    match code {
+        None => 0,
+        Some(code) => u64::from(code),
+    }
+}
+
+// The value word of a cell of a column, which gives the cell back.
+pub(crate) fn value_word_at(column: &Cells, row: usize) -> u64
+    requires { row < length (column_cells column.now) }
+    ensures word { result ≡ spec.value_word (slice_index_or (column_cells column.now) row Null) }
+    ensures kept { IsKept (slice_index_or (column_cells column.now) row Null) }
+{
+    match column {
+        Cells::Numbers(numbers) => numbers.or_zero(row).cast_unsigned(),
+        Cells::Codes(codes) => code_word(codes.get(row)),
     }
 }
 

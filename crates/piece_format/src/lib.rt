@@ -22,8 +22,8 @@ mod word_bytes;
 
 pub use cells::cell_of;
 pub use checking::{Damage, check};
-pub use encoding::encode;
+pub use encoding::{encode, encode_into};
 pub use layout::Layout;
 pub use pieces::Piece;
 pub use shape::{Shape, frame_words, groups, groups_in, piece_of, piece_words, word_count};
-pub use word_bytes::{bytes_give_words, word_at, words_to_bytes};
+pub use word_bytes::{bytes_give_words, word_at, words_into_bytes, words_to_bytes};

@@ -1,5 +1,5 @@
 // Words as bytes.
-ghost use Rattle.std.specs.Prelude.{◌≡◌, ◌<◌, ◌≤◌, ◌+◌, ◌*◌, ℕ, IfOk, length, slice_index};
+ghost use Rattle.std.specs.Prelude.{◌≡◌, ◌<◌, ◌≤◌, ◌+◌, ◌*◌, ℕ, IfOk, OnOk, length, slice_index};
 ghost use Rattle.piece_format.specs.Bytes as spec;
 
 use byteorder::{ByteOrder, LittleEndian};
@@ -10,6 +10,28 @@ use table_core::{Bytes, Memory};
 pub fn bytes_give_words(words: &[u64])
     ensures { (i : ℕ) → i < length words.now → spec.word_of (spec.bytes_of words.now) i ≡ slice_index words.now i }
 {}
+
+// Makes bytes so many, whichever they are. The error means out of memory.
+fn make_long(bytes: &mut Vec<u8>, len: usize) -> Result<(), Memory>
+    ensures { OnOk result (length bytes.new.items ≡ len) }
+{
+    bytes.resize(len, 0)?;
+    Ok(())
+}
+
+/// The bytes of words, in place of the bytes that stood in the vector, whose room is used again: in order, each word as
+/// 8 bytes with the lowest first. After an `Err`, which is out of memory, any bytes stand there.
+pub fn words_into_bytes(words: &[u64], bytes: &mut Vec<u8>) -> Result<(), Memory>
+    ensures bytes { OnOk result (bytes.new.items ≡ spec.bytes_of words.now) }
+    ensures len { OnOk result (length bytes.new.items ≡ 8 * length words.now) }
+    ensures back { OnOk result ((i : ℕ) → i < length words.now → spec.word_of bytes.new.items i
+        ≡ slice_index words.now i) }
+{
+    bytes_give_words(words);
+    make_long(bytes, 8 * words.len())?;
+    LittleEndian::write_u64_into(words, bytes.as_mut_slice());
+    Ok(())
+}
 
 /// The bytes of words: in order, each as 8 bytes with the lowest first.
 pub fn words_to_bytes(alloc: Global, words: &[u64]) -> Result<Bytes, Memory>

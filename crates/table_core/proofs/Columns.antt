@@ -2,6 +2,7 @@
 use Rattle.std.proofs.Common.{◌≡◌, ◌∙◌, ◌<◌, ℕ, List, [], arith, ap, length, get_or}
 use Rattle.std.specs.Prelude.{All}
 use Rattle.std.proofs.lemmas.List.{get_or-map, length-map}
+use Rattle.std.proofs.lemmas.List.Elements.{All-from_get_or}
 use Rattle.std.proofs.lemmas.List.FromFn.{get_or-map-range_with_len, length-map-range_with_len}
 use Rattle.table_core.specs.declared.cell.Cell.TheVariants.{Null}
 use Rattle.table_core.specs.declared.cells.Cells.{Cells}
@@ -32,3 +33,9 @@ column-long width rows columns column cells are low is = ap (λ c. length (colum
 
 pub columns-reach : (width rows : ℕ) (columns : List Cells) (row : ℕ) → AreColumnsOf width rows columns → row < rows → All (λ column. row < length (column_cells column)) columns
 columns-reach width rows columns row are low = λ k d inside. omega (arith, are.long k d inside, low)
+
+-- each row has a cell for each column
+pub rows-wide : (width rows : ℕ) (columns : List Cells) → AreColumnsOf width rows columns → All (λ row. length row ≡ width) (rows_of_columns rows columns)
+rows-wide width rows columns are =
+    All-from_get_or (λ row. length row ≡ width) (rows_of_columns rows columns) []
+    (λ i low. ap length (row-is rows columns i (omega (arith, low, length-rows rows columns))) ∙ length-row columns i ∙ are.count)

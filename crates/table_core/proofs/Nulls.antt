@@ -1,11 +1,11 @@
 -- Numbers with null bits: one more at the end, and the one at a place.
-use Rattle.std.proofs.Common.{◌≡◌, ◌∙◌, ◌+◌, ◌*◌, ◌/◌, ◌%◌, ◌^◌, ◌≤◌, ◌<◌, ◌||◌, ◌++◌, ℕ, ℤ, zero, suc, pos, Bool, true, false, Option, Some, None, List, [], ◌∷◌, arith, refl, sym, ap, length, get_or, set, length-set, inl, inr, bit_or, map}
-use Rattle.std.proofs.lemmas.Bool.{cases_lt, eq-eqb, ne_eqb}
+use Rattle.std.proofs.Common.{◌≡◌, ◌∙◌, ◌+◌, ◌*◌, ◌/◌, ◌%◌, ◌^◌, ◌≤◌, ◌<◌, ◌||◌, ◌++◌, ℕ, ℤ, zero, suc, pos, Bool, true, false, Option, Some, None, List, [], ◌∷◌, arith, refl, sym, ap, length, get_or, set, length-set, inl, inr, bit_or, map, is_none}
+use Rattle.std.proofs.lemmas.Bool.{cases_Bool, cases_lt, eq-eqb, ne_eqb}
 use Rattle.std.proofs.lemmas.List.{get_or_append_left, get_or_default, length-append}
 use Rattle.std.proofs.lemmas.List.FromFn.{get_or-map-range_with_len, length-map-range_with_len, map-range_with_len_more, fill_by_all}
 use Rattle.std.proofs.Math.Seq.{get_or-append_seam}
 use Rattle.std.specs.List.{range_with_len}
-use Rattle.table_core.specs.Numbers.{AreNullBits, number_at, numbers_of}
+use Rattle.table_core.specs.Numbers.{AreNullBits, number_at, number_or_zero, numbers_of}
 use Rattle.table_core.specs.Sets.{bit_of}
 use Rattle.table_core.proofs.Members.{bit_of-insert, no_bits}
 
@@ -125,3 +125,17 @@ length-numbers values nulls = length-map-range_with_len (number_at values nulls)
 
 pub inside : (values : List ℤ) (nulls : List ℕ) (now : List (Option ℤ)) (place : ℕ) → numbers_of values nulls ≡ now → place < length now → place < length values
 inside values nulls now place is low = omega (arith, low, length-numbers values nulls, ap length is)
+
+-- what is read at a place: whether there is none, and the number or 0
+pub none-at : (values : List ℤ) (nulls : List ℕ) (place : ℕ) → place < length values → bit_of nulls place ≡ is_none (get_or (numbers_of values nulls) place None)
+none-at values nulls place low = elim (cases_Bool (bit_of nulls place)) [
+  | inl set ↦ set ∙ ap is_none (none-is values nulls place low set)
+  | inr clear ↦ clear ∙ ap is_none (number-is values nulls place (get_or values place (pos 0)) low clear (get_or_default values place (pos 0) (get_or values place (pos 0)) low))
+]
+
+pub zero-or-number : (values : List ℤ) (nulls : List ℕ) (place : ℕ) (n : ℤ) → AreNullBits values nulls → place < length values → n ≡ get_or values place n
+    → n ≡ number_or_zero (get_or (numbers_of values nulls) place None)
+zero-or-number values nulls place n are low is = elim (cases_Bool (bit_of nulls place)) [
+  | inl set ↦ is ∙ get_or_default values place n (pos 0) low ∙ are.zero_there place set ∙ ap number_or_zero (none-is values nulls place low set)
+  | inr clear ↦ ap number_or_zero (number-is values nulls place n low clear is)
+]

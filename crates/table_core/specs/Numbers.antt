@@ -15,3 +15,8 @@ pub record AreNullBits (values : List ℤ) (nulls : List ℕ) : Type 0 where
   pub enough : length values ≤ 64 * length nulls
   pub clear : (i : ℕ) → length values ≤ i → bit_of nulls i ≡ false
   pub zero_there : (i : ℕ) → bit_of nulls i ≡ true → slice_index_or values i (pos 0) ≡ pos 0
+
+-- a number, or 0 where there is none
+abbrev pub number_or_zero : Option ℤ → ℤ
+number_or_zero None = pos 0
+number_or_zero (Some n) = n

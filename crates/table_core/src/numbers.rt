@@ -1,6 +1,6 @@
 // Whole numbers or none, by place.
-ghost use Rattle.std.specs.Prelude.{◌≡◌, ◌<◌, ◌≤◌, ◌*◌, ◌++◌, ◌∷◌, [], ℕ, ℤ, List, Option, None, IfOk, OnOk, OnErr, length, slice_index_or};
-ghost use Rattle.table_core.specs.Numbers.{AreNullBits, numbers_of};
+ghost use Rattle.std.specs.Prelude.{◌≡◌, ◌<◌, ◌≤◌, ◌*◌, ◌++◌, ◌∷◌, [], ℕ, ℤ, List, Option, None, is_none, IfOk, OnOk, OnErr, length, slice_index_or};
+ghost use Rattle.table_core.specs.Numbers.{AreNullBits, number_or_zero, numbers_of};
 ghost use Rattle.table_core.specs.Sets.{bit_of};
 
 use std::alloc::{AllocError, Global};
@@ -80,6 +80,22 @@ impl Numbers {
             return None;
         }
         Some(self.values[place])
+    }
+
+    /// Whether there is no number at a place.
+    pub fn is_none(&self, place: usize) -> bool
+        requires { place < length self.now }
+        ensures { result ≡ is_none (slice_index_or self.now place None) }
+    {
+        is_set(self.nulls.as_slice(), place)
+    }
+
+    /// The number at a place, or 0 where there is none.
+    pub fn or_zero(&self, place: usize) -> i64
+        requires { place < length self.now }
+        ensures { result ≡ number_or_zero (slice_index_or self.now place None) }
+    {
+        self.values[place]
     }
 
     /// Puts a number or none at the end. The error means out of memory, and the numbers are then as before.

@@ -93,4 +93,10 @@ impl Table {
     {
         &self.columns[column]
     }
+    /// Each row has one cell for each column: a law, for proofs. It does nothing.
+    pub fn rows_are_whole(&self)
+        ensures { All (λ row. length row ≡ length self.now.columns) self.now.rows }
+    {
+        let _rows = self.rows;
+    }
 }

@@ -1,8 +1,6 @@
 use Rattle.std.proofs.Common.{◌+◌, ◌*◌}
-use Rattle.table_core.specs.Table.{rows_of}
-use Rattle.piece_format.specs.Cells.{cell_at}
-use Rattle.piece_format.specs.Encoding.{AreFirst}
+use Rattle.piece_format.specs.Encoding.{AreFirst, held_cell}
 use Rattle.piece_format.proofs.encoding.push_row.Given as goal
 
 abbrev pub invariant-loop-x : goal.invariant-loop-x
-invariant-loop-x l = AreFirst l.fn.piece (cell_at (rows_of l.fn.piece.columns l.cells)) (l.row * (l.fn.piece.columns + 1) + 1 + l.x) l.words.items
+invariant-loop-x l = AreFirst l.fn.piece (held_cell l.fn.piece l.table l.from) (l.row * (l.fn.piece.columns + 1) + 1 + l.x) l.words.items

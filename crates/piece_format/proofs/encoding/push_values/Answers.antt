@@ -1,17 +1,15 @@
-use Rattle.std.proofs.Common.{◌+◌, sym, subst}
-use Rattle.table_core.specs.Table.{rows_of}
-use Rattle.piece_format.specs.Cells.{cell_at}
-use Rattle.piece_format.specs.Encoding.{AreFirst}
-use Rattle.piece_format.proofs.Putting.{column_value_more, group_below, laid-within}
+use Rattle.std.proofs.Common.{◌+◌, ◌<◌, ◌∙◌, ap, arith, length, sym, subst}
+use Rattle.piece_format.specs.Cells.{value_word}
+use Rattle.piece_format.specs.Encoding.{AreFirst, IsKept, held_cell}
+use Rattle.piece_format.proofs.Putting.{column_value_more}
 use Rattle.piece_format.proofs.encoding.push_values.Goals as goal
-
-pub bounds-cells-row : goal.bounds-cells-row
-bounds-cells-row c = laid-within c.args.piece c.args.cells.now c.loop-row.row c.args.piece.group c.requires.cells c.loop-row-test.true (group_below c.args.piece c.requires.piece c.requires.layout)
 
 pub loop-row-preserved : goal.loop-row-preserved
 loop-row-preserved c =
     let q = c.args.piece in
-    let below = group_below q c.requires.piece c.requires.layout in
-    subst (AreFirst q (cell_at (rows_of q.columns c.args.cells.now)) (c.loop-row.row + 1)) (sym c.in_ok-push.ensures.items)
-    (column_value_more q c.args.cells.now c.requires.cells c.loop-row.row c.loop-row.words.items c.value_word.result c.requires.layout below c.loop-row-test.true c.loop-row.invariant c.value_word.ensures.word
-    c.value_word.ensures.kept)
+    let table = c.args.table.now in
+    let there : c.args.from + c.loop-row.row < length table.rows = omega (arith, c.requires.rows.there, c.loop-row-test.true) in
+    let cell = c.column-column.ensures.cells (c.args.from + c.loop-row.row) there in
+    subst (AreFirst q (held_cell q table c.args.from) (c.loop-row.row + 1)) (sym c.in_ok-push.ensures.items)
+    (column_value_more q table c.args.from c.loop-row.row c.loop-row.words.items c.value_word_at.result c.requires.layout c.loop-row-test.true c.loop-row.invariant
+    (c.value_word_at.ensures.word ∙ ap value_word cell) (subst IsKept cell c.value_word_at.ensures.kept))
