@@ -2,6 +2,7 @@
 use Rattle.std.specs.Prelude.{◌≡◌, ◌<◌, ◌≤◌, ◌+◌, ℕ, List, length, take, drop}
 use Rattle.table_core.specs.Table.{TableRows}
 use Rattle.table_core.specs.declared.cell.Cell.{Cell}
+use Rattle.table_core.specs.declared.limits.TheConstants.{MOST_ROWS}
 use Rattle.table_core.specs.declared.schema.Kind.{Kind}
 use Rattle.piece_format.specs.declared.pieces.Piece.{Piece}
 use Rattle.piece_format.specs.Cells.{FitsKind, cell_at, cell_of, is_null, value_word}
@@ -15,6 +16,7 @@ IsKept cell = (kind : Kind) (len : ℕ) → FitsKind kind len cell → cell_of k
 pub record HoldsRows (q : Piece) (table : TableRows) (from : ℕ) : Type 0 where
   pub columns : length table.columns ≡ q.columns
   pub there : from + q.rows ≤ length table.rows
+  pub few : length table.rows ≤ MOST_ROWS
 
 -- those rows, and their cells
 abbrev pub held_rows : Piece → TableRows → ℕ → List (List Cell)

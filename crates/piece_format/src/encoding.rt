@@ -35,20 +35,26 @@ fn mask_word(table: &Table, row: usize, count: u32) -> u64
 }
 
 // The null bits of so many cells of a column.
-fn null_word(column: &Cells, from: usize, count: u32) -> u64
+fn null_word(column: &Cells, from: u32, count: u32) -> u64
     requires few { count ≤ 64 }
     requires there { from + count ≤ length (column_cells column.now) }
     ensures { result ≡ bits (λ b. is_null_cell (slice_index_or (column_cells column.now) (from + b) Null)) count }
 {
     let mut word = 0;
     for b in 0..count {
-        word = with_bit(word, b, is_null_at(column, from + b as usize));
+        word = with_bit(word, b, is_null_at(column, from as usize + b as usize));
     }
     word
 }
 
 // Puts the words of a row: its mask word and its value words.
-fn push_row(words: &mut Vec<u64>, piece: Piece, table: &Table, from: u32, row: u32) -> Result<(), Memory>
+fn push_row(
+    words: &mut Vec<u64>,
+    piece: Piece,
+    table: &Table,
+    from: u32,
+    row: u32,
+) -> Result<(), Memory>
     requires piece { IsPiece piece }
     requires layout { piece.layout ≡ layouts.Row }
     requires rows { HoldsRows piece table.now from }
@@ -57,7 +63,7 @@ fn push_row(words: &mut Vec<u64>, piece: Piece, table: &Table, from: u32, row: u
     ensures { OnOk result (AreFirst piece (held_cell piece table.now from)
         (row * (piece.columns + 1) + 1 + piece.columns) words.new.items) }
 {
-    let place = from as usize + row as usize;
+    let place = (from + row) as usize;
     words.push(mask_word(table, place, piece.columns))?;
     for x in 0..piece.columns {
         words.push(value_word_at(table.column(x as usize), place))?;
@@ -89,7 +95,7 @@ fn push_values(words: &mut Vec<u64>, piece: Piece, table: &Table, from: u32) -> 
 {
     let column = table.column(piece.group as usize);
     for row in 0..piece.rows {
-        words.push(value_word_at(column, from as usize + row as usize))?;
+        words.push(value_word_at(column, (from + row) as usize))?;
     }
     Ok(())
 }
@@ -106,7 +112,7 @@ fn push_nulls(words: &mut Vec<u64>, piece: Piece, table: &Table, from: u32) -> R
     for k in 0..(piece.rows + 63) / 64 {
         let start = 64 * k;
         let count = (piece.rows - start).min(64);
-        words.push(null_word(column, from as usize + start as usize, count))?;
+        words.push(null_word(column, from + start, count))?;
     }
     Ok(())
 }
@@ -133,7 +139,12 @@ fn encode_rows(words: &mut Vec<u64>, piece: Piece, table: &Table, from: u32) -> 
 /// The table has the kinds and rows of the shape, and each of its cells is NULL, a code below the length of its column's
 /// dictionary in a column of texts, or a number in any other. The words give back each cell of the chunk that the piece
 /// has, and so do their bytes; none of them breaks the rules that `check` judges.
-pub fn encode_into(words: &mut Vec<u64>, shape: &Shape, table: &Table, piece: u32) -> Result<(), Memory>
+pub fn encode_into(
+    words: &mut Vec<u64>,
+    shape: &Shape,
+    table: &Table,
+    piece: u32,
+) -> Result<(), Memory>
     requires shape { IsShape shape.now }
     requires there { piece < pieces shape.now }
     requires table { IsTableOf shape.now table.now }

@@ -39,9 +39,8 @@ pub fn words_to_bytes(alloc: Global, words: &[u64]) -> Result<Bytes, Memory>
     ensures len { IfOk result (λ b. length b ≡ 8 * length words.now) }
     ensures back { IfOk result (λ b. (i : ℕ) → i < length words.now → spec.word_of b i ≡ slice_index words.now i) }
 {
-    bytes_give_words(words);
-    let mut bytes = vec![in alloc; 0u8; 8 * words.len()]?;
-    LittleEndian::write_u64_into(words, bytes.as_mut_slice());
+    let mut bytes = Vec::new(alloc);
+    words_into_bytes(words, &mut bytes)?;
     Ok(Bytes::new(bytes))
 }
 

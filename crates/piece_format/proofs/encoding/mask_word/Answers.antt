@@ -1,4 +1,4 @@
-use Rattle.std.proofs.Common.{◌+◌, ◌*◌, ◌^◌, if◌then◌else◌, ℕ, Bool, refl, arith, sym, ap, ◌∙◌}
+use Rattle.std.proofs.Common.{◌+◌, ◌^◌, if◌then◌else◌, ℕ, Bool, refl, arith, sym, ap, ◌∙◌}
 use Rattle.piece_format.specs.Cells.{cell_at, is_null}
 use Rattle.piece_format.specs.Words.{bits}
 use Rattle.piece_format.proofs.Bits.{bits-lt, bits-more}

@@ -1,4 +1,4 @@
-use Rattle.std.proofs.Common.{◌+◌, ◌*◌, ◌^◌, if◌then◌else◌, ℕ, Bool, get_or, refl, arith, sym, ap, ◌∙◌}
+use Rattle.std.proofs.Common.{◌+◌, ◌^◌, if◌then◌else◌, ℕ, Bool, get_or, refl, arith, sym, ap, ◌∙◌}
 use Rattle.table_core.specs.Columns.{column_cells}
 use Rattle.table_core.specs.declared.cell.Cell.TheVariants.{Null}
 use Rattle.piece_format.specs.Cells.{is_null}
