@@ -1,17 +1,15 @@
--- The zones of rows: after one more row, as a list, and their room for each row.
-use Rattle.std.proofs.Common.{◌≡◌, ◌<◌, ◌≤◌, ◌+◌, ◌*◌, ◌/◌, ℕ, List, [], ◌∷◌, ◌++◌, length, get_or, set, take, sym, ap, subst, ◌∙◌, inl, inr, arith}
-use Rattle.std.specs.Prelude.{All}
-use Rattle.std.proofs.lemmas.Bool.{cases_lt, lt-ltb, le-ltb, cond-true, cond-false}
-use Rattle.std.proofs.lemmas.List.{take_more, take_all, map-append, get_or-set_same, get_or-set_other, get_or-map, length-map, length-take-le, length-drop}
-use Rattle.std.proofs.lemmas.List.Elements.{All-from_get_or}
+-- The zones of a table's columns over a part of its rows: column by column, as a list, and their room for each row.
+use Rattle.std.proofs.Common.{◌≡◌, ◌<◌, ◌≤◌, ◌+◌, ◌-◌, ℕ, List, [], ◌∷◌, ◌++◌, length, get_or, set, take, drop, sym, ap, subst, ◌∙◌, inl, inr, arith}
+use Rattle.std.specs.Prelude.{All, replicate}
+use Rattle.std.proofs.lemmas.Bool.{cases_eq, cases_lt, lt-ltb, le-ltb, cond-true, cond-false}
+use Rattle.std.proofs.lemmas.List.{take_more, take-map, drop-map, ext_get_or, get_or-set_same, get_or-set_other, get_or-drop, get_or-map, get_or-replicate, get_or_past, length-map, length-drop, length-replicate}
+use Rattle.std.proofs.lemmas.List.Elements.{All-from_get_or, All-take, All-drop}
 use Rattle.std.proofs.lemmas.List.FromFn.{fill_by_all, get_or-map-range_with_len}
-use Rattle.table_core.specs.Table.{AreWholeRows, rows_of}
 use Rattle.table_core.specs.declared.cell.Cell.{Cell}
 use Rattle.table_core.specs.declared.cell.Cell.TheVariants.{Null}
-use Rattle.table_core.proofs.Rows.{rows-within, get_or-rows, length-rows}
 use Rattle.filter_zones.specs.declared.zone.Zone.{Zone}
 use Rattle.filter_zones.specs.Truth.{cell_at}
-use Rattle.filter_zones.specs.Zone.{column_of, zone_of, column_zone, zones_of, zone_at, Covers, CoversRow, GainsRow, IsZone}
+use Rattle.filter_zones.specs.Zone.{column_of, part, zone_of, column_zone, zones_of, zone_at, Covers, CoversRow, IsZone}
 use Rattle.filter_zones.proofs.Ranges.{zone_is, all_covered}
 
 zone-in : (columns : ℕ) (rows : List (List Cell)) (x : ℕ) → x < columns → column_zone columns rows x ≡ zone_of (column_of x rows)
@@ -20,19 +18,43 @@ zone-in columns rows x low = cond-true _ (zone_of (column_of x rows)) (zone_of [
 zone-past : (columns : ℕ) (rows : List (List Cell)) (x : ℕ) → columns ≤ x → column_zone columns rows x ≡ zone_of []
 zone-past columns rows x high = cond-false _ (zone_of (column_of x rows)) (zone_of []) (le-ltb x columns high)
 
-column-more : (x : ℕ) (rows : List (List Cell)) (i : ℕ) → i < length rows → column_of x (take (i + 1) rows) ≡ column_of x (take i rows) ++ cell_at (get_or rows i []) x ∷ []
-column-more x rows i low = ap (column_of x) (take_more rows i [] low) ∙ map-append (λ row. cell_at row x) (take i rows) (get_or rows i [] ∷ [])
+-- the cells of a column of a table, and of a part of its rows
+pub column-cells : (cells : List Cell) (rows : List (List Cell)) (x : ℕ) → length cells ≡ length rows → ((row : ℕ) → row < length rows → get_or cells row Null ≡ cell_at (get_or rows row []) x)
+    → cells ≡ column_of x rows
+column-cells cells rows x n each =
+    ext_get_or Null cells (column_of x rows) (n ∙ sym (length-map rows (λ row. cell_at row x)))
+    (λ i low.
+    let there : i < length rows = omega (arith, low, n) in
+    each i there ∙ sym (get_or-map (λ row. cell_at row x) rows i [] Null there))
 
--- the zones of the first rows, and of one more
-pub zones_more : (columns : ℕ) (rows : List (List Cell)) (i : ℕ) (old new : List Zone) → i < length rows → length (get_or rows i []) ≡ columns
-    → ((x : ℕ) → x < 16 → zone_at old x ≡ column_zone columns (take i rows) x) → GainsRow old new (get_or rows i [])
-    → (x : ℕ) → x < 16 → zone_at new x ≡ column_zone columns (take (i + 1) rows) x
-zones_more columns rows i old new low wide stood gains x there = elim (cases_lt x columns) [
-  | inl inside ↦
-      gains.gained x (column_of x (take i rows)) (omega arith) (stood x there ∙ zone-in columns (take i rows) x inside)
-      ∙ ap zone_of (sym (column-more x rows i low)) ∙ sym (zone-in columns (take (i + 1) rows) x inside)
-  | inr past ↦
-      gains.kept x (omega arith) ∙ stood x there ∙ zone-past columns (take i rows) x past ∙ sym (zone-past columns (take (i + 1) rows) x past)
+pub part-column : (cells : List Cell) (rows : List (List Cell)) (x from to : ℕ) → cells ≡ column_of x rows → part from to cells ≡ column_of x (part from to rows)
+part-column cells rows x from to is =
+    let f : List Cell → Cell = λ row. cell_at row x in
+    ap (part from to) is ∙ ap (take (to - from)) (drop-map f from rows) ∙ take-map f (to - from) (drop from rows)
+
+-- one more of a column's cells
+pub part-more : (cells : List Cell) (from row : ℕ) → from ≤ row → row < length cells → part from (row + 1) cells ≡ part from row cells ++ get_or cells row Null ∷ []
+part-more cells from row after low =
+    let n : row + 1 - from ≡ row - from + 1 = omega (arith, after) in
+    let at : from + (row - from) ≡ row = omega (arith, after) in
+    let there : row - from < length (drop from cells) = omega (arith, after, low, length-drop from cells) in
+    rw n (take_more (drop from cells) (row - from) Null there) ∙ ap (λ x. take (row - from) (drop from cells) ++ x ∷ []) (get_or-drop from cells (row - from) Null ∙ ap (λ i. get_or cells i Null) at)
+
+-- the zones of the first columns, and of one more
+pub zones-more : (i : ℕ) (rows : List (List Cell)) (zones : List Zone) (zone : Zone) → i < length zones → ((x : ℕ) → x < 16 → zone_at zones x ≡ column_zone i rows x) → zone ≡ zone_of (column_of i rows)
+    → (x : ℕ) → x < 16 → zone_at (set zones i zone) x ≡ column_zone (i + 1) rows x
+zones-more i rows zones zone room stood is x there = elim (cases_eq x i) [
+  | inl here ↦ ap (zone_at (set zones i zone)) here ∙ get_or-set_same zones i zone (zone_of []) room ∙ is ∙ sym (ap (column_zone (i + 1) rows) here ∙ zone-in (i + 1) rows i (omega arith))
+  | inr other ↦ get_or-set_other zones i x zone (zone_of []) other ∙ stood x there ∙ (elim (cases_lt x i) [
+    | inl before ↦ zone-in i rows x before ∙ sym (zone-in (i + 1) rows x (omega (arith, before)))
+    | inr after ↦ zone-past i rows x after ∙ sym (zone-past (i + 1) rows x (omega (arith, after, other)))
+  ])
+]
+
+pub no-zones : (rows : List (List Cell)) (x : ℕ) → zone_at (replicate 16 (zone_of [])) x ≡ column_zone 0 rows x
+no-zones rows x = elim (cases_lt x 16) [
+  | inl inside ↦ get_or-replicate 16 x (zone_of []) (zone_of []) inside ∙ sym (zone-past 0 rows x (omega arith))
+  | inr past ↦ get_or_past (replicate 16 (zone_of [])) x (zone_of []) (omega (arith, past, length-replicate {A = Zone} 16 (zone_of []))) ∙ sym (zone-past 0 rows x (omega arith))
 ]
 
 -- the zones at each place are the zones as a list
@@ -50,41 +72,17 @@ pub column_is : (columns : ℕ) (rows : List (List Cell)) (zones : List Zone) (x
 column_is columns rows zones x few each low =
     subst (IsZone (column_of x rows)) (sym (each x (omega arith) ∙ zone-in columns rows x low)) (zone_is (column_of x rows))
 
--- each of whole rows has a cell for each column
-pub rows_wide : {T : Type 0} (columns : ℕ) (cells : List T) → AreWholeRows columns cells → All (λ row. length row ≡ columns) (rows_of columns cells)
-rows_wide columns cells whole =
-    All-from_get_or (λ row. length row ≡ columns) (rows_of columns cells) [] (λ i low.
-    let end = rows-within columns cells (i + 1) whole (omega arith) in
-    ap length (get_or-rows columns cells i low) ∙ length-take-le columns _ (omega (arith, end, length-drop (i * columns) cells)))
+-- each row of a part has a cell for each column
+pub part-wide : (columns : ℕ) (rows : List (List Cell)) (from to : ℕ) → All (λ row. length row ≡ columns) rows → All (λ row. length row ≡ columns) (part from to rows)
+part-wide columns rows from to wide = All-take (λ row. length row ≡ columns) (to - from) (drop from rows) (All-drop (λ row. length row ≡ columns) from rows wide)
 
 -- the zones have room for each row
-pub rows_covered : (columns : ℕ) (cells : List Cell) (zones : List Zone) → columns ≤ 16 → AreWholeRows columns cells
-    → ((x : ℕ) → x < 16 → zone_at zones x ≡ column_zone columns (rows_of columns cells) x) → All (CoversRow zones) (rows_of columns cells)
-rows_covered columns cells zones few whole each =
-    let rows = rows_of columns cells in
+pub rows_covered : (columns : ℕ) (rows : List (List Cell)) (zones : List Zone) → columns ≤ 16 → All (λ row. length row ≡ columns) rows
+    → ((x : ℕ) → x < 16 → zone_at zones x ≡ column_zone columns rows x) → All (CoversRow zones) rows
+rows_covered columns rows zones few wide each =
     All-from_get_or (CoversRow zones) rows [] (λ k low x inside.
-    let there : x < columns = omega (arith, rows_wide columns cells whole k [] low) in
+    let there : x < columns = omega (arith, inside, wide k [] low) in
     let column : zone_at zones x ≡ zone_of (column_of x rows) = each x (omega arith) ∙ zone-in columns rows x there in
     let room : Covers (zone_of (column_of x rows)) (get_or (column_of x rows) k Null) = all_covered (column_of x rows) k Null (omega (arith, length-map rows (λ row. cell_at row x))) in
     let cell : get_or (column_of x rows) k Null ≡ cell_at (get_or rows k []) x = get_or-map (λ row. cell_at row x) rows k [] Null low in
     subst (λ (z : Zone). Covers z (cell_at (get_or rows k []) x)) (sym column) (subst (Covers (zone_of (column_of x rows))) cell room))
-
--- after the last row
-pub at_end : (columns : ℕ) (cells : List Cell) (zones : List Zone) (i : ℕ) → length cells / columns ≤ i → ((x : ℕ) → x < 16 → zone_at zones x ≡ column_zone columns (take i (rows_of columns cells)) x)
-    → (x : ℕ) → x < 16 → zone_at zones x ≡ column_zone columns (rows_of columns cells) x
-at_end columns cells zones i done each x low = each x low ∙ ap (λ rows. column_zone columns rows x) (take_all i (rows_of columns cells) (omega (arith, length-rows columns cells)))
-
--- one more cell of a row
-pub gained_more : (old now : List Zone) (row : List Cell) (i : ℕ) (new : Zone) → i < length now
-    → ((x : ℕ) (cells : List Cell) → x < i → zone_at old x ≡ zone_of cells → zone_at now x ≡ zone_of (cells ++ cell_at row x ∷ []))
-    → zone_at now i ≡ zone_at old i
-    → ((cells : List Cell) → zone_at now i ≡ zone_of cells → new ≡ zone_of (cells ++ cell_at row i ∷ []))
-    → (x : ℕ) (cells : List Cell) → x < i + 1 → zone_at old x ≡ zone_of cells → zone_at (set now i new) x ≡ zone_of (cells ++ cell_at row x ∷ [])
-gained_more old now row i new low gained still put x cells inside stood = elim (cases_lt x i) [
-  | inl before ↦ get_or-set_other now i x new (zone_of []) (λ e. omega (arith, e)) ∙ gained x cells before stood
-  | inr late ↦
-      let here : x ≡ i = omega arith in
-      let P : ℕ → Type 0 = λ y. zone_at old y ≡ zone_of cells → zone_at (set now i new) y ≡ zone_of (cells ++ cell_at row y ∷ []) in
-      let at : P i = λ was. get_or-set_same now i new (zone_of []) low ∙ put cells (still ∙ was) in
-      subst P (sym here) at stood
-]

@@ -1,5 +1,5 @@
 -- The zone of a column in a chunk: whether a NULL stands there, and the least and the greatest of its other cells.
-use Rattle.std.specs.Prelude.{◌≡◌, ◌<◌, ◌≤◌, ◌++◌, ℕ, true, false, not, if◌then◌else◌, nat_lt, List, [], ◌∷◌, length, map, filter, fold, Option, Some, None, All, Contains, slice_index_or}
+use Rattle.std.specs.Prelude.{◌≡◌, ◌<◌, ◌-◌, ℕ, true, false, not, if◌then◌else◌, nat_lt, List, [], ◌∷◌, length, map, filter, fold, Option, Some, None, All, Contains, slice_index_or, take, drop}
 use Rattle.std.specs.List.{list_any, range_with_len}
 use Rattle.std.specs.Ordering.{is_gt, is_le}
 use Rattle.table_core.specs.Cell.{cell_cmp}
@@ -7,6 +7,10 @@ use Rattle.table_core.specs.declared.cell.Cell.{Cell}
 use Rattle.table_core.specs.declared.cell.Cell.TheVariants.{Null}
 use Rattle.filter_zones.specs.Truth.{is_null, cell_at}
 use Rattle.filter_zones.specs.declared.zone.Zone.{Zone}
+
+-- the rows from one place up to, not including, another
+abbrev pub part : {T : Type 0} → ℕ → ℕ → List T → List T
+part from to rows = take (to - from) (drop from rows)
 
 -- the cells of a column, from the first row to the last
 abbrev pub column_of : ℕ → List (List Cell) → List Cell
@@ -66,8 +70,3 @@ IsRange vs (Some p) = Contains vs p.0 × Contains vs p.1 × All (λ v. IsWithin 
 pub record IsZone (cells : List Cell) (z : Zone) : Type 0 where
   pub nulls : z.has_null ≡ list_any is_null cells
   pub range : IsRange (values_of cells) z.range
-
--- these zones are the earlier ones after one more row: each zone of its columns has gained the row's cell
-pub record GainsRow (old new : List Zone) (row : List Cell) : Type 0 where
-  pub gained : (x : ℕ) (cells : List Cell) → x < length row → zone_at old x ≡ zone_of cells → zone_at new x ≡ zone_of (cells ++ cell_at row x ∷ [])
-  pub kept : (x : ℕ) → length row ≤ x → zone_at new x ≡ zone_at old x

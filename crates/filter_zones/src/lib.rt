@@ -3,7 +3,7 @@
 //!     let cond = Cond::Compare { column: 0, op: Op::Lt, value: Bound::Number(20) };    // below 10
 //!     let truth = truth_of(&cond, row);                 // False, Unknown or True
 //!     let truths = truths_of(&cond, &block);            // of each of up to 64 rows, a bit of two words
-//!     let zones = zones_of(columns, cells);             // of one chunk, its cells row by row
+//!     let zones = zones_of(&table, from, to);           // of one chunk, the rows from one up to another
 //!     let truths = may_be(&cond, &zones);               // those that a row of the chunk can have
 //!     let chunks = needed(Some(&cond), &all_zones);     // those in which a row may match
 #![tactic(auto)]

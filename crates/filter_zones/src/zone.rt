@@ -1,15 +1,16 @@
 // Zones of columns, and of chunks.
-ghost use Rattle.std.specs.Prelude.{◌≡◌, ◌<◌, ◌≤◌, ◌++◌, ◌∷◌, [], ℕ, List, All, length, slice_index_or};
+ghost use Rattle.std.specs.Prelude.{◌≡◌, ◌<◌, ◌≤◌, ◌-◌, ◌++◌, ◌∷◌, [], ℕ, List, All, length, take, drop};
 ghost use Rattle.std.specs.Ordering.{is_gt};
 ghost use Rattle.table_core.specs.Cell.{cell_cmp};
-ghost use Rattle.table_core.specs.Table.{AreWholeRows, rows_of};
+ghost use Rattle.table_core.specs.Columns.{column_cells};
 ghost use Rattle.table_core.specs.declared.cell.Cell.{Cell};
 ghost use Rattle.filter_zones.specs.declared.cond.Cond.{Cond};
 ghost use Rattle.filter_zones.specs.Truth.{FitsRow};
 ghost use Rattle.filter_zones.specs.Possible.{FitsZones};
 ghost use Rattle.filter_zones.specs.Zone as spec;
+ghost use Rattle.filter_zones.specs.Zone.{part};
 
-use table_core::{Cell, MOST_COLUMNS, cell_order};
+use table_core::{Cell, Cells, MOST_COLUMNS, Table, cell_order};
 
 /// What stands in a column of a chunk.
 #[derive(Clone, Copy, Debug, PartialEq, Eq)]
@@ -71,47 +72,40 @@ fn widened(zone: Zone, cell: Cell) -> Zone
     }
 }
 
-// Puts a row's cells into the zones of their columns.
-fn add_row(zones: &mut [Zone; 16], row: &[Cell])
-    requires { length row.now ≤ MOST_COLUMNS }
-    ensures { spec.GainsRow zones.old zones.new row.now }
+// The zone of a column's cells from one row up to, not including, another.
+fn zone_between(column: &Cells, from: usize, to: usize) -> Zone
+    requires rises { from ≤ to }
+    requires there { to ≤ length (column_cells column.now) }
+    ensures { result ≡ spec.zone_of (take (to - from) (drop from (column_cells column.now))) }
 {
-    for (column, cell) in row.iter().enumerate() {
-        zones[column] = widened(zones[column], *cell);
+    let mut zone = NOTHING;
+    for row in from..to {
+        zone = widened(zone, column.get(row));
     }
+    zone
 }
 
-// One row of cells that stand row by row.
-fn row_at(cells: &[Cell], width: usize, row: usize) -> &[Cell]
-    requires whole { AreWholeRows width cells.now }
-    requires there { row < length (rows_of width cells.now) }
-    ensures row { result.now ≡ slice_index_or (rows_of width cells.now) row [] }
-    ensures width { length result.now ≡ width }
-{
-    let from = row * width;
-    &cells[from..from + width]
-}
-
-/// The zone of each column of a chunk, from the chunk's cells row by row.
+/// The zone of each column of a chunk: of the rows of a table from one place up to, not including, another.
 ///
-/// There are 1 to `MOST_COLUMNS` columns, and the cells are whole rows; without rows nothing stands in any column. The
-/// zones have room for each row. Where there is a row, a condition that fits each of the rows fits the zones; without
-/// rows no clause says which conditions fit.
-pub fn zones_of(columns: u32, cells: &[Cell]) -> ChunkZones
-    requires some { 1 ≤ columns }
-    requires few { columns ≤ MOST_COLUMNS }
-    requires whole { AreWholeRows columns cells.now }
-    ensures zones { result.zones ≡ spec.zones_of columns (rows_of columns cells.now) }
-    ensures of_columns { let rows = rows_of columns cells.now in
-        (x : ℕ) → x < columns → spec.IsZone (spec.column_of x rows) (spec.zone_at result.zones x) }
-    ensures covers { All (spec.CoversRow result.zones) (rows_of columns cells.now) }
-    ensures fits { let rows = rows_of columns cells.now in
+/// There are 1 to `MOST_COLUMNS` columns; without rows nothing stands in any column. The zones have room for each row.
+/// Where there is a row, a condition that fits each of the rows fits the zones; without rows no clause says which
+/// conditions fit.
+pub fn zones_of(table: &Table, from: usize, to: usize) -> ChunkZones
+    requires some { 1 ≤ length table.now.columns }
+    requires few { length table.now.columns ≤ MOST_COLUMNS }
+    requires rises { from ≤ to }
+    requires there { to ≤ length table.now.rows }
+    ensures zones { result.zones ≡ spec.zones_of (length table.now.columns) (part from to table.now.rows) }
+    ensures of_columns { let rows = part from to table.now.rows in
+        (x : ℕ) → x < length table.now.columns → spec.IsZone (spec.column_of x rows) (spec.zone_at result.zones x) }
+    ensures covers { All (spec.CoversRow result.zones) (part from to table.now.rows) }
+    ensures fits { let rows = part from to table.now.rows in
         (c : Cond) → 0 < length rows → All (FitsRow c) rows → FitsZones c result.zones }
 {
-    let width = columns as usize;
+    table.rows_are_whole();
     let mut zones = [NOTHING; 16];
-    for row in 0..cells.len() / width {
-        add_row(&mut zones, row_at(cells, width, row));
+    for column in 0..table.schema().len() {
+        zones[column] = zone_between(table.column(column), from, to);
     }
     ChunkZones { zones }
 }

@@ -1,39 +1,48 @@
-use Rattle.std.proofs.Common.{◌≡◌, ◌<◌, ℕ, length, sym, subst, ap, ◌∙◌, arith}
-use Rattle.table_core.specs.Table.{rows_of}
-use Rattle.table_core.proofs.Rows.{length-rows}
-use Rattle.filter_zones.specs.Zone.{GainsRow, zone_at, column_zone, column_of, IsZone}
+use Rattle.std.proofs.Common.{◌≡◌, ◌<◌, ℕ, length, ap, ◌∙◌, arith, length-set, refl}
+use Rattle.table_core.specs.Columns.{column_cells}
+use Rattle.filter_zones.specs.Zone.{column_of, column_zone, part, zone_at, zone_of, IsZone}
 use Rattle.filter_zones.proofs.Fitting.{fits_zones}
-use Rattle.filter_zones.proofs.Rows.{rows_wide, zones_more, zones_are, column_is, rows_covered, at_end}
+use Rattle.filter_zones.proofs.Rows.{column-cells, part-column, part-wide, zones-more, no-zones, zones_are, column_is, rows_covered}
 use Rattle.filter_zones.proofs.zone.zones_of.Goals as goal
 
-pub row_at-requires-clause-there : goal.row_at-requires-clause-there
-row_at-requires-clause-there c = omega (arith, length-rows c.args.columns c.args.cells.now)
+pub loop-column-init : goal.loop-column-init
+loop-column-init c = record { sixteen = refl; stands = λ x low. no-zones (part c.args.from c.args.to c.args.table.now.rows) x }
 
-pub loop-row-preserved : goal.loop-row-preserved
-loop-row-preserved c =
-    let rows = rows_of c.args.columns c.args.cells.now in
-    let low : c.loop-row.row < length rows = omega (arith, length-rows c.args.columns c.args.cells.now) in
-    let wide = ap length (sym c.row_at.ensures.row) ∙ c.row_at.ensures.width in
-    let gains = subst (GainsRow c.loop-row.zones c.add_row.new.zones) c.row_at.ensures.row c.add_row.ensures in
+pub loop-column-preserved : goal.loop-column-preserved
+loop-column-preserved c =
+    let rows = c.args.table.now.rows in
+    let x = c.loop-column.column in
+    let cells = column_cells c.column.result.now in
+    let zones = c.loop-column.zones in
+    let column = column-cells cells rows x c.column.ensures.len c.column.ensures.cells in
+    let zone = c.zone_between.ensures ∙ ap zone_of (part-column cells rows x c.args.from c.args.to column) in
     record {
-      sixteen = c.add_row.array_long;
-      stands = zones_more c.args.columns rows c.loop-row.row c.loop-row.zones c.add_row.new.zones low wide c.loop-row.invariant.stands gains;
+      sixteen = length-set zones x c.zone_between.result ∙ c.loop-column.invariant.sixteen;
+      stands = zones-more x (part c.args.from c.args.to rows) zones c.zone_between.result (omega (arith, c.loop-column.invariant.sixteen, c.requires.few, c.loop-column-test.true, c.len-column-end.ensures, ap length c.schema.ensures)) c.loop-column.invariant.stands zone;
     }
 
-stands : (c : goal.After-loop-row) → (x : ℕ) → x < 16 → zone_at c.loop-row.zones x ≡ column_zone c.args.columns (rows_of c.args.columns c.args.cells.now) x
-stands c = at_end c.args.columns c.args.cells.now c.loop-row.zones c.loop-row.row c.loop-row-test.false c.loop-row.invariant.stands
+stands : (c : goal.After-loop-column) → (x : ℕ) → x < 16 → zone_at c.loop-column.zones x ≡ column_zone (length c.args.table.now.columns) (part c.args.from c.args.to c.args.table.now.rows) x
+stands c =
+    let rows = part c.args.from c.args.to c.args.table.now.rows in
+    let all : c.loop-column.column ≡ length c.args.table.now.columns =
+    omega (arith, c.loop-column-test.false, c.loop-column.auto.column-end, c.len-column-end.ensures, ap length c.schema.ensures) in
+    λ x low. c.loop-column.invariant.stands x low ∙ ap (λ n. column_zone n rows x) all
 
 pub returns-clause-zones : goal.returns-clause-zones
-returns-clause-zones c = zones_are c.args.columns (rows_of c.args.columns c.args.cells.now) c.loop-row.zones c.loop-row.invariant.sixteen (stands c)
+returns-clause-zones c = zones_are (length c.args.table.now.columns) (part c.args.from c.args.to c.args.table.now.rows) c.loop-column.zones c.loop-column.invariant.sixteen (stands c)
 
 pub returns-clause-of_columns : goal.returns-clause-of_columns
-returns-clause-of_columns c = λ x low. column_is c.args.columns (rows_of c.args.columns c.args.cells.now) c.loop-row.zones x c.requires.few (stands c) low
+returns-clause-of_columns c = λ x low. column_is (length c.args.table.now.columns) (part c.args.from c.args.to c.args.table.now.rows) c.loop-column.zones x c.requires.few (stands c) low
 
 pub returns-clause-covers : goal.returns-clause-covers
-returns-clause-covers c = rows_covered c.args.columns c.args.cells.now c.loop-row.zones c.requires.few c.requires.whole (stands c)
+returns-clause-covers c =
+    let columns = length c.args.table.now.columns in
+    let rows = c.args.table.now.rows in
+    rows_covered columns (part c.args.from c.args.to rows) c.loop-column.zones c.requires.few (part-wide columns rows c.args.from c.args.to c.rows_are_whole.ensures) (stands c)
 
 pub returns-clause-fits : goal.returns-clause-fits
 returns-clause-fits c = λ cond some all.
-    let rows = rows_of c.args.columns c.args.cells.now in
-    let zoned : (x : ℕ) → x < c.args.columns → IsZone (column_of x rows) (zone_at c.loop-row.zones x) = λ x low. column_is c.args.columns rows c.loop-row.zones x c.requires.few (stands c) low in
-    fits_zones c.args.columns rows c.loop-row.zones c.loop-row.invariant.sixteen c.requires.few some (rows_wide c.args.columns c.args.cells.now c.requires.whole) zoned cond all
+    let columns = length c.args.table.now.columns in
+    let rows = part c.args.from c.args.to c.args.table.now.rows in
+    let zoned : (x : ℕ) → x < columns → IsZone (column_of x rows) (zone_at c.loop-column.zones x) = λ x low. column_is columns rows c.loop-column.zones x c.requires.few (stands c) low in
+    fits_zones columns rows c.loop-column.zones c.loop-column.invariant.sixteen c.requires.few some (part-wide columns c.args.table.now.rows c.args.from c.args.to c.rows_are_whole.ensures) zoned cond all
