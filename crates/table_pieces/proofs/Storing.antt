@@ -6,7 +6,7 @@ use Rattle.std.specs.BTreeMap.{insert_entry}
 use Rattle.std.specs.Ordering.{match_ordering, nat_cmp}
 use Rattle.std.specs.declared.cmp.Ordering.{Ordering}
 use Rattle.std.specs.declared.cmp.Ordering.TheVariants.{Less, Equal, Greater}
-use Rattle.coop_outside.specs.Pieces.{Pieces, Stored, bytes_of, with_piece}
+use Rattle.coop_outside.specs.Pieces.{OthersStay, Pieces, Stored, bytes_of, with_piece}
 use Rattle.piece_format.specs.Shape.{TableShape}
 use Rattle.table_core.specs.declared.cell.Cell.{Cell}
 use Rattle.table_pieces.specs.Putting.{ArePut, piece_bytes}
@@ -47,3 +47,15 @@ module _ (s : TableShape) (rows : List (List Cell)) where
           ];
           kept = λ p from. bytes_of-insert now n bytes p ∙ rw (ne_eqb n p (λ same. omega (arith, from, same))) (are.kept p (omega (arith, from)));
         }
+
+  -- a piece was not taken
+  pub put_failed : (n : ℕ) (old now new : Stored) → ArePut s rows n n old now → OthersStay now new n → ArePut s rows n (n + 1) old new
+  put_failed n None None None are stay = tt
+  put_failed n None None (Some new) are stay = absurd stay
+  put_failed n None (Some now) new are stay = absurd are
+  put_failed n (Some old) None new are stay = absurd are
+  put_failed n (Some old) (Some now) None are stay = absurd stay
+  put_failed n (Some old) (Some now) (Some new) are stay = record {
+    put = λ p low. stay p (λ e. omega (arith, e, low)) ∙ are.put p low;
+    kept = λ p from. stay p (λ e. omega (arith, e, from)) ∙ are.kept p (omega (arith, from));
+  }

@@ -1,5 +1,5 @@
 // The pieces of a table, put into a depot.
-ghost use Rattle.std.specs.Prelude.{◌≡◌, ◌≢◌, ◌<◌, ◌≤◌, ◌+◌, ◌*◌, IfErr, IfOk, OnOk, OnErr, length};
+ghost use Rattle.std.specs.Prelude.{◌≡◌, ◌≢◌, ◌<◌, ◌≤◌, ◌+◌, ◌*◌, IfErr, OnOk, OnErr, length};
 ghost use Rattle.coop_outside.specs.Pieces.{with_piece};
 ghost use Rattle.piece_format.specs.Broken.{NoneBroken};
 ghost use Rattle.piece_format.specs.Bytes.{word_of};
@@ -11,16 +11,22 @@ ghost use Rattle.table_pieces.specs.Putting.{ArePut, AreLong, AreSound, GiveBack
 use crate::refusal::BatchRefusal;
 use crate::shaping::chunks_of;
 use coop_outside::{Depot, DepotFault};
-use piece_format::{Shape, encode, groups, words_to_bytes};
+use piece_format::{Shape, encode_into, groups, words_into_bytes};
 use std::alloc::Global;
-use table_core::{Bytes, Memory, Table};
+use table_core::{Memory, Table};
 
-// The bytes of a piece. Its words are let go.
-fn bytes_of_piece(alloc: Global, shape: &Shape, table: &Table, piece: u32) -> Result<Bytes, Memory>
+// The bytes of a piece, in place of those that stood there; its words likewise.
+fn bytes_of_piece(
+    words: &mut Vec<u64>,
+    bytes: &mut Vec<u8>,
+    shape: &Shape,
+    table: &Table,
+    piece: u32,
+) -> Result<(), Memory>
     requires shape { IsShape shape.now }
     requires table { IsTableOf shape.now table.now }
     requires there { piece < pieces shape.now }
-    ensures bytes { IfOk result (λ b. b ≡ piece_bytes shape.now table.now.rows piece) }
+    ensures bytes { OnOk result (bytes.new.items ≡ piece_bytes shape.now table.now.rows piece) }
     ensures len { OnOk result (length (piece_bytes shape.now table.now.rows piece)
         ≡ 8 * words_in (piece_at shape.now piece)) }
     ensures words { OnOk result (ReadsBack shape.now table.now.rows piece) }
@@ -29,8 +35,9 @@ fn bytes_of_piece(alloc: Global, shape: &Shape, table: &Table, piece: u32) -> Re
     ensures sound { OnOk result (let q = piece_at shape.now piece in NoneBroken shape.now q
         (word_of (piece_bytes shape.now table.now.rows piece)) (words_in q)) }
 {
-    let words = encode(alloc, shape, table, piece)?;
-    words_to_bytes(alloc, words.as_slice())
+    encode_into(words, shape, table, piece)?;
+    words_into_bytes(words.as_slice(), bytes)?;
+    Ok(())
 }
 
 /// Puts each piece of a table into a depot, by rising piece.
@@ -58,8 +65,10 @@ pub fn put_pieces<D: Depot>(
     ensures gets { D.gets depot.new ≡ D.gets depot.old }
     ensures later { D.faults depot.old ≤ D.faults depot.new }
 {
+    let mut words = Vec::new(alloc);
+    let mut bytes = Vec::new(alloc);
     for piece in 0..chunks_of(shape) * groups(shape) {
-        let bytes = bytes_of_piece(alloc, shape, table, piece)?;
+        bytes_of_piece(&mut words, &mut bytes, shape, table, piece)?;
         match depot.put(piece, bytes.as_slice()) {
             Ok(()) => {}
             Err(DepotFault::Failed) => return Err(BatchRefusal::Put { piece }),

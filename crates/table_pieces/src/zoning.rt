@@ -27,8 +27,7 @@ fn zones_of_chunk(shape: &Shape, table: &Table, chunk: u32) -> ChunkZones
         → FitsZones c result.zones }
 {
     let (from, to) = chunk_span(shape.rows, shape.per, chunk);
-    let cells = table.rows(from as usize, to as usize);
-    zones_of(table.schema().len() as u32, cells)
+    zones_of(table, from as usize, to as usize)
 }
 
 /// The zones of each chunk of a table, from the first chunk to the last.

@@ -1,15 +1,15 @@
 // What no contract says: that calls succeed with ample memory, and that the definitions mean what people expect.
 ghost use Rattle.std.specs.Prelude.{◌≤◌};
 ghost use Rattle.std.specs.Bool.{OnTrue};
-ghost use Rattle.table_core.specs.Table.{AreWholeRows};
+ghost use Rattle.table_core.specs.Columns.{AreColumnsOf};
 ghost use Rattle.table_core.specs.Value.{IsCellOf, places_of};
 
 use std::alloc::{AllocError, Global};
 use std::process::Abort;
 use std::test::Fail;
 use table_core::{
-    Bytes, Cell, ChunkSet, Column, ColumnSet, Dict, Kind, MOST_CHUNKS, Schema, Table, Texts,
-    chunk_count, chunk_span, places_of_kind, write_quoted, write_value,
+    Bytes, Cell, Cells, ChunkSet, Codes, Column, ColumnSet, Dict, Kind, MOST_CHUNKS, Numbers, Schema, Table,
+    Texts, chunk_count, chunk_span, places_of_kind, write_quoted, write_value,
 };
 
 fn bytes_of(alloc: Global, text: &[u8]) -> Result<Bytes, AllocError> {
@@ -62,48 +62,100 @@ fn columns_of_two(alloc: Global) -> Result<Vec<Column>, AllocError> {
     Ok(vec![in alloc; id, p]?)
 }
 
-// Whether the cells are whole rows.
-fn are_whole_rows(width: usize, cells: &[Cell]) -> bool
-    ensures { OnTrue result (AreWholeRows width cells.now) }
+// Whether there are so many columns, at least one, each so long.
+fn are_columns(width: usize, rows: usize, columns: &[Cells]) -> bool
+    ensures { OnTrue result (AreColumnsOf width rows columns.now) }
 {
-    width > 0 && cells.len() % width == 0
+    if width == 0 || columns.len() != width {
+        return false;
+    }
+    for column in columns {
+        if column.len() != rows {
+            return false;
+        }
+    }
+    true
 }
 
-fn table_of(rt: &impl Abort, alloc: Global, cells: &[Cell]) -> Result<Table, AllocError> {
+fn numbers_of(alloc: Global, values: &[Option<i64>]) -> Result<Numbers, AllocError> {
+    let mut numbers = Numbers::new(alloc);
+    for value in values {
+        numbers.push(*value)?;
+    }
+    Ok(numbers)
+}
+
+// The table of three rows of two columns.
+fn table_of_three(rt: &impl Abort, alloc: Global) -> Result<Table, AllocError> {
+    let ids = numbers_of(alloc, &[Some(1), Some(2), Some(3)])?;
+    let prices = numbers_of(alloc, &[Some(150), None, Some(-25)])?;
+    let cells = vec![in alloc; Cells::Numbers(ids), Cells::Numbers(prices)]?;
     let columns = columns_of_two(alloc)?;
-    let cells = Vec::from_slice(alloc, cells)?;
-    assert!(rt; are_whole_rows(columns.len(), cells.as_slice()));
-    Ok(Table::new(Schema::new(columns), cells))
+    assert!(rt; are_columns(columns.len(), 3, cells.as_slice()));
+    Ok(Table::new(Schema::new(columns), cells, 3))
 }
 
-// Whether the row of this number has these cells.
-fn has_row(table: &Table, row: usize, cells: &[Cell]) -> bool {
-    row < table.len() && table.row(row) == cells
+// Whether the row of this number has these cells, read one by one and together.
+fn has_row(table: &Table, row: usize, cells: &[Cell; 2]) -> bool {
+    if row >= table.len() || table.schema().len() != 2 {
+        return false;
+    }
+    let mut read = [Cell::Null; 2];
+    table.row(row, &mut read);
+    read == *cells && table.cell(row, 0) == cells[0] && table.cell(row, 1) == cells[1]
 }
-
-// Whether the rows from one place up to another have these cells.
-fn has_rows(table: &Table, from: usize, to: usize, cells: &[Cell]) -> bool {
-    from <= to && to <= table.len() && table.rows(from, to) == cells
-}
-
-// Three rows of two columns.
-const CELLS: &[Cell] = &[
-    Cell::Int(1),
-    Cell::Int(150),
-    Cell::Int(2),
-    Cell::Null,
-    Cell::Int(3),
-    Cell::Int(-25),
-];
 
 #[test]
 fn a_table_gives_its_rows(rt: HostRuntime) -> Result<(), Fail> {
-    let table = table_of(&rt, rt.alloc(), CELLS)?;
+    let table = table_of_three(&rt, rt.alloc())?;
     assert!(rt; table.len() == 3 && table.schema().len() == 2);
+    assert!(rt; has_row(&table, 0, &[Cell::Int(1), Cell::Int(150)]));
     assert!(rt; has_row(&table, 1, &[Cell::Int(2), Cell::Null]));
-    let last = [Cell::Int(2), Cell::Null, Cell::Int(3), Cell::Int(-25)];
-    assert!(rt; has_rows(&table, 1, 3, &last));
-    assert!(rt; has_rows(&table, 3, 3, &[]));
+    assert!(rt; has_row(&table, 2, &[Cell::Int(3), Cell::Int(-25)]));
+    Ok(())
+}
+
+// Whether there is a number at this place, which is then the place's number.
+fn has_number(numbers: &Numbers, place: usize, there: bool) -> bool {
+    if place >= numbers.len() || numbers.is_none(place) == there {
+        return false;
+    }
+    match numbers.get(place) {
+        None => !there && numbers.or_zero(place) == 0,
+        Some(number) => there && number == place as i64 && numbers.or_zero(place) == number,
+    }
+}
+
+// Each third of 200 places has none, so that null bits stand in four words.
+#[test]
+fn numbers_and_none_by_place(rt: HostRuntime) -> Result<(), Fail> {
+    let mut numbers = Numbers::new(rt.alloc());
+    for place in 0..200 {
+        numbers.push(if place % 3 == 0 { None } else { Some(place) })?;
+    }
+    assert!(rt; numbers.len() == 200);
+    for place in 0..200 {
+        assert!(rt; has_number(&numbers, place, place % 3 != 0), "{place}");
+    }
+    Ok(())
+}
+
+// Whether the code at this place is this one.
+fn has_code(codes: &Codes, place: usize, code: Option<u32>) -> bool {
+    place < codes.len() && codes.get(place) == code
+}
+
+#[test]
+fn codes_and_none_by_place(rt: HostRuntime) -> Result<(), Fail> {
+    let mut codes = Codes::new(rt.alloc());
+    codes.push(Some(4294967294))?;
+    codes.push(None)?;
+    codes.push(Some(0))?;
+    assert!(rt; codes.len() == 3);
+    codes.set(2, None);
+    codes.set(1, Some(7));
+    assert!(rt; has_code(&codes, 0, Some(4294967294)));
+    assert!(rt; has_code(&codes, 1, Some(7)) && has_code(&codes, 2, None));
     Ok(())
 }
 
