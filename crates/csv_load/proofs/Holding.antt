@@ -64,7 +64,7 @@ to-all p (y ∷ ys) all =
     let parts = and_parts (p y) (list_all p ys) all in
     All-cons (λ (x : List ℕ). p x ≡ true) y ys parts.0 (to-all p ys parts.1)
 
-all-of : (p : List ℕ → Bool) (xs : List (List ℕ)) (x : List ℕ) → list_all p xs ≡ true → Contains xs x → p x ≡ true
+pub all-of : (p : List ℕ → Bool) (xs : List (List ℕ)) (x : List ℕ) → list_all p xs ≡ true → Contains xs x → p x ≡ true
 all-of p xs x all found = All-contains (λ (x : List ℕ). p x ≡ true) xs x (to-all p xs all) found
 
 pub from-all : (p : List ℕ → Bool) (xs : List (List ℕ)) → All (λ x. p x ≡ true) xs → list_all p xs ≡ true
@@ -85,10 +85,10 @@ each-above (y ∷ ys) =
     All-cons (λ (x : List ℕ). places_in (number_read x) ≤ top) y ys (omega arith)
     (All-weaker (λ (x : List ℕ). places_in (number_read x) ≤ most_places ys) (λ (x : List ℕ). places_in (number_read x) ≤ top) (λ x low. omega (arith, low)) ys (each-above ys))
 
-most-above : (xs : List (List ℕ)) (x : List ℕ) → Contains xs x → places_in (number_read x) ≤ most_places xs
+pub most-above : (xs : List (List ℕ)) (x : List ℕ) → Contains xs x → places_in (number_read x) ≤ most_places xs
 most-above xs x found = All-contains (λ (x : List ℕ). places_in (number_read x) ≤ most_places xs) xs x (each-above xs) found
 
-most-within : (xs : List (List ℕ)) (top : ℕ) → All (λ x. places_in (number_read x) ≤ top) xs → most_places xs ≤ top
+pub most-within : (xs : List (List ℕ)) (top : ℕ) → All (λ x. places_in (number_read x) ≤ top) xs → most_places xs ≤ top
 most-within [] top all = omega arith
 most-within (y ∷ ys) top all = omega (arith, All-head (λ x. places_in (number_read x) ≤ top) y ys all, most-within ys top (All-tail (λ x. places_in (number_read x) ≤ top) y ys all))
 

@@ -1,10 +1,11 @@
+pub mod Alike
 pub mod Assembled
-pub mod Begun
+pub mod Keeping
 pub mod Finishing
 pub mod Rowwise
-pub mod Settles
 pub mod Sounds
 pub mod Spelled
+pub mod Typing
 pub mod Left
 pub mod Judging
 pub mod Few

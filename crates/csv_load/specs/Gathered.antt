@@ -1,88 +1,81 @@
--- Fields that were read: for each column its texts, and for each field a cell, which has its number or the place of its text.
-use Rattle.std.specs.Prelude.{◌≡◌, ◌≢◌, ◌+◌, ◌*◌, ◌%◌, ◌<◌, ◌≤◌, ◌++◌, ◌⊎◌, ℕ, List, [], ◌∷◌, length, slice_index_or, All, Contains, Option, Some, None, ℤ, false}
-use Rattle.csv_load.specs.Kinds.{value_as}
+-- The fields of a column as they are kept: numbers that are spelled alike, or the places of texts.
+use Rattle.std.specs.Prelude.{◌≡◌, ◌≢◌, ◌<◌, ◌≤◌, ◌++◌, ℕ, zero, suc, ℤ, List, [], ◌∷◌, length, map, slice_index_or, All, Contains, Option, Some, None, IfSome, is_some, true, false, Vec}
 use Rattle.csv_load.specs.Number.{number_read}
-use Rattle.csv_load.specs.declared.number.Number.{Number}
-use Rattle.csv_load.specs.Meaning.{column_at}
 use Rattle.csv_load.specs.Judged.{Fields}
-use Rattle.table_core.specs.Value.{FitsColumn, value_in}
-use Rattle.table_core.specs.declared.cell.Cell.{Cell}
-use Rattle.table_core.specs.declared.cell.Cell.TheVariants.{Null, Int, Code}
+use Rattle.csv_load.specs.Ranks.{stands_for}
+use Rattle.std.specs.Global.{Global}
+use Rattle.csv_load.specs.Seen.{AreSound}
+use Rattle.csv_load.specs.declared.number.Number.{Number}
+use Rattle.table_core.specs.Value.{number_text}
+use Rattle.table_core.specs.declared.limits.TheConstants.{MOST_PLACES}
 use Rattle.table_core.specs.declared.schema.Kind.{Kind}
+use Rattle.table_core.specs.declared.schema.Kind.TheVariants.{Int, Dec}
+use Rattle.csv_load.specs.Meaning.{column_at}
 
--- a whole number as a field spells it
-abbrev pub whole : ℤ → Number
-whole n = record { value = n; places = 0; zero_below = false }
+-- ---- numbers
 
--- the cell stands for the field: it is the number that the field spells, has the place of its text, or no value for an
--- empty field
-abbrev pub Stands : Fields → Cell → List ℕ → Type 0
-Stands texts Null field = field ≡ []
-Stands texts (Int n) field = number_read field ≡ Some (whole n)
-Stands texts (Code c) field = (c < length texts) × (slice_index_or texts c [] ≡ field)
+-- a number as a field spells it with so many places
+abbrev pub with_places : ℕ → ℤ → Number
+with_places places n = record { value = n; places = places; zero_below = false }
 
--- the field has a cell over the texts, among which it was put at the end if need be
-pub record IsPut (old : Fields) (field : List ℕ) (new : Fields) (cell : Cell) : Type 0 where
-  pub grown : (new ≡ old) ⊎ ((new ≡ old ++ field ∷ []) × (field ≢ []))
-  pub stands : Stands new cell field
+-- the field of a number with so many places; no number is an empty field
+abbrev pub spelled : ℕ → Option ℤ → List ℕ
+spelled places None = []
+spelled places (Some n) = number_text places n
 
--- the cell is no number where the column has texts
-abbrev pub IsSettled : Fields → Cell → Type 0
-IsSettled texts Null = Unit {0}
-IsSettled texts (Int n) = texts ≡ []
-IsSettled texts (Code c) = Unit {0}
+-- the places of the numbers so far, where there are numbers
+abbrev pub places_or_none : Option ℕ → ℕ
+places_or_none None = 0
+places_or_none (Some places) = places
+
+-- the fields of these numbers
+abbrev pub number_fields : Option ℕ → List (Option ℤ) → Fields
+number_fields places numbers = map (spelled (places_or_none places)) numbers
+
+-- a number with places may follow those before it
+abbrev pub Follows : Option ℕ → ℕ → Type 0
+Follows None places = Unit {0}
+Follows (Some before) places = before ≡ places
+
+-- some of the numbers are there, and each is read back from its field
+pub record AreSpelled (places : ℕ) (numbers : List (Option ℤ)) : Type 0 where
+  pub few : places ≤ MOST_PLACES
+  pub begun : (k : ℕ) × (k < length numbers) × (is_some (slice_index_or numbers k None) ≡ true)
+  pub read : All (λ o. IfSome o (λ n. number_read (number_text places n) ≡ Some (with_places places n))) numbers
+
+abbrev pub AreNumbers : Option ℕ → List (Option ℤ) → Type 0
+AreNumbers None numbers = All (λ o. o ≡ None) numbers
+AreNumbers (Some places) numbers = AreSpelled places numbers
+
+-- the kind of a column of numbers that all have so many places
+abbrev pub kind_with : Option ℕ → Kind
+kind_with None = Int
+kind_with (Some zero) = Int
+kind_with (Some (suc places)) = Dec (suc places)
+
+-- ---- texts
+
+-- each text is that of a field, and each place is a text's
+pub record ArePlaced (texts : Fields) (places : List (Option ℕ)) : Type 0 where
+  pub few : length texts ≤ 4294967295
+  pub filled : All (λ t. t ≢ []) texts
+  pub inside : All (λ o. IfSome o (λ c. c < length texts)) places
+  pub named : All (Contains (map (stands_for texts) places)) texts
+
+-- the same with a look-up of texts
+pub record AreKept (texts : Fields) (places : List (Option ℕ)) (entries : List (Vec ℕ Global × ℕ)) : Type 0 where
+  pub sound : AreSound texts entries
+  pub placed : ArePlaced texts places
+
+-- ---- columns side by side
 
 -- the fields of a row were put at the end, each in its column
-pub record RowPut (old : List Fields) (cells : List Cell) (row : Fields) (new : List Fields) (more : List Cell) : Type 0 where
+pub record RowPut (old : List Fields) (row : Fields) (new : List Fields) : Type 0 where
   pub width : length new ≡ length old
-  pub size : length more ≡ length cells + length old
-  pub before : (i : ℕ) → i < length cells → slice_index_or more i Null ≡ slice_index_or cells i Null
-  pub put : (k : ℕ) → k < length old → IsPut (slice_index_or old k []) (slice_index_or row k []) (slice_index_or new k []) (slice_index_or more (length cells + k) Null)
-  pub settled : (k : ℕ) → k < length old → IsSettled (slice_index_or new k []) (slice_index_or more (length cells + k) Null)
+  pub put : (k : ℕ) → k < length old → slice_index_or new k [] ≡ slice_index_or old k [] ++ slice_index_or row k [] ∷ []
 
--- no column has its first text
-abbrev pub NoneBegun : List Fields → List Fields → Type 0
-NoneBegun old new = (k : ℕ) → k < length old → slice_index_or old k [] ≡ [] → slice_index_or new k [] ≡ []
-
--- the rows so far, each field with its cell, and no text that is empty or no field of its column
-pub record AreRead (rows : List Fields) (width : ℕ) (columns : List Fields) (cells : List Cell) : Type 0 where
+-- the fields of rows that are so wide, column by column
+pub record AreGathered (rows : List Fields) (width : ℕ) (columns : List Fields) : Type 0 where
   pub width_is : length columns ≡ width
-  pub size : length cells ≡ length rows * width
   pub widths : All (λ row. length row ≡ width) rows
-  pub stands : (r k : ℕ) → r < length rows → k < width
-      → Stands (slice_index_or columns k []) (slice_index_or cells (r * width + k) Null) (slice_index_or (slice_index_or rows r []) k [])
-  pub named : (k : ℕ) → k < width → All (λ t. (t ≢ []) × Contains (column_at k rows) t) (slice_index_or columns k [])
-
--- the rows that were read, and in no column are texts beside numbers
-pub record AreSettled (rows : List Fields) (width : ℕ) (columns : List Fields) (cells : List Cell) : Type 0 where
-  pub read : AreRead rows width columns cells
-  pub settled : (i : ℕ) → i < length cells → IsSettled (slice_index_or columns (i % width) []) (slice_index_or cells i Null)
-
--- up to a place, the numbers of columns with texts have become texts, and no field has changed; no column has its first
--- text by this
-pub record IsSettling (old : List Fields) (cells : List Cell) (place : ℕ) (new : List Fields) (more : List Cell) : Type 0 where
-  pub width : length new ≡ length old
-  pub size : length more ≡ length cells
-  pub read : (rows : List Fields) → AreRead rows (length old) old cells → AreRead rows (length old) new more
-  pub settled : (i : ℕ) → i < place → IsSettled (slice_index_or new (i % length old) []) (slice_index_or more i Null)
-  pub after : (i : ℕ) → place ≤ i → slice_index_or more i Null ≡ slice_index_or cells i Null
-  pub still : NoneBegun old new
-
--- the cell is no number
-abbrev pub IsNoNumber : Cell → Type 0
-IsNoNumber Null = Unit {0}
-IsNoNumber (Int n) = ⊥
-IsNoNumber (Code c) = Unit {0}
-
--- the cell is what the field is worth in a column of this kind and dictionary
-pub record IsCell (kind : Kind) (dict : Fields) (field : List ℕ) (cell : Cell) : Type 0 where
-  pub value : value_in dict cell ≡ value_as kind field
-  pub fits : FitsColumn kind dict cell
-
--- the code of the text at a place, where it has one
-abbrev pub code_cell : Option ℕ → Cell
-code_cell None = Null
-code_cell (Some c) = Code c
-
-abbrev pub code_at : List (Option ℕ) → ℕ → Cell
-code_at codes place = code_cell (slice_index_or codes place None)
+  pub gathered : (k : ℕ) → k < width → slice_index_or columns k [] ≡ column_at k rows

@@ -1,6 +1,7 @@
 pub mod Finished
 pub mod Fronts
 pub mod Gathered
+pub mod Kept
 pub mod Loaded
 pub mod Meaning
 pub mod Reading

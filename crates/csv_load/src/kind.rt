@@ -1,14 +1,14 @@
 // The kind of a column, and the cells of its numbers.
-ghost use Rattle.std.specs.Prelude.{◌≡◌, ◌≢◌, ◌≤◌, ◌^◌, List, ℕ, false, true, pos, length, IfSome, MatchOption, Some};
+ghost use Rattle.std.specs.Prelude.{◌≡◌, ◌≢◌, ◌≤◌, ◌^◌, List, ℕ, false, true, pos, MatchOption};
 ghost use Rattle.std.specs.List.{list_all};
 ghost use Rattle.csv_load.specs.Number.{fits_i64, number_read};
-ghost use Rattle.csv_load.specs.Gathered.{whole};
 ghost use Rattle.csv_load.specs.Kinds.{fits_places, is_decimal, is_of, is_plain, is_whole, kind_of, most_places, places_in, scaled, value_as};
+ghost use Rattle.table_core.specs.Columns.{number_cell};
 ghost use Rattle.table_core.specs.Value.{FitsColumn, places_of, value_in};
 ghost use Rattle.table_core.specs.declared.schema.Kind.TheVariants.{Text};
 
 use crate::number::{Number, number_of};
-use table_core::{Cell, Kind, MOST_PLACES, Texts, places_of_kind};
+use table_core::{Kind, MOST_PLACES, Texts, places_of_kind};
 
 // Whether a field is empty, or spells a whole number.
 fn is_whole(field: &[u8]) -> bool
@@ -21,21 +21,6 @@ fn is_whole(field: &[u8]) -> bool
     match number_of(field) {
         None => return false,
         Some(number) => return number.places == 0 && !number.zero_below,
-    }
-}
-
-// The whole number that a field spells, where it spells one of 64 bits.
-pub(crate) fn whole_number(field: &[u8]) -> Option<i64>
-    ensures { IfSome result (λ n. number_read field.now ≡ Some (whole n)) }
-{
-    match number_of(field) {
-        None => return None,
-        Some(number) => {
-            if number.places == 0 && !number.zero_below {
-                return Some(number.value);
-            }
-            return None;
-        }
     }
 }
 
@@ -151,20 +136,16 @@ pub fn kind_of_texts(texts: &Texts) -> Kind
     Kind::Text
 }
 
-/// The cell of a field in a column of numbers. It takes no memory.
-pub fn number_cell(kind: Kind, field: &[u8]) -> Cell
+/// The number of a field in a column of numbers, none for an empty one. It takes no memory.
+pub fn number_in(kind: Kind, field: &[u8]) -> Option<i64>
     requires few { places_of kind ≤ MOST_PLACES }
     requires numbers { kind ≢ Text }
-    ensures value { is_of kind field.now ≡ true → (dict : List (List ℕ)) → value_in dict result
-        ≡ value_as kind field.now }
-    ensures fits { (dict : List (List ℕ)) → FitsColumn kind dict result }
+    ensures value { is_of kind field.now ≡ true → (dict : List (List ℕ)) → value_in dict (number_cell result)
+        ≡ value_as kind field }
+    ensures fits { (dict : List (List ℕ)) → FitsColumn kind dict (number_cell result) }
 {
-    let number = match number_of(field) {
-        Some(number) => number,
-        None => return Cell::Null,
-    };
-    match scale(number, places_of_kind(kind)) {
-        Some(value) => return Cell::Int(value),
-        None => return Cell::Null,
+    match number_of(field) {
+        Some(number) => scale(number, places_of_kind(kind)),
+        None => None,
     }
 }

@@ -7,7 +7,7 @@
 //!         Ok(loaded) => loaded,
 //!         Err(refusal) => return refuse(refusal),
 //!     };
-//!     let first = table.row(0);    // Cell::Int(5) in an INT column, Cell::Int(150) in one of 2 places
+//!     let first = table.cell(0, 1);    // Cell::Int(150) in a column of 2 places
 //!
 //! docs/TABLES.md has the rules for users.
 #![tactic(auto)]
@@ -17,11 +17,11 @@ mod fields;
 mod front;
 mod gathered;
 mod header;
+mod kept_texts;
 mod kind;
 mod limits;
 mod loading;
 mod memory;
-mod next_column;
 mod number;
 mod rank;
 mod reading;
@@ -29,7 +29,7 @@ mod recent;
 mod refusal;
 mod rows;
 mod seeded;
-mod settling;
+mod spelling;
 mod typed;
 
 pub use limits::MOST_TEXT_BYTES;

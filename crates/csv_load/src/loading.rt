@@ -1,8 +1,7 @@
 // The table of a text.
-ghost use Rattle.std.specs.Prelude.{◌≡◌, ◌≢◌, ◌≤◌, ◌<◌, ℕ, [], All, IfErr, IfOk, Some, length, map, slice_index_or};
+ghost use Rattle.std.specs.Prelude.{◌≡◌, ◌≢◌, ◌≤◌, All, IfErr, IfOk, Some, length, map};
 ghost use Rattle.csv_load.specs.Finished.{columns_with};
 ghost use Rattle.csv_load.specs.Loaded.{IsLoaded};
-ghost use Rattle.csv_load.specs.declared.typed.Typed.{Typed};
 ghost use Rattle.csv_load.specs.Judged.{refusal_of};
 ghost use Rattle.csv_load.specs.Rows.{table_records};
 ghost use Rattle.csv_load.specs.declared.refusal.LoadRefusal.TheVariants as refusal;
@@ -12,10 +11,10 @@ use crate::limits::MOST_TEXT_BYTES;
 use crate::reading::{Read, read_rows};
 use crate::refusal::LoadRefusal;
 use crate::seeded::Seeded;
-use crate::typed::{Typed, finish_cells, type_columns};
+use crate::typed::{Typed, type_columns};
 use std::alloc::{AllocError, Global};
 use std::hash::RandomState;
-use table_core::{Bytes, Column, Dict, MOST_PLACES, Schema, Table};
+use table_core::{Bytes, Cells, Column, Dict, MOST_PLACES, Schema, Table};
 
 /// A table with the dictionaries of its columns.
 #[derive(Drop)]
@@ -43,23 +42,27 @@ fn schema_of(alloc: Global, names: Vec<Bytes>, typed: &[Typed]) -> Result<Schema
     Ok(Schema::new(columns))
 }
 
-// The dictionaries of the columns.
-fn dicts_of(alloc: Global, typed: Vec<Typed>) -> Result<Vec<Dict>, AllocError>
-    ensures { IfOk result (λ dicts. dicts.items ≡ map (λ column. column.dict) typed.items) }
+// The cells of each column, and its dictionary.
+fn parts_of(alloc: Global, typed: Vec<Typed>) -> Result<(Vec<Cells>, Vec<Dict>), AllocError>
+    ensures cells { IfOk result (λ parts. parts.0.items ≡ map (λ column. column.cells) typed.items) }
+    ensures dicts { IfOk result (λ parts. parts.1.items ≡ map (λ column. column.dict) typed.items) }
 {
+    let mut columns = Vec::new(alloc);
     let mut dicts = Vec::new(alloc);
     for column in typed {
-        let Typed { dict, .. } = column;
+        let Typed { cells, dict, .. } = column;
+        columns.push(cells)?;
         dicts.push(dict)?;
     }
-    Ok(dicts)
+    Ok((columns, dicts))
 }
 
 /// The table of a CSV text of at most 268435456 bytes (`MOST_TEXT_BYTES`), or why it is none: the first cause that
 /// holds, at the first place where it holds, or out of memory, which may come in place of any other answer.
 ///
-/// The text is read once. The call keeps the texts of each column until its kind is known, but of one whose fields are
-/// whole numbers so far, and of a column with up to 32768 different texts each just once. After a refusal nothing is
+/// The text is read once, and each field goes to its column: as a number while the column's fields spell numbers in one
+/// way, and from the first other field on as the place of its text, of which a column with up to 32768 different ones
+/// keeps each just once. After a refusal nothing is
 /// left of the table. The keys are those of the hash by which texts are looked up, `RandomState::new(&rt)`: no answer
 /// depends on them but out of memory, and nobody who doesn't know them can choose texts that have one hash and so slow
 /// the call down.
@@ -74,14 +77,13 @@ pub fn load(alloc: Global, keys: RandomState, bytes: &[u8]) -> Result<Loaded, Lo
     let Read {
         names,
         columns,
-        mut cells,
+        rows,
     } = read;
     let typed = type_columns(alloc, columns)?;
-    finish_cells(&mut cells, typed.as_slice());
     let schema = schema_of(alloc, names, typed.as_slice())?;
-    let dicts = dicts_of(alloc, typed)?;
+    let (columns, dicts) = parts_of(alloc, typed)?;
     Ok(Loaded {
-        table: Table::new(schema, cells),
+        table: Table::new(schema, columns, rows as usize),
         dicts,
     })
 }

@@ -1,7 +1,7 @@
 // The rows of a text, each field kept once.
-ghost use Rattle.std.specs.Prelude.{◌≡◌, ◌≢◌, ◌≤◌, ◌+◌, [], ◌&&◌, ◌||◌, if◌then◌else◌, false, not, IfErr, IfOk, None, Some, length, replicate};
+ghost use Rattle.std.specs.Prelude.{◌≡◌, ◌≢◌, ◌≤◌, [], IfErr, IfOk, Some, length, replicate};
 ghost use Rattle.csv.specs.Records.{fields_of};
-ghost use Rattle.csv_load.specs.Gathered.{NoneBegun, RowPut};
+ghost use Rattle.csv_load.specs.Gathered.{RowPut};
 ghost use Rattle.csv_load.specs.Reading.{IsRead};
 ghost use Rattle.csv_load.specs.Judged.{refusal_of};
 ghost use Rattle.csv_load.specs.Rows.{table_records};
@@ -15,17 +15,16 @@ use crate::limits::MOST_TEXT_BYTES;
 use crate::refusal::LoadRefusal;
 use crate::rows::Rows;
 use crate::seeded::Seeded;
-use crate::settling::settle;
 use csv::ByteRecord;
 use std::alloc::{AllocError, Global};
-use table_core::{Bytes, Cell};
+use table_core::Bytes;
 
-// The names of a header, the texts of each column below it, and a cell for each field row by row.
+// The names of a header, the fields of each column below it, and how many rows there are.
 #[derive(Drop)]
 pub(crate) struct Read {
     pub names: Vec<Bytes>,
     pub columns: Vec<Gathered>,
-    pub cells: Vec<Cell>,
+    pub rows: u32,
 }
 
 // The fields of a record.
@@ -45,7 +44,7 @@ fn no_columns(alloc: Global, hash: Seeded, width: usize) -> Result<Vec<Gathered>
 {
     let mut columns = Vec::new(alloc);
     for _place in 0..width {
-        columns.push(Gathered::new(alloc, hash)?)?;
+        columns.push(Gathered::new(alloc, hash))?;
     }
     Ok(columns)
 }
@@ -54,56 +53,30 @@ fn no_columns(alloc: Global, hash: Seeded, width: usize) -> Result<Vec<Gathered>
 fn no_rows(alloc: Global, hash: Seeded, header: &ByteRecord) -> Result<Read, AllocError>
     ensures names { IfOk result (λ read. read.names.items ≡ fields_of header.now) }
     ensures columns { IfOk result (λ read. read.columns.items ≡ replicate (length (fields_of header.now)) []) }
-    ensures cells { IfOk result (λ read. read.cells.items ≡ []) }
+    ensures rows { IfOk result (λ read. read.rows ≡ 0) }
 {
     Ok(Read {
         names: names_of(alloc, header)?,
         columns: no_columns(alloc, hash, header.len())?,
-        cells: Vec::new(alloc),
+        rows: 0,
     })
 }
 
-// Whether a column has its first text, where this one may have it.
-fn begins(begun: bool, was_empty: bool, is_empty: bool) -> bool
-    ensures { result ≡ (begun || (was_empty && not is_empty)) }
-{
-    begun || (was_empty && !is_empty)
-}
-
-// From which cell on no column has numbers beside texts, with a row more: the row's first text stands at its end.
-fn settled_after(begun: bool, from: usize, end: usize) -> usize
-    ensures { result ≡ (if begun then end else from) }
-{
-    if begun {
-        return end;
-    }
-    from
-}
-
-// Puts each field of a row in its column, and its cell at the end, and says whether a column has its first text.
-fn put_row(
-    columns: &mut [Gathered],
-    cells: &mut Vec<Cell>,
-    row: &ByteRecord,
-) -> Result<bool, AllocError>
+// Puts each field of a row at the end of its column.
+fn put_row(columns: &mut [Gathered], row: &ByteRecord) -> Result<(), AllocError>
     requires { length columns.old ≡ length (fields_of row.now) }
-    ensures put { IfOk result (λ _. RowPut columns.old cells.old.items (fields_of row.now) columns.new cells.new.items) }
-    ensures begun { IfOk result (λ begun. begun ≡ false → NoneBegun columns.old columns.new) }
+    ensures { IfOk result (λ _. RowPut columns.old (fields_of row.now) columns.new) }
 {
-    let mut begun = false;
     for place in 0..columns.len() {
-        let was_empty = columns[place].is_empty();
-        let cell = columns[place].put(field(row, place))?;
-        begun = begins(begun, was_empty, columns[place].is_empty());
-        cells.push(cell)?;
+        columns[place].put(field(row, place))?;
     }
-    Ok(begun)
+    Ok(())
 }
 
 // Reads each record once, and judges it.
 pub(crate) fn read_rows(alloc: Global, hash: Seeded, text: &[u8]) -> Result<Read, LoadRefusal>
     requires small { length text.now ≤ MOST_TEXT_BYTES }
-    ensures read { IfOk result (λ r. IsRead (table_records text.now) r.names.items r.columns.items r.cells.items) }
+    ensures read { IfOk result (λ r. IsRead (table_records text.now) r.names.items r.columns.items r.rows) }
     ensures refused { IfErr result (λ e. e ≢ refusal.Memory → refusal_of (table_records text.now) ≡ Some e) }
 {
     let mut rows = Rows::new(alloc, text);
@@ -120,17 +93,12 @@ pub(crate) fn read_rows(alloc: Global, hash: Seeded, text: &[u8]) -> Result<Read
         return Err(LoadRefusal::Memory);
     }
     let mut read = no_rows(alloc, hash, &row)?;
-    let mut count: u32 = 0;
-    // A column has numbers beside texts only above its first text.
-    let mut settled_from = 0;
     while rows.next(&mut row)? {
-        if let Some(cause) = judge_row(&row, width, count) {
+        if let Some(cause) = judge_row(&row, width, read.rows) {
             return Err(cause);
         }
-        let begun = put_row(&mut read.columns, &mut read.cells, &row)?;
-        settled_from = settled_after(begun, settled_from, read.cells.len());
-        count += 1;
+        put_row(&mut read.columns, &row)?;
+        read.rows += 1;
     }
-    settle(&mut read.columns, &mut read.cells, settled_from)?;
     Ok(read)
 }

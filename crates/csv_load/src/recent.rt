@@ -51,6 +51,13 @@ impl Recent {
         })
     }
 
+    // Without marks: nothing is noted.
+    pub(crate) fn none(alloc: Global) -> Self {
+        Recent {
+            places: Vec::new(alloc),
+        }
+    }
+
     // The two places where a text of this mark may stand.
     pub(crate) fn guesses(&self, mark: usize) -> (u32, u32) {
         match self.places.get(mark) {

@@ -1,6 +1,6 @@
 use Rattle.std.proofs.Common.{◌∙◌, sym}
 use Rattle.csv_load.proofs.Sounds.{put-sound}
-use Rattle.csv_load.proofs.gathered.remember.Goals as goal
+use Rattle.csv_load.proofs.kept_texts.remember.Goals as goal
 
 pub returns-in-Ok : goal.returns-in-Ok
 returns-in-Ok c texts sound inside is =

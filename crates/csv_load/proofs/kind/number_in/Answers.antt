@@ -3,7 +3,7 @@ use Rattle.csv_load.specs.Number.{fits_i64}
 use Rattle.csv_load.specs.Kinds.{scaled}
 use Rattle.table_core.specs.Value.{places_of}
 use Rattle.csv_load.proofs.Holding.{value-over}
-use Rattle.csv_load.proofs.kind.number_cell.Goals as goal
+use Rattle.csv_load.proofs.kind.number_in.Goals as goal
 
 pub returns-in-None-scale-clause-value : goal.returns-in-None-scale-clause-value
 returns-in-None-scale-clause-value c of dict =
