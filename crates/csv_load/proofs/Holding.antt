@@ -1,6 +1,6 @@
 -- The kind of a column depends on which fields it has, and not on their order and number.
 use Rattle.std.proofs.Common.{◌≡◌, ◌≢◌, ◌∙◌, ◌-◌, ◌≤◌, ◌&&◌, ℕ, List, [], ◌∷◌, arith, refl, sym, Bool, true, false, inl, inr, nat_lt, max}
-use Rattle.std.specs.Prelude.{Option, Some, None, All, Contains, ◌⊎◌, pos, ℤ, ◌*ℤ◌}
+use Rattle.std.specs.Prelude.{MatchOption, Option, Some, None, All, Contains, ◌⊎◌, pos, ℤ, ◌*ℤ◌}
 use Rattle.std.specs.List.{list_all}
 use Rattle.std.proofs.Math.IntN.{*ℤ-one, one}
 use Rattle.std.proofs.lemmas.Bool.{cases_Bool, and_parts}
@@ -13,7 +13,8 @@ use Rattle.csv_load.specs.Kinds.{is_plain, is_whole, is_decimal, is_of, places_i
 use Rattle.csv_load.proofs.Few.{small-number, AreSmall}
 use Rattle.table_core.specs.declared.schema.Kind.{Kind}
 use Rattle.table_core.specs.declared.schema.Kind.TheVariants.{Int, Text, Dec}
-use Rattle.table_core.specs.Value.{none, number, places_of}
+use Rattle.table_core.specs.Columns.{number_cell}
+use Rattle.table_core.specs.Value.{FitsColumn, none, number, places_of, value_in}
 
 pub times-one : (z : ℤ) → z *ℤ pos 1 ≡ z
 unfolding one
@@ -47,11 +48,22 @@ value-number Text (c ∷ cs) n numbers e = absurd (numbers refl)
 value-number (Dec places) (c ∷ cs) n numbers e = rw e refl
 
 -- a number that doesn't fit isn't what the column holds
-pub value-over : (kind : Kind) (field : List ℕ) (n : Number) → kind ≢ Text → number_read field ≡ Some n → fits_i64 (scaled (places_of kind) n) ≡ false → is_of kind field ≡ true → ⊥
+value-over : (kind : Kind) (field : List ℕ) (n : Number) → kind ≢ Text → number_read field ≡ Some n → fits_i64 (scaled (places_of kind) n) ≡ false → is_of kind field ≡ true → ⊥
 value-over kind [] n numbers e over of = absurd (cc)
 value-over kind (c ∷ cs) n numbers e over of =
     let fits : fits_places (places_of kind) (Some n) ≡ true = rw e at (of-decimal kind (c ∷ cs) numbers of) in
     let no : false ≡ true = sym over ∙ fits in cc
+
+-- a number that is scaled to a column's places is the cell of its field
+pub scaled-cell : (kind : Kind) (field : List ℕ) (n : Number) (o : Option ℤ) → kind ≢ Text → number_read field ≡ Some n
+    → MatchOption o (fits_i64 (scaled (places_of kind) n) ≡ false) (λ z. (z ≡ scaled (places_of kind) n) × (fits_i64 (scaled (places_of kind) n) ≡ true))
+    → is_of kind field ≡ true → (dict : List (List ℕ)) → value_in dict (number_cell o) ≡ value_as kind field
+scaled-cell kind field n None numbers e over of dict = absurd (value-over kind field n numbers e over of)
+scaled-cell kind field n (Some z) numbers e is of dict = rw is.0 (value-number kind field n numbers e)
+
+pub scaled-fits : (kind : Kind) (o : Option ℤ) → kind ≢ Text → (dict : List (List ℕ)) → FitsColumn kind dict (number_cell o)
+scaled-fits kind None numbers dict = tt
+scaled-fits kind (Some z) numbers dict = numbers
 
 -- the same texts in any order and any number: each field is empty or among them, and each of them is a field
 pub record AreSame (fields texts : List (List ℕ)) : Type 0 where

@@ -13,7 +13,7 @@ pub fits-row : (size : ℕ) (r : List (List ℕ)) (rest all : List (List (List �
 fits-row size r rest all small e short =
     let h = All-head (λ (r : List (List ℕ)). length r ≤ size + 1) r rest (All-same (λ (r : List (List ℕ)). length r ≤ size + 1) (r ∷ rest) all (sym e) short) in omega arith
 
-pub first-judged : (all rest : List (List (List ℕ))) (r : List (List ℕ)) (width : ℕ) → all ≡ r ∷ rest → width ≡ length r → header_refusal r ≡ None → refusal_of all ≡ first_bad_row width 0 rest
+first-judged : (all rest : List (List (List ℕ))) (r : List (List ℕ)) (width : ℕ) → all ≡ r ∷ rest → width ≡ length r → header_refusal r ≡ None → refusal_of all ≡ first_bad_row width 0 rest
 first-judged all rest r width e w none = rw (e, w) (rw none refl)
 
 -- a record that is a row has the width, and is within the limit
@@ -29,3 +29,7 @@ row-taken r width count none = elim (cases_eq count MOST_ROWS) [
 pub next-judged : (all rest : List (List (List ℕ))) (r : List (List ℕ)) (width count : ℕ) → all ≡ r ∷ rest → row_refusal width count r ≡ None
     → first_bad_row width count all ≡ first_bad_row width (count + 1) rest
 next-judged all rest r width count e none = rw e (rw none refl)
+
+pub first-counted : (all rest : List (List (List ℕ))) (r : List (List ℕ)) (width count : ℕ) → all ≡ r ∷ rest → width ≡ length r → header_refusal r ≡ None → count ≡ 0
+    → refusal_of all ≡ first_bad_row width count rest
+first-counted all rest r width count e w none zero_rows = rw zero_rows (first-judged all rest r width e w none)

@@ -1,10 +1,10 @@
 -- Columns of numbers and of texts, typed.
-use Rattle.std.proofs.Common.{◌≡◌, ◌≢◌, ◌∙◌, ◌-◌, ◌<◌, ◌≤◌, ◌&&◌, ℕ, zero, suc, List, [], ◌∷◌, arith, refl, sym, ap, length, get_or, inl, inr, map, true, false, nat_lt, Bool}
+use Rattle.std.proofs.Common.{◌≡◌, ◌≢◌, ◌∙◌, ◌+◌, ◌-◌, ◌^◌, ◌<◌, ◌≤◌, ◌++◌, ◌&&◌, ℕ, zero, suc, List, [], ◌∷◌, arith, refl, sym, ap, length, get_or, inl, inr, map, true, false, nat_lt, Bool, set, get_or-set_same, get_or-set_other}
 use Rattle.std.specs.Prelude.{All, Contains, ◌⊎◌, ℤ, pos, ◌*ℤ◌, None, Some, Option, IfSome, is_some}
 use Rattle.std.specs.List.{list_all}
-use Rattle.std.proofs.lemmas.Bool.{cases_Bool}
+use Rattle.std.proofs.lemmas.Bool.{cases_Bool, cases_eq}
 use Rattle.std.proofs.lemmas.Bool.Decides.{nat_tests}
-use Rattle.std.proofs.lemmas.List.{get_or-map, length-map}
+use Rattle.std.proofs.lemmas.List.{ext_get_or, get_or-map, get_or_append_left, get_or_push, length-map}
 use Rattle.std.proofs.lemmas.List.Elements.{All-from_get_or, All-get_or, All-map, All-weaker, All-contains, Contains-get_or}
 use Rattle.csv_load.specs.Gathered.{AreNumbers, AreSpelled, ArePlaced, kind_with, number_fields, spelled, with_places}
 use Rattle.csv_load.specs.Judged.{Fields}
@@ -20,6 +20,7 @@ use Rattle.csv_load.proofs.Few.{AreSmall, small-number}
 use Rattle.csv_load.proofs.Finishing.{code-is, text-dict}
 use Rattle.csv_load.proofs.Holding.{AreSame, all-of, from-all, holds, most-above, most-within, same-kind, times-one, value-number}
 use Rattle.csv_load.proofs.Keeping.{IsInside}
+use Rattle.table_core.specs.Codes.{IsCode}
 use Rattle.table_core.specs.Columns.{code_cell, column_cells, number_cell}
 use Rattle.table_core.specs.Value.{number, number_text, places_of}
 use Rattle.table_core.specs.declared.cell.Cell.{Cell}
@@ -248,3 +249,46 @@ numerals-typed texts places numbers cells column is k few some are at c d = reco
       (number-at column.kind texts numbers (get_or places i None) some k are (All-get_or (IsInside texts) places i None inside is.inside)));
   dictionary = rw d (no-dict column.kind (map (stands_for texts) places) some);
 }
+
+-- the number of one text more
+pub numbers-step : (kind : Kind) (texts : Fields) (numbers : List (Option ℤ)) (place : ℕ) (n : Option ℤ) → length numbers ≡ place
+    → ((i : ℕ) → i < place → is_of kind (get_or texts i []) ≡ true → IsCell kind [] (get_or texts i []) (number_cell (get_or numbers i None)))
+    → (is_of kind (get_or texts place []) ≡ true → IsCell kind [] (get_or texts place []) (number_cell n))
+    → (i : ℕ) → i < place + 1 → is_of kind (get_or texts i []) ≡ true → IsCell kind [] (get_or texts i []) (number_cell (get_or (numbers ++ n ∷ []) i None))
+numbers-step kind texts numbers place n size before here i low = elim (cases_eq i place) [
+  | inl same ↦ λ of. rw (same, get_or_push numbers n None place size) (here (rw same at of))
+  | inr other ↦ λ of. rw (get_or_append_left numbers (n ∷ []) None i (omega (arith, low, other, size))) (before i (omega (arith, low, other)) of)
+]
+
+-- the codes of places, one place more
+pub recoded-step : (old places codes : List (Option ℕ)) (row : ℕ) → row < length places
+    → ((k : ℕ) → k < row → get_or places k None ≡ through codes (get_or old k None)) → get_or places row None ≡ get_or old row None
+    → (k : ℕ) → k < row + 1 → get_or (set places row (through codes (get_or places row None))) k None ≡ through codes (get_or old k None)
+recoded-step old places codes row there before left k low = elim (cases_eq k row) [
+  | inl same ↦ rw (same, get_or-set_same places row (through codes (get_or places row None)) None there, left) refl
+  | inr other ↦ get_or-set_other places row k (through codes (get_or places row None)) None other ∙ before k (omega (arith, low, other))
+]
+
+pub recoded-all : (old places codes : List (Option ℕ)) → length places ≡ length old → ((k : ℕ) → k < length old → get_or places k None ≡ through codes (get_or old k None))
+    → places ≡ map (through codes) old
+recoded-all old places codes size each = ext_get_or None places (map (through codes) old) (size ∙ sym (length-map old (through codes)))
+    (λ k low. each k (omega (arith, low, size)) ∙ sym (get_or-map (through codes) old k None None (omega (arith, low, size))))
+
+-- what stands at a place that is inside
+pub through-all : {A : Type 0} (P : Option A → Type 0) (xs : List (Option A)) (o : Option ℕ) → P None → All P xs → IfSome o (λ p. p < length xs) → P (through xs o)
+through-all P xs None none all inside = none
+through-all P xs (Some place) none all inside = All-get_or P xs place None inside all
+
+small-code : (size : ℕ) → size < 2 ^ 32 → (o : Option ℕ) → IfSome o (λ c. c < size) → IsCode o
+small-code size few None inside = tt
+small-code size few (Some c) inside = omega (arith, few, inside)
+
+-- no code of a dictionary is the one that stands for none
+pub ranked-codes : (texts dict : Fields) (codes : List (Option ℕ)) → IsRanked texts dict codes → length dict < 2 ^ 32 → All IsCode codes
+ranked-codes texts dict codes ranked few = All-weaker (λ (o : Option ℕ). IfSome o (λ c. c < length dict)) IsCode (small-code (length dict) few) codes ranked.in_range
+
+-- there is a code for each text
+pub ranked-inside : (texts dict : Fields) (codes places : List (Option ℕ)) → IsRanked texts dict codes → ArePlaced texts places → All (λ o. IfSome o (λ p. p < length codes)) places
+ranked-inside texts dict codes places ranked is =
+    let same : length codes ≡ length texts = omega (arith, ap length ranked.codes_stand, length-map codes (stands_for dict)) in
+    rw same is.inside

@@ -141,11 +141,12 @@ pub fn number_in(kind: Kind, field: &[u8]) -> Option<i64>
     requires few { places_of kind ≤ MOST_PLACES }
     requires numbers { kind ≢ Text }
     ensures value { is_of kind field.now ≡ true → (dict : List (List ℕ)) → value_in dict (number_cell result)
-        ≡ value_as kind field }
+        ≡ value_as kind field.now }
     ensures fits { (dict : List (List ℕ)) → FitsColumn kind dict (number_cell result) }
 {
-    match number_of(field) {
-        Some(number) => scale(number, places_of_kind(kind)),
-        None => None,
-    }
+    let number = match number_of(field) {
+        Some(number) => number,
+        None => return None,
+    };
+    scale(number, places_of_kind(kind))
 }

@@ -1,5 +1,5 @@
 // The dictionary of a list of names, and the code of each name, by a sort.
-ghost use Rattle.std.specs.Prelude.{◌≡◌, IfOk, None, length, replicate};
+ghost use Rattle.std.specs.Prelude.{◌≡◌, ◌<◌, ◌^◌, IfOk, None, length, replicate};
 ghost use Rattle.csv_load.specs.Ranks.{AreInOrder, IsRanked, Keyed, key_places, key_texts};
 
 use crate::front::front;
@@ -73,7 +73,8 @@ fn assigned(
     places: &[u32],
 ) -> Result<Ranked, AllocError>
     requires in_order { AreInOrder names.now texts.now places.now }
-    ensures { IfOk result (λ r. IsRanked names.now r.dict r.codes.items) }
+    ensures ranked { IfOk result (λ r. IsRanked names.now r.dict r.codes.items) }
+    ensures few { IfOk result (λ r. length r.dict < 2 ^ 32) }
 {
     let mut dict = Dict::new(alloc);
     let mut codes = no_codes(alloc, names.len())?;
@@ -86,7 +87,8 @@ fn assigned(
 
 /// The rising list of the distinct names that aren't empty, and the code of each name, by one sort.
 pub fn rank_texts(alloc: Global, names: &Texts) -> Result<Ranked, AllocError>
-    ensures { IfOk result (λ r. IsRanked names.now r.dict r.codes.items) }
+    ensures ranked { IfOk result (λ r. IsRanked names.now r.dict r.codes.items) }
+    ensures few { IfOk result (λ r. length r.dict < 2 ^ 32) }
 {
     let mut order = keyed(alloc, names)?;
     order.sort_unstable();

@@ -1,7 +1,7 @@
 // The fields of numbers that are spelled alike.
 ghost use Rattle.std.specs.Prelude.{◌≡◌, ◌≤◌, ◌++◌, ◌∷◌, [], IfOk};
 ghost use Rattle.std.specs.Fmt.{signed_decimal};
-ghost use Rattle.csv_load.specs.Gathered.{number_fields, places_or_none};
+ghost use Rattle.csv_load.specs.Gathered.{number_fields, places_or_none, spelled};
 ghost use Rattle.table_core.specs.Value.{number_text};
 
 use crate::kept_texts::KeptTexts;
@@ -54,6 +54,31 @@ fn put_decimal(
     Ok(text)
 }
 
+// Puts the field of a number with so many places at the end, an empty one where there is none.
+fn put_number(
+    texts: &mut KeptTexts,
+    places: u32,
+    number: Option<i64>,
+    bytes: Bytes,
+) -> Result<Bytes, AllocError>
+    requires { places ≤ MOST_PLACES }
+    ensures { IfOk result (λ _. texts.new ≡ texts.old ++ spelled places number ∷ []) }
+{
+    let value = match number {
+        Some(value) => value,
+        None => {
+            texts.put(b"")?;
+            return Ok(bytes);
+        }
+    };
+    if places == 0 {
+        put_whole(texts, value)?;
+        return Ok(bytes);
+    }
+    let bytes = put_decimal(texts, places, value, bytes)?;
+    Ok(bytes)
+}
+
 // The places of the numbers, 0 where there is no number.
 fn places_of(places: Option<u32>) -> u32
     ensures { result ≡ places_or_none places }
@@ -74,20 +99,11 @@ pub(crate) fn spelled_texts(
     requires { places_or_none places ≤ MOST_PLACES }
     ensures { IfOk result (λ texts. texts ≡ number_fields places numbers.now) }
 {
-    let places = places_of(places);
+    let few = places_of(places);
     let mut texts = KeptTexts::new(alloc, hash)?;
     let mut bytes = Bytes::new(Vec::new(alloc));
     for row in 0..numbers.len() {
-        match numbers.get(row) {
-            None => texts.put(b"")?,
-            Some(value) => {
-                if places == 0 {
-                    put_whole(&mut texts, value)?;
-                } else {
-                    bytes = put_decimal(&mut texts, places, value, bytes)?;
-                }
-            }
-        }
+        bytes = put_number(&mut texts, few, numbers.get(row), bytes)?;
     }
     Ok(texts)
 }

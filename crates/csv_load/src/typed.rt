@@ -98,11 +98,23 @@ fn type_numerals(
 {
     let numbers = numbers_of(alloc, kind, &texts)?;
     drop(texts);
+    let found = numbers_at(alloc, &numbers, &places)?;
     Ok(Typed {
         kind,
-        cells: Cells::Numbers(numbers_at(alloc, &numbers, &places)?),
+        cells: Cells::Numbers(found),
         dict: Dict::new(alloc),
     })
+}
+
+// The code at a place, none for no place.
+fn code_at(codes: &[Option<u32>], place: Option<u32>) -> Option<u32>
+    requires { IfSome place (λ p. p < length codes.now) }
+    ensures { result ≡ through codes.now place }
+{
+    match place {
+        Some(place) => codes[place as usize],
+        None => None,
+    }
 }
 
 // Makes codes of the places of texts.
@@ -112,9 +124,7 @@ fn recode(places: &mut Codes, codes: &[Option<u32>])
     ensures { places.new ≡ map (through codes.now) places.old }
 {
     for row in 0..places.len() {
-        if let Some(place) = places.get(row) {
-            places.set(row, codes[place as usize]);
-        }
+        places.set(row, code_at(codes, places.get(row)));
     }
 }
 

@@ -9,12 +9,10 @@ use Rattle.csv_load.proofs.reading.read_rows.Given as goal
 abbrev pub invariant-loop-read : goal.invariant-loop-read
 invariant-loop-read l = record {
   wide : length l.read.names.items ≡ l.width;
-  within : l.count ≤ MOST_ROWS;
-  judged : refusal_of (table_records l.fn.text) ≡ first_bad_row l.width l.count l.rows;
-  counted : length (table_records l.fn.text) ≡ l.count + 1 + length l.rows;
+  within : l.read.rows ≤ MOST_ROWS;
+  judged : refusal_of (table_records l.fn.text) ≡ first_bad_row l.width l.read.rows l.rows;
   short : All (λ r. length r ≤ length l.fn.text + 1) l.rows;
-  so_far : SoFar (table_records l.fn.text) l.read.names.items l.read.columns.items l.read.cells.items l.rows l.settled_from;
-  inside : l.settled_from ≤ length l.read.cells.items;
+  so_far : SoFar (table_records l.fn.text) l.read.names.items l.read.columns.items l.rows l.read.rows;
 }
 
 abbrev pub decreases-loop-read : goal.decreases-loop-read
