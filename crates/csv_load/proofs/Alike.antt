@@ -1,11 +1,10 @@
 -- Numbers that are spelled alike, with one more.
-use Rattle.std.proofs.Common.{◌≡◌, ◌≢◌, ◌∙◌, ◌<◌, ◌≤◌, ◌+◌, ◌++◌, ℕ, zero, suc, List, [], ◌∷◌, arith, refl, sym, ap, length, get_or, map, length-append, true, false}
+use Rattle.std.proofs.Common.{◌≡◌, ◌∙◌, ◌<◌, ◌≤◌, ◌++◌, ℕ, List, [], ◌∷◌, arith, refl, ap, length, get_or, map, length-append, true, false}
 use Rattle.std.specs.Prelude.{All, ℤ, Option, Some, None, IfSome, is_some}
 use Rattle.std.proofs.lemmas.List.{get_or_append_left, map_push}
 use Rattle.std.proofs.lemmas.List.Elements.{All-head, All-push, All-tail, All-weaker}
 use Rattle.std.proofs.Math.Seq.{get_or-append_seam}
-use Rattle.csv_load.specs.Gathered.{AreNumbers, AreSpelled, Follows, number_fields, places_or_none, spelled, with_places}
-use Rattle.csv_load.specs.Judged.{Fields}
+use Rattle.csv_load.specs.Gathered.{AreNumbers, Follows, number_fields, places_or_none, spelled, with_places}
 use Rattle.csv_load.specs.Number.{number_read}
 use Rattle.csv_load.specs.declared.number.Number.{Number}
 use Rattle.csv_load.proofs.Spelled.{number-spelled}

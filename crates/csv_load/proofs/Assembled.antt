@@ -1,12 +1,12 @@
 -- Typed columns side by side and their dictionaries stand for the table of the records.
-use Rattle.std.proofs.Common.{◌≡◌, ◌∙◌, ◌+◌, ◌<◌, ◌≤◌, ℕ, List, [], ◌∷◌, arith, refl, sym, ap, length, get_or, map, drop, inl, inr, nat_lt}
+use Rattle.std.proofs.Common.{◌≡◌, ◌∙◌, ◌+◌, ◌<◌, ◌≤◌, ℕ, List, [], ◌∷◌, arith, refl, sym, ap, length, get_or, map, inl, inr, nat_lt}
 use Rattle.std.specs.Prelude.{All, None}
 use Rattle.std.specs.List.{AllZip}
 use Rattle.std.proofs.lemmas.Bool.{cases_Bool}
 use Rattle.std.proofs.lemmas.Bool.Decides.{nat_tests}
 use Rattle.std.proofs.lemmas.List.{ext_get_or, get_or-map, length-map}
 use Rattle.std.proofs.lemmas.List.Elements.{All-nil, All-cons, All-head, All-tail, All-from_get_or, All-get_or}
-use Rattle.csv_load.specs.Kinds.{kind_of, value_as}
+use Rattle.csv_load.specs.Kinds.{value_as}
 use Rattle.csv_load.specs.Judged.{Fields, refusal_of}
 use Rattle.csv_load.specs.Finished.{column_with, columns_with}
 use Rattle.csv_load.specs.Gathered.{AreGathered}

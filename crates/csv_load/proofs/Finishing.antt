@@ -1,5 +1,5 @@
 -- The cells of a column, and lists side by side.
-use Rattle.std.proofs.Common.{◌≡◌, ◌≢◌, ◌∙◌, ◌+◌, ◌<◌, ◌++◌, ℕ, zero, suc, List, [], ◌∷◌, arith, refl, sym, ap, length, get_or, inl, inr, map}
+use Rattle.std.proofs.Common.{◌≡◌, ◌≢◌, ◌∙◌, ◌+◌, ◌<◌, ◌++◌, ℕ, zero, suc, List, [], ◌∷◌, arith, refl, sym, ap, length, get_or, inl, inr}
 use Rattle.std.specs.Prelude.{All, Contains, ◌⊎◌, None, Some, Option, IfSome}
 use Rattle.std.specs.List.{AllZip}
 use Rattle.std.proofs.lemmas.List.{get_or-map, length-map, get_or_default}
@@ -116,4 +116,3 @@ code-is dict (Some c) field filled low e = record {
   value = rw (← e) (text-filled (get_or dict c []) (All-get_or (λ (t : List ℕ). t ≢ []) dict c [] low filled));
   fits = (refl, low);
 }
-

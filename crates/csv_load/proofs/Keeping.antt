@@ -1,9 +1,9 @@
 -- The places of a column's texts, with one more field.
-use Rattle.std.proofs.Common.{◌≡◌, ◌≢◌, ◌∙◌, ◌<◌, ◌+◌, ◌++◌, ℕ, List, [], ◌∷◌, arith, refl, sym, ap, length, get_or, map, set, length-append}
+use Rattle.std.proofs.Common.{◌≡◌, ◌≢◌, ◌<◌, ◌++◌, ℕ, List, [], ◌∷◌, arith, refl, sym, length, get_or, map, set, length-append}
 use Rattle.std.specs.Prelude.{All, Contains, Option, Some, None, IfSome, Vec}
 use Rattle.std.specs.Global.{Global}
 use Rattle.std.proofs.lemmas.List.{get_or_append_left, map_push, set_at}
-use Rattle.std.proofs.lemmas.List.Elements.{All-head, All-nil, All-push, All-tail, All-weaker, Contains-append_left, Contains-push}
+use Rattle.std.proofs.lemmas.List.Elements.{All-head, All-push, All-tail, All-weaker, Contains-append_left, Contains-push}
 use Rattle.std.proofs.Math.Seq.{get_or-append_seam}
 use Rattle.csv_load.specs.Gathered.{AreKept, ArePlaced}
 use Rattle.csv_load.specs.Judged.{Fields}
@@ -77,6 +77,7 @@ pub kept-new : (texts : Fields) (places : List (Option ℕ)) (entries more : Lis
     → AreKept grown set_there more × (map (stands_for grown) set_there ≡ map (stands_for texts) places ++ field ∷ [])
 kept-new texts places entries more field count row grown pushed set_there is filled n room r g p s sound =
     let r2 = remembered texts grown field count entries g n is.sound in
-    let there : set_there ≡ places ++ Some count ∷ [] = rw (s, p) (last-set places row (Some count) r) in
-    (record { sound = sound grown r2.0 r2.1 r2.2; placed = rw (there, g, n) (placed-new texts places field is.placed filled (omega (arith, room, n))) },
-    rw (there, g, n) (fields-new texts places field is.placed.inside))
+    let there : set_there ≡ places ++ Some count ∷ [] = rw (s, p) (last-set places row (Some count) r) in (
+      record { sound = sound grown r2.0 r2.1 r2.2; placed = rw (there, g, n) (placed-new texts places field is.placed filled (omega (arith, room, n))) },
+      rw (there, g, n) (fields-new texts places field is.placed.inside),
+    )

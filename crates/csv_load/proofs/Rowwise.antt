@@ -1,6 +1,6 @@
 -- Rows that were read one after another, each field in its column.
 use Rattle.std.proofs.Common.{◌≡◌, ◌∙◌, ◌+◌, ◌<◌, ◌≤◌, ◌++◌, ℕ, List, [], ◌∷◌, arith, sym, ap, length, get_or, take, drop, replicate, append_assoc, length-append, refl, inl, inr, set, get_or-set_same, get_or-set_other}
-use Rattle.std.specs.Prelude.{All, None}
+use Rattle.std.specs.Prelude.{None}
 use Rattle.std.proofs.lemmas.Bool.{cases_eq}
 use Rattle.std.proofs.lemmas.List.{append-nil, drop_all, get_or-replicate, length-replicate, map-append, take_all}
 use Rattle.std.proofs.lemmas.List.Elements.{All-nil, All-push}

@@ -110,8 +110,7 @@ after-spelled w (c ∷ cs) v e = elim (cases_Bool (is_ascii_digit c)) [
       let rest = after-spelled (w * 10 + (c - 48)) cs v d in
       let digit : 48 + (w * 10 + (c - 48)) % 10 ≡ c = omega (arith, low.0, low.1) in
       let front : (w * 10 + (c - 48)) / 10 ≡ w = omega (arith, low.0, low.1) in
-      let power : 10 ^ length cs * 10 ≡ 10 ^ suc (length cs) = omega (arith, pow-suc 10 (length cs)) in
-      (
+      let power : 10 ^ length cs * 10 ≡ 10 ^ suc (length cs) = omega (arith, pow-suc 10 (length cs)) in (
         last-front (length cs) v ∙ rw (rest.1, rest.0, digit) refl,
         ap (λ (n : ℕ). v / n) (sym power) ∙ sym (div-div-eq-div-mul v (10 ^ length cs) 10) ∙ rw (rest.1, front) refl,
       )
@@ -130,6 +129,9 @@ made-small : (minus : Bool) (n places : ℕ) (m : Number) → made minus n place
 made-small true n places m e = elim (cases_Bool (nat_lt (2 ^ 63) n)) [ inl so ↦ absurd (cc (rw so at e)) | inr other ↦ grind (arith, nat_tests, other) ]
 made-small false n places m e = elim (cases_Bool (nat_lt n (2 ^ 63))) [ inl so ↦ grind (arith, nat_tests, so) | inr other ↦ absurd (cc (rw other at e)) ]
 
+made-at : (minus : Bool) (n places p : ℕ) (m : Number) → p ≡ places → made minus n places ≡ Some m → made minus n p ≡ Some m
+made-at minus n places p m e here = rw e here
+
 -- what is made of a number's digits, and its text without a sign
 abbrev IsMadeOf : Bool → List ℕ → Number → Type 0
 IsMadeOf minus text m = (n : ℕ) × (text ≡ unsigned_text m.places n) × (made minus n m.places ≡ Some m)
@@ -138,7 +140,7 @@ IsMadeOf minus text m = (n : ℕ) × (text ≡ unsigned_text m.places n) × (mad
 rest-spelled : (minus : Bool) (w : ℕ) (text left : List ℕ) (m : Number) → rest_read minus w left ≡ Some m → (w < 2 ^ 64 → text ≡ decimal w ++ left) → IsMadeOf minus text m
 rest-spelled minus w text [] m e spelled =
     let none : m.places ≡ 0 = made-places minus w 0 m e in
-    (w, rw none (spelled (made-small minus w 0 m e) ∙ append-nil (decimal w)), rw none e)
+    (w, rw none (spelled (made-small minus w 0 m e) ∙ append-nil (decimal w)), made-at minus w 0 m.places m none e)
 rest-spelled minus w text (c ∷ after) m e spelled =
     let d = digits_from w after in
     elim (cases_Bool ((c == 46) && (length d.1 == 0) && nat_lt 0 (length after) && nat_lt (length after) 10)) [
@@ -153,7 +155,7 @@ rest-spelled minus w text (c ∷ after) m e spelled =
           let small : w < 2 ^ 64 = omega (arith, digits_from-ge w after, made-small minus d.0 (length after) m made_here) in
           let text_is : text ≡ unsigned_text (length after) d.0 =
           spelled small ∙ sym (unsigned-point (length after) d.0 some ∙ rw (parts.1, parts.0, point) refl) in
-          (d.0, rw places text_is, rw places made_here)
+          (d.0, rw places text_is, made-at minus d.0 (length after) m.places m places made_here)
       | inr other ↦ absurd (cc (rw other at e))
     ]
 

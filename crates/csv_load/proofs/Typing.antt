@@ -1,14 +1,14 @@
 -- Columns of numbers and of texts, typed.
-use Rattle.std.proofs.Common.{◌≡◌, ◌≢◌, ◌∙◌, ◌+◌, ◌-◌, ◌^◌, ◌<◌, ◌≤◌, ◌++◌, ◌&&◌, ℕ, zero, suc, List, [], ◌∷◌, arith, refl, sym, ap, length, get_or, inl, inr, map, true, false, nat_lt, Bool, set, get_or-set_same, get_or-set_other}
-use Rattle.std.specs.Prelude.{All, Contains, ◌⊎◌, ℤ, pos, ◌*ℤ◌, None, Some, Option, IfSome, is_some}
+use Rattle.std.proofs.Common.{◌≡◌, ◌≢◌, ◌∙◌, ◌+◌, ◌-◌, ◌^◌, ◌<◌, ◌≤◌, ◌++◌, ◌==◌, ℕ, zero, suc, List, [], ◌∷◌, arith, refl, sym, ap, length, get_or, inl, inr, map, true, false, nat_lt, Bool, set, get_or-set_same, get_or-set_other}
+use Rattle.std.specs.Prelude.{All, Contains, ◌⊎◌, ℤ, None, Some, Option, IfSome, is_some}
 use Rattle.std.specs.List.{list_all}
 use Rattle.std.proofs.lemmas.Bool.{cases_Bool, cases_eq}
 use Rattle.std.proofs.lemmas.Bool.Decides.{nat_tests}
 use Rattle.std.proofs.lemmas.List.{ext_get_or, get_or-map, get_or_append_left, get_or_push, length-map}
-use Rattle.std.proofs.lemmas.List.Elements.{All-from_get_or, All-get_or, All-map, All-weaker, All-contains, Contains-get_or}
+use Rattle.std.proofs.lemmas.List.Elements.{All-from_get_or, All-get_or, All-map, All-weaker, Contains-get_or}
 use Rattle.csv_load.specs.Gathered.{AreNumbers, AreSpelled, ArePlaced, kind_with, number_fields, spelled, with_places}
 use Rattle.csv_load.specs.Judged.{Fields}
-use Rattle.csv_load.specs.Kinds.{fits_places, is_decimal, is_of, is_plain, is_whole, kind_of, most_places, places_in, scaled, value_as}
+use Rattle.csv_load.specs.Kinds.{is_decimal, is_of, is_whole, kind_of, most_places, places_in, scaled}
 use Rattle.csv_load.specs.Meaning.{IsColumnDict}
 use Rattle.csv_load.specs.Number.{fits_i64, number_read}
 use Rattle.csv_load.specs.declared.number.Number.{Number}
@@ -21,10 +21,9 @@ use Rattle.csv_load.proofs.Finishing.{code-is, text-dict}
 use Rattle.csv_load.proofs.Holding.{AreSame, all-of, from-all, holds, most-above, most-within, same-kind, times-one, value-number}
 use Rattle.csv_load.proofs.Keeping.{IsInside}
 use Rattle.table_core.specs.Codes.{IsCode}
-use Rattle.table_core.specs.Columns.{code_cell, column_cells, number_cell}
+use Rattle.table_core.specs.Columns.{code_cell, number_cell}
 use Rattle.table_core.specs.Value.{number, number_text, places_of}
-use Rattle.table_core.specs.declared.cell.Cell.{Cell}
-use Rattle.table_core.specs.declared.cell.Cell.TheVariants.{Null, Int}
+use Rattle.table_core.specs.declared.cell.Cell.TheVariants.{Null}
 use Rattle.table_core.specs.declared.cells.Cells.TheVariants.{Numbers, Codes}
 use Rattle.table_core.specs.declared.schema.Kind.{Kind}
 use Rattle.table_core.specs.declared.schema.Kind.TheVariants as kinds
@@ -47,9 +46,19 @@ whole-of : (field : List ℕ) (n : ℤ) → number_read field ≡ Some (with_pla
 whole-of [] n e = refl
 whole-of (c ∷ cs) n e = rw e refl
 
+not-none : (n : ℕ) → (suc n == 0) ≡ false
+not-none n = grind (arith, nat_tests)
+
+some-there : (n : ℕ) → nat_lt 0 (suc n) ≡ true
+some-there n = grind (arith, nat_tests)
+
+decimal-kind : (fields : Fields) (places : ℕ) → list_all is_whole fields ≡ false → most_places fields ≡ places → nat_lt 0 places ≡ true
+    → list_all (is_decimal places) fields ≡ true → kind_of fields ≡ kinds.Dec places
+decimal-kind fields places whole most some decimals = rw (whole, most, some, decimals) refl
+
 pointed : (places : ℕ) (field : List ℕ) (n : ℤ) → number_read field ≡ Some (with_places (suc places) n) → is_whole field ≡ false
 pointed places [] n e = absurd (cc e)
-pointed places (c ∷ cs) n e = rw e refl
+pointed places (c ∷ cs) n e = rw (e, not-none places) refl
 
 field-decimal : (places : ℕ) (o : Option ℤ) → IsRead places o → is_decimal places (spelled places o) ≡ true
 field-decimal places None read = refl
@@ -119,8 +128,8 @@ alike-kind None numbers is =
     rw whole refl
 alike-kind (Some zero) numbers is = rw (all-of-fields 0 numbers is_whole field-whole is.read) refl
 alike-kind (Some (suc places)) numbers is =
-    rw (not-whole places numbers is, most-is (suc places) numbers is,
-    all-of-fields (suc places) numbers (is_decimal (suc places)) (field-decimal (suc places)) is.read) refl
+    sym (decimal-kind (map (spelled (suc places)) numbers) (suc places) (not-whole places numbers is) (most-is (suc places) numbers is) (some-there places)
+    (all-of-fields (suc places) numbers (is_decimal (suc places)) (field-decimal (suc places)) is.read))
 
 -- a number is the cell of its field
 number-is : (kind : Kind) (places : ℕ) (o : Option ℤ) → kind ≢ kinds.Text → places_of kind ≡ places → IsRead places o → IsCell kind [] (spelled places o) (number_cell o)

@@ -1,4 +1,3 @@
-use Rattle.std.proofs.Common.{◌≡◌}
 use Rattle.csv_load.specs.Rows.{table_records}
 use Rattle.csv_load.proofs.Assembled.{columns-few, loaded, table-whole, typed-count}
 use Rattle.csv_load.proofs.loading.load.Goals as goal
@@ -12,14 +11,14 @@ schema_of-requires c =
 pub new-requires : goal.new-requires
 new-requires c =
     table-whole (table_records c.args.bytes.now) c.in_ok-read.read.names.items c.in_ok-read.read.columns.items c.in_ok-read.read.rows c.in_ok-typed.typed.items
-    c.in_ok-schema.schema c.in_ok-parts.columns.items c.in_ok-read.ensures.read c.in_ok-typed.ensures (rw c.as_slice.ensures.value at c.in_ok-schema.ensures)
-    c.in_ok-parts.ensures.cells
+    c.in_ok-schema.schema c.in_ok-columns.columns.items c.in_ok-read.ensures.read c.in_ok-typed.ensures (rw c.as_slice.ensures.value at c.in_ok-schema.ensures)
+    c.in_ok-columns.ensures.cells
 
 pub returns-clause-loaded : goal.returns-clause-loaded
 returns-clause-loaded c =
     loaded (table_records c.args.bytes.now) c.in_ok-read.read.names.items c.in_ok-read.read.columns.items c.in_ok-read.read.rows c.in_ok-typed.typed.items
-    c.in_ok-schema.schema c.in_ok-parts.columns.items c.new.result c.in_ok-parts.dicts.items c.in_ok-read.ensures.read c.in_ok-typed.ensures
-    (rw c.as_slice.ensures.value at c.in_ok-schema.ensures) c.in_ok-parts.ensures.cells c.new.ensures.columns c.new.ensures.rows c.in_ok-parts.ensures.dicts
+    c.in_ok-schema.schema c.in_ok-columns.columns.items c.new.result c.in_ok-columns.dicts.items c.in_ok-read.ensures.read c.in_ok-typed.ensures
+    (rw c.as_slice.ensures.value at c.in_ok-schema.ensures) c.in_ok-columns.ensures.cells c.new.ensures.columns c.new.ensures.rows c.in_ok-columns.ensures.dicts
 
 pub returns-clause-places : goal.returns-clause-places
 returns-clause-places c =

@@ -1,4 +1,4 @@
-use Rattle.std.proofs.Common.{◌<◌, ◌∙◌, ◌++◌, ◌∷◌, [], List, ℕ, rules, arith, ap, length, get_or}
+use Rattle.std.proofs.Common.{◌<◌, [], rules, arith, length}
 use Rattle.std.proofs.lemmas.List.{get_or_default}
 use Rattle.csv.specs.Records.{fields_of}
 use Rattle.csv_load.proofs.Rowwise.{put-step}

@@ -1,4 +1,4 @@
-use Rattle.std.proofs.Common.{◌≡◌, ◌+◌, ◌≤◌, ◌∙◌, ◌∷◌, List, ℕ, length, arith, sym, ap, refl}
+use Rattle.std.proofs.Common.{◌+◌, ◌≤◌, ◌∙◌, ◌∷◌, List, ℕ, length, arith, sym, ap, refl}
 use Rattle.std.proofs.lemmas.List.Elements.{All-rest}
 use Rattle.csv.specs.Records.{fields_of}
 use Rattle.csv_load.specs.Rows.{table_records}

@@ -1,4 +1,4 @@
-use Rattle.std.proofs.Common.{◌≡◌, ◌∙◌, ◌<◌, arith, length, length-set, get_or-set_other, None}
+use Rattle.std.proofs.Common.{◌∙◌, ◌<◌, arith, length, length-set, get_or-set_other, None}
 use Rattle.csv_load.proofs.Typing.{recoded-all, recoded-step}
 use Rattle.csv_load.proofs.typed.recode.Goals as goal
 
