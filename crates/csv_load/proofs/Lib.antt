@@ -15,3 +15,4 @@ pub mod Numerals
 pub mod Ordered
 pub mod Assigning
 pub mod Keys
+pub mod Sides

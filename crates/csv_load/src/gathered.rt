@@ -103,6 +103,11 @@ impl Gathered {
         Kept::Numbers(places, numbers)
     }
 
+    // How many texts are kept.
+    pub(crate) fn text_count(&self) -> usize {
+        self.texts.text_count()
+    }
+
     // Puts a field at the end. The first one that isn't spelled as the numbers before it makes texts of them.
     pub(crate) fn put(&mut self, field: &[u8]) -> Result<(), AllocError>
         ensures { IfOk result (λ _. self.new ≡ self.old ++ field.now ∷ []) }

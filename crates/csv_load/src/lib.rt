@@ -3,7 +3,8 @@
 //! is the table of the text's records, whose definition knows nothing of the way it is made.
 //!
 //!     let keys = RandomState::new(&rt)?;
-//!     let Loaded { table, dicts } = match load(alloc, keys, b"day,pay\n5,1.50\n6,\n") {
+//!     let most_threads = 3;               // beside this one
+//!     let Loaded { table, dicts } = match load(&rt, alloc, keys, b"day,pay\n5,1.50\n6,\n", most_threads) {
 //!         Ok(loaded) => loaded,
 //!         Err(refusal) => return refuse(refusal),
 //!     };
@@ -29,6 +30,7 @@ mod recent;
 mod refusal;
 mod rows;
 mod seeded;
+mod side_by_side;
 mod spelling;
 mod typed;
 

@@ -11,9 +11,11 @@ use crate::limits::MOST_TEXT_BYTES;
 use crate::reading::{Read, read_rows};
 use crate::refusal::LoadRefusal;
 use crate::seeded::Seeded;
-use crate::typed::{Typed, type_columns};
+use crate::side_by_side::type_side_by_side;
+use crate::typed::Typed;
 use std::alloc::{AllocError, Global};
 use std::hash::RandomState;
+use std::thread::Threads;
 use table_core::{Bytes, Cells, Column, Dict, MOST_PLACES, Schema, Table};
 
 /// A table with the dictionaries of its columns.
@@ -66,8 +68,18 @@ fn parts_of(alloc: Global, typed: Vec<Typed>) -> Result<(Vec<Cells>, Vec<Dict>),
 /// left of the table. The keys are those of the hash by which texts are looked up, `RandomState::new(&rt)`: no answer
 /// depends on them but out of memory, and nobody who doesn't know them can choose texts that have one hash and so slow
 /// the call down.
+///
+/// The kinds and dictionaries of the columns are found by at most `most_threads` threads beside the caller's. What is
+/// said here holds of each number of them, and where one can't be started another does its work.
+///
 /// docs/TABLES.md says which texts are tables and what their cells are.
-pub fn load(alloc: Global, keys: RandomState, bytes: &[u8]) -> Result<Loaded, LoadRefusal>
+pub fn load<R: Threads + Sync>(
+    rt: &R,
+    alloc: Global,
+    keys: RandomState,
+    bytes: &[u8],
+    most_threads: u32,
+) -> Result<Loaded, LoadRefusal>
     requires small { length bytes.now ≤ MOST_TEXT_BYTES }
     ensures loaded { IfOk result (λ t. IsLoaded (table_records bytes.now) t.table t.dicts.items) }
     ensures places { IfOk result (λ t. All (λ c. places_of c.kind ≤ MOST_PLACES) t.table.columns) }
@@ -79,7 +91,7 @@ pub fn load(alloc: Global, keys: RandomState, bytes: &[u8]) -> Result<Loaded, Lo
         columns,
         rows,
     } = read;
-    let typed = type_columns(alloc, columns)?;
+    let typed = type_side_by_side(rt, alloc, columns, most_threads)?;
     let schema = schema_of(alloc, names, typed.as_slice())?;
     let (columns, dicts) = parts_of(alloc, typed)?;
     Ok(Loaded {
