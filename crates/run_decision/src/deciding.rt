@@ -161,7 +161,7 @@ pub fn decide<F: Shelf, P: Policy, D: Depot + Send, T: Gate + Sync, R: Threads +
     ensures ran { IfOk result.ending (λ _. is_some result.ran ≡ true) }
     ensures idle { IfErr result.ending (λ s. s ≢ stop.Memory → result.ran ≡ None) }
 {
-    match inputs_of(alloc, keys, request, shelf) {
+    match inputs_of(rt, alloc, keys, request, shelf) {
         Ok(inputs) => decide_over(rt, alloc, inputs, depot, policy, gate),
         Err(stop) => Decision {
             ending: Err(stop),

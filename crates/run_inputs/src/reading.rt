@@ -23,6 +23,7 @@ use csv_load::{Loaded, MOST_TEXT_BYTES};
 use run_output::{Outcome, Stop};
 use std::alloc::Global;
 use std::hash::RandomState;
+use std::thread::Threads;
 use table_core::{MOST_COLUMNS, MOST_PLACES};
 
 /// What a request and the shelf give a run, or why the run stops: the first refusal in the order table, chunks, frames,
@@ -37,7 +38,8 @@ use table_core::{MOST_COLUMNS, MOST_PLACES};
 /// whose frames are enough. `Memory` may come in place of any other answer. Running out of memory for one statement
 /// stops the run, so no refusal in the outcomes is `Memory`. Each other stop comes exactly where it is the first that
 /// holds. `Usage` and `NotStored` never come.
-pub fn inputs_of<F: Shelf>(
+pub fn inputs_of<F: Shelf, R: Threads + Sync>(
+    rt: &R,
     alloc: Global,
     keys: RandomState,
     request: &Request<'_>,
@@ -61,11 +63,12 @@ pub fn inputs_of<F: Shelf>(
     ensures held { F.held shelf.new ≡ F.held shelf.old }
     ensures later { F.faults shelf.old ≤ F.faults shelf.new }
 {
-    read_in_turn(alloc, keys, request, shelf)
+    read_in_turn(rt, alloc, keys, request, shelf)
 }
 
 // The same with the clause from which the first follows.
-fn read_in_turn<F: Shelf>(
+fn read_in_turn<F: Shelf, R: Threads + Sync>(
+    rt: &R,
     alloc: Global,
     keys: RandomState,
     request: &Request<'_>,
@@ -84,7 +87,7 @@ fn read_in_turn<F: Shelf>(
     ensures held { F.held shelf.new ≡ F.held shelf.old }
     ensures later { F.faults shelf.old ≤ F.faults shelf.new }
 {
-    let (loaded, frames, text) = read_table(alloc, keys, request, shelf)?;
+    let (loaded, frames, text) = read_table(rt, alloc, keys, request, shelf)?;
     // It may have `MOST_TEXT_BYTES`, and the batch doesn't ask for it.
     drop(text);
     let (outcomes, _) = read_batch(alloc, request, &loaded, shelf)?;
@@ -93,7 +96,8 @@ fn read_in_turn<F: Shelf>(
 
 /// The same, and the texts that were read, for runs to come: `inputs_again` makes the inputs of them once more. So the
 /// table's text is there while the batch is read.
-pub fn read_inputs<F: Shelf>(
+pub fn read_inputs<F: Shelf, R: Threads + Sync>(
+    rt: &R,
     alloc: Global,
     keys: RandomState,
     request: &Request<'_>,
@@ -112,7 +116,7 @@ pub fn read_inputs<F: Shelf>(
     ensures held { F.held shelf.new ≡ F.held shelf.old }
     ensures later { F.faults shelf.old ≤ F.faults shelf.new }
 {
-    let (loaded, frames, table) = read_table(alloc, keys, request, shelf)?;
+    let (loaded, frames, table) = read_table(rt, alloc, keys, request, shelf)?;
     let (outcomes, batch) = read_batch(alloc, request, &loaded, shelf)?;
     let inputs = inputs_with(request, loaded, frames, outcomes);
     Ok((inputs, ReadTexts { table, batch }))
@@ -123,7 +127,8 @@ pub fn read_inputs<F: Shelf>(
 /// # Errors
 ///
 /// `Memory`, or the first stop of the request over these texts.
-pub fn inputs_again(
+pub fn inputs_again<R: Threads + Sync>(
+    rt: &R,
     alloc: Global,
     keys: RandomState,
     request: &Request<'_>,
@@ -138,7 +143,7 @@ pub fn inputs_again(
     ensures err { IfErr result (λ s. (first_stop (request_view request.now) (Some texts.now.table)
         (Some texts.now.batch) ≡ Some s) ⊎ (s ≡ stop.Memory)) }
 {
-    let (loaded, frames) = table_in(alloc, keys, request, texts.table.as_slice())?;
+    let (loaded, frames) = table_in(rt, alloc, keys, request, texts.table.as_slice())?;
     let outcomes = batch_in(alloc, request, &loaded, texts.batch.as_slice())?;
     Ok(inputs_with(request, loaded, frames, outcomes))
 }
@@ -165,7 +170,8 @@ fn inputs_with(request: &Request<'_>, loaded: Loaded, frames: u32, outcomes: Vec
 }
 
 // The table that is asked for, how many frames there are, and the table's text.
-fn read_table<F: Shelf>(
+fn read_table<F: Shelf, R: Threads + Sync>(
+    rt: &R,
     alloc: Global,
     keys: RandomState,
     request: &Request<'_>,
@@ -183,12 +189,13 @@ fn read_table<F: Shelf>(
     ensures later { F.faults shelf.old ≤ F.faults shelf.new }
 {
     let text = table_bytes(alloc, table_named(request.table), shelf)?;
-    let (loaded, frames) = table_in(alloc, keys, request, text.as_slice())?;
+    let (loaded, frames) = table_in(rt, alloc, keys, request, text.as_slice())?;
     Ok((loaded, frames, text))
 }
 
 // The table of a text, and how many frames there are.
-fn table_in(
+fn table_in<R: Threads + Sync>(
+    rt: &R,
     alloc: Global,
     keys: RandomState,
     request: &Request<'_>,
@@ -202,7 +209,7 @@ fn table_in(
         ⊎ (s ≡ stop.Memory)) }
     ensures of_table { IfErr result (λ s. IsOfTable s × (s ≢ stop.TableFault)) }
 {
-    let loaded = load_table(alloc, keys, text)?;
+    let loaded = load_table(rt, alloc, keys, text, request.workers - 1)?;
     let frames = frames_for(request, &loaded.table)?;
     Ok((loaded, frames))
 }

@@ -17,6 +17,7 @@ use generated_texts::table_text;
 use run_output::Stop;
 use std::alloc::Global;
 use std::hash::RandomState;
+use std::thread::Threads;
 use table_core::MOST_PLACES;
 
 /// What a word names as a table.
@@ -77,8 +78,14 @@ fn stop_of(refusal: LoadRefusal) -> Stop
     }
 }
 
-/// The table of a text.
-pub(crate) fn load_table(alloc: Global, keys: RandomState, text: &[u8]) -> Result<Loaded, Stop>
+/// The table of a text, whose columns at most so many threads beside the caller's type.
+pub(crate) fn load_table<R: Threads + Sync>(
+    rt: &R,
+    alloc: Global,
+    keys: RandomState,
+    text: &[u8],
+    most_threads: u32,
+) -> Result<Loaded, Stop>
     requires small { length text.now ≤ MOST_TEXT_BYTES }
     ensures loaded { IfOk result (λ l. IsLoaded (table_records text.now) l.table l.dicts.items) }
     ensures places { IfOk result (λ l. All (λ c. places_of c.kind ≤ MOST_PLACES) l.table.columns) }
@@ -86,7 +93,7 @@ pub(crate) fn load_table(alloc: Global, keys: RandomState, text: &[u8]) -> Resul
         ⊎ (s ≡ stop.Memory)) }
     ensures of_table { IfErr result (λ s. IsOfTable s × (s ≢ stop.TableFault)) }
 {
-    match load(alloc, keys, text) {
+    match load(rt, alloc, keys, text, most_threads) {
         Ok(loaded) => Ok(loaded),
         Err(refusal) => Err(stop_of(refusal)),
     }

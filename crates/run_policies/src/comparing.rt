@@ -32,7 +32,8 @@ use std::thread::Threads;
 use table_core::Bytes;
 
 // What a run is given: the inputs that were read first, or else those of the texts that were read.
-fn inputs_for(
+fn inputs_for<R: Threads + Sync>(
+    rt: &R,
     alloc: Global,
     keys: RandomState,
     request: &Request<'_>,
@@ -48,7 +49,7 @@ fn inputs_for(
 {
     match first {
         Some(inputs) => Ok(inputs),
-        None => inputs_again(alloc, keys, request, texts),
+        None => inputs_again(rt, alloc, keys, request, texts),
     }
 }
 
@@ -82,7 +83,7 @@ fn run_all<D: Depot + Send, T: Gate + Sync, R: Threads + Wait + Sync>(
         depot,
     };
     for policy in policies {
-        let inputs = match inputs_for(alloc, keys, request, texts, first.take()) {
+        let inputs = match inputs_for(rt, alloc, keys, request, texts, first.take()) {
             Ok(inputs) => inputs,
             Err(stop) => return stopped(stop, made.runs, made.depot),
         };
@@ -174,7 +175,7 @@ fn compare_all<F: Shelf, D: Depot + Send, T: Gate + Sync, R: Threads + Wait + Sy
             depot,
         };
     }
-    let (first, texts) = match read_inputs(alloc, keys, request, shelf) {
+    let (first, texts) = match read_inputs(rt, alloc, keys, request, shelf) {
         Ok(read) => read,
         Err(stop) => return stopped(stop, Vec::new(alloc), depot),
     };

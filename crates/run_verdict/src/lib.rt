@@ -2,7 +2,7 @@
 //! layout and parts. The text has the trace behind the answers, so each entry of the story is judged, and each answer
 //! is computed once more over the whole table. `story_referee` judges the story.
 //!
-//!     let inputs = inputs_of(alloc, keys, &request, &mut shelf)?;
+//!     let inputs = inputs_of(&rt, alloc, keys, &request, &mut shelf)?;
 //!     match verdict_of(alloc, &inputs, PolicyName::Relevance, output)? {
 //!         Verdict::Legal { entries, reads, .. } => ..,        // it is one
 //!         Verdict::Illegal { line, reason, .. } => ..,        // this line of the output may not come

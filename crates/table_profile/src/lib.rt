@@ -1,7 +1,7 @@
 //! What is told of a loaded table: its rows, and for each column its name, kind, NULLs, distinct texts, least and
 //! greatest value, and why it is one of texts where all but a few of its values spell numbers.
 //!
-//!     let loaded = load(alloc, keys, b"day,pay\n5,1.50\n6,\n")?;
+//!     let loaded = load(&rt, alloc, keys, b"day,pay\n5,1.50\n6,\n", 0)?;
 //!     let profiles = profile_of(alloc, &loaded)?;
 //!     let nulls = profiles[1].nulls;                                  // 1
 //!     let text = write_profile(alloc, &loaded, &profiles)?;           // three lines, the last of them

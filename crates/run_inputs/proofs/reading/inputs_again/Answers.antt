@@ -4,7 +4,7 @@ use Rattle.run_inputs.proofs.Deciding.{none-stops}
 use Rattle.run_inputs.proofs.reading.inputs_again.Goals as goal
 
 pub returns-clause-ok : goal.returns-clause-ok
-returns-clause-ok c =
+returns-clause-ok g c =
     let r = request_view c.args.request.now in
     let same = c.as_slice.ensures.same in
     let same' = c.as_slice-2.ensures.same in
