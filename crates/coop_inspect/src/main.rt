@@ -21,7 +21,15 @@ fn inspect_on(
     let all = all_words(&rt)?;
     let keys = RandomState::new(&rt)?;
     let mut shelf = DiskShelf::new(rt);
-    Ok(inspect(rt.alloc(), keys, behind_name(&all), &mut shelf, out, err))
+    Ok(inspect(
+        &rt,
+        rt.alloc(),
+        keys,
+        behind_name(&all),
+        &mut shelf,
+        out,
+        err,
+    ))
 }
 
 fn main(rt: HostRuntime) -> ExitCode {

@@ -13,10 +13,12 @@ use coop_outside::{Shelf, Sink};
 use inspect_words::{Asked, Refused, asked_of};
 use std::alloc::Global;
 use std::hash::RandomState;
+use std::thread::Threads;
 
 /// Does what the words ask for and says it: an answer on standard output, all else on standard error. It answers the
 /// status that the program ends with. The whole text is made before any of it is written.
-pub fn inspect<F: Shelf, O: Sink, E: Sink>(
+pub fn inspect<F: Shelf, O: Sink, E: Sink, R: Threads + Sync>(
+    rt: &R,
     alloc: Global,
     keys: RandomState,
     words: &[String],
@@ -27,28 +29,40 @@ pub fn inspect<F: Shelf, O: Sink, E: Sink>(
     ensures { (reply : Reply)
         × IsReplyTo (texts words.now) (F.held shelf.old) (F.faults shelf.old) (F.faults shelf.new) reply × IsSaid reply (over (O.taken out.old) (O.taken out.new) (O.faults out.old) (O.faults out.new)) (over (E.taken err.old) (E.taken err.new) (E.faults err.old) (E.faults err.new)) result }
 {
-    let reply = reply_to(alloc, keys, words, shelf);
+    let reply = reply_to(rt, alloc, keys, words, shelf);
     say(&reply, out, err)
 }
 
 // What is said to the words.
-fn reply_to<F: Shelf>(alloc: Global, keys: RandomState, words: &[String], shelf: &mut F) -> Reply
+fn reply_to<F: Shelf, R: Threads + Sync>(
+    rt: &R,
+    alloc: Global,
+    keys: RandomState,
+    words: &[String],
+    shelf: &mut F,
+) -> Reply
     ensures { IsReplyTo (texts words.now) (F.held shelf.old) (F.faults shelf.old) (F.faults shelf.new) result }
 {
     match asked_of(alloc, words) {
-        Ok(asked) => answered(alloc, keys, asked, shelf),
+        Ok(asked) => answered(rt, alloc, keys, asked, shelf),
         Err(refused) => refusal(alloc, &refused),
     }
 }
 
 // What is said to what is asked for.
-fn answered<F: Shelf>(alloc: Global, keys: RandomState, asked: Asked<'_>, shelf: &mut F) -> Reply
+fn answered<F: Shelf, R: Threads + Sync>(
+    rt: &R,
+    alloc: Global,
+    keys: RandomState,
+    asked: Asked<'_>,
+    shelf: &mut F,
+) -> Reply
     requires limits { HasLimits (asked_view asked) }
     ensures { Answers (asked_view asked.entry) (F.held shelf.old) (F.faults shelf.old) (F.faults shelf.new) result }
 {
     match asked {
-        Asked::Explain { run } => explanation(alloc, keys, &run, shelf),
-        Asked::Judge { run, output } => judgement(alloc, keys, &run, output, shelf),
+        Asked::Explain { run } => explanation(rt, alloc, keys, &run, shelf),
+        Asked::Judge { run, output } => judgement(rt, alloc, keys, &run, output, shelf),
         Asked::Draw { output } => drawing(alloc, output, shelf),
     }
 }

@@ -17,11 +17,13 @@ use run_inputs::{Inputs, read_inputs};
 use sql_tokens::split;
 use std::alloc::Global;
 use std::hash::RandomState;
+use std::thread::Threads;
 use table_core::{Bytes, Memory};
 use table_profile::{profile_of, write_profile};
 
 /// What is said to `explain`: what the table holds and what becomes of each statement; or why a run would stop.
-pub(crate) fn explanation<F: Shelf>(
+pub(crate) fn explanation<F: Shelf, R: Threads + Sync>(
+    rt: &R,
     alloc: Global,
     keys: RandomState,
     run: &Request<'_>,
@@ -30,7 +32,7 @@ pub(crate) fn explanation<F: Shelf>(
     requires limits { IsWithinLimits (request_view run.now) }
     ensures { IsExplanation (request_view run.now) (F.held shelf.old) (F.faults shelf.old) (F.faults shelf.new) result }
 {
-    match read_inputs(alloc, keys, run, shelf) {
+    match read_inputs(rt, alloc, keys, run, shelf) {
         Ok((inputs, texts)) => explained(alloc, &inputs, texts.batch.as_slice()),
         Err(stop) => Reply::stop(alloc, stop),
     }

@@ -15,9 +15,11 @@ use run_verdict::{Verdict, verdict_of};
 use scan_story::PolicyName;
 use std::alloc::Global;
 use std::hash::RandomState;
+use std::thread::Threads;
 
 /// What is said to `judge`: the verdict on the file of this name as the output of the run; or why there is none.
-pub(crate) fn judgement<F: Shelf>(
+pub(crate) fn judgement<F: Shelf, R: Threads + Sync>(
+    rt: &R,
     alloc: Global,
     keys: RandomState,
     run: &Request<'_>,
@@ -27,7 +29,7 @@ pub(crate) fn judgement<F: Shelf>(
     requires limits { IsWithinLimits (request_view run.now) }
     ensures { IsJudgement (request_view run.now) (F.held shelf.old) name.now (F.faults shelf.old) (F.faults shelf.new) result }
 {
-    match inputs_of(alloc, keys, run, shelf) {
+    match inputs_of(rt, alloc, keys, run, shelf) {
         Ok(inputs) => judged_from(alloc, &inputs, run.policy, name, shelf),
         Err(stop) => Reply::stop(alloc, stop),
     }

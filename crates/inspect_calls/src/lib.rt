@@ -3,7 +3,7 @@
 //!
 //!     let words = vec![in alloc; explain, table, batch]?;
 //!     let (mut out, mut err) = (StdoutSink::new(rt), StderrSink::new(rt));
-//!     let status = inspect(alloc, keys, &words, &mut DiskShelf::new(rt), &mut out, &mut err);
+//!     let status = inspect(&rt, alloc, keys, &words, &mut DiskShelf::new(rt), &mut out, &mut err);
 #![tactic(auto)]
 
 mod calls;

@@ -17,7 +17,7 @@ fn make(rt: HostRuntime, call: &str) -> io::Result<u8> {
     let keys = RandomState::new(&rt)?;
     let (mut out, mut err) = (StdoutSink::new(rt), StderrSink::new(rt));
     let mut shelf = DiskShelf::new(rt);
-    Ok(inspect(alloc, keys, &words, &mut shelf, &mut out, &mut err))
+    Ok(inspect(&rt, alloc, keys, &words, &mut shelf, &mut out, &mut err))
 }
 
 fn main(rt: HostRuntime) -> io::Result<()> {
