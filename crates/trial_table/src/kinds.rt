@@ -4,6 +4,7 @@ use std::alloc::{AllocError, Global};
 use std::process::Abort;
 use std::random::RandomSource;
 use std::test::Fail;
+use std::thread::Threads;
 use table_core::{Cell, Dict, Kind};
 
 const INT: Kind = Kind::Int;
@@ -51,7 +52,12 @@ fn text_of(alloc: Global, fields: [&[u8]; 2]) -> Result<Vec<u8>, AllocError> {
 }
 
 // Whether the text has a table of one column, which is of this kind.
-fn has_kind(rt: &(impl Abort + RandomSource), alloc: Global, text: &[u8], kind: Kind) -> bool {
+fn has_kind(
+    rt: &(impl Abort + RandomSource + Threads + Sync),
+    alloc: Global,
+    text: &[u8],
+    kind: Kind,
+) -> bool {
     match loaded(rt, alloc, text) {
         Ok(loaded) => {
             let columns = loaded.table.schema().columns();
@@ -62,7 +68,7 @@ fn has_kind(rt: &(impl Abort + RandomSource), alloc: Global, text: &[u8], kind: 
 }
 
 fn expect_kinds(
-    rt: &(impl Abort + RandomSource),
+    rt: &(impl Abort + RandomSource + Threads + Sync),
     alloc: Global,
     rows: &[Spelled<'_>],
 ) -> Result<(), Fail> {

@@ -21,6 +21,8 @@ mod kinds;
 #[cfg(test)]
 mod loading;
 #[cfg(test)]
+mod many_threads;
+#[cfg(test)]
 mod pieces;
 #[cfg(test)]
 mod putting;

@@ -5,6 +5,7 @@ use std::hash::RandomState;
 use std::process::Abort;
 use std::random::RandomSource;
 use std::test::Fail;
+use std::thread::Threads;
 use table_core::{Cell, Kind, MOST_ROWS, Table};
 
 // The most bytes that a table's text may have.
@@ -56,15 +57,25 @@ const CELLS: &[Read<'static>] = &[
 const TYPED: &[u8] =
     b"\xef\xbb\xbfid,dept,pay,p,z\n1,b,10,1.50,01\n2,a,20,-0.25,1\n3,b,,3,\xff\xfe\n";
 
-// The table of a text within the limit.
+// The table of a text within the limit, loaded by one thread.
 pub(crate) fn loaded(
-    rt: &(impl Abort + RandomSource),
+    rt: &(impl Abort + RandomSource + Threads + Sync),
     alloc: Global,
     text: &[u8],
 ) -> Result<Loaded, LoadRefusal> {
+    loaded_by(rt, alloc, text, 0)
+}
+
+// The same, loaded by at most so many threads beside this one.
+pub(crate) fn loaded_by(
+    rt: &(impl Abort + RandomSource + Threads + Sync),
+    alloc: Global,
+    text: &[u8],
+    most_threads: u32,
+) -> Result<Loaded, LoadRefusal> {
     assert!(rt; text.len() <= MOST_TEXT_BYTES);
     let keys = RandomState::new(rt).expect(rt, "keys");
-    load(alloc, keys, text)
+    load(rt, alloc, keys, text, most_threads)
 }
 
 // All cells of a table.
@@ -73,14 +84,23 @@ pub(crate) fn cells_of(table: &Table) -> &[Cell] {
 }
 
 // Whether the text has a table of these cells.
-fn has_cells(rt: &(impl Abort + RandomSource), alloc: Global, text: &[u8], cells: &[Cell]) -> bool {
+fn has_cells(
+    rt: &(impl Abort + RandomSource + Threads + Sync),
+    alloc: Global,
+    text: &[u8],
+    cells: &[Cell],
+) -> bool {
     match loaded(rt, alloc, text) {
         Ok(loaded) => cells_of(&loaded.table) == cells,
         Err(_) => false,
     }
 }
 
-pub(crate) fn expect_cells(rt: &(impl Abort + RandomSource), alloc: Global, rows: &[Read<'_>]) {
+pub(crate) fn expect_cells(
+    rt: &(impl Abort + RandomSource + Threads + Sync),
+    alloc: Global,
+    rows: &[Read<'_>],
+) {
     for (text, cells) in rows {
         assert!(rt; has_cells(rt, alloc, text, cells), "{text:?}");
     }
@@ -123,7 +143,7 @@ fn columns_are_typed_and_texts_are_codes(rt: HostRuntime) {
 
 // The rows of a text's table, or why it is none.
 fn rows_loaded(
-    rt: &(impl Abort + RandomSource),
+    rt: &(impl Abort + RandomSource + Threads + Sync),
     alloc: Global,
     text: &[u8],
 ) -> Result<usize, LoadRefusal> {
@@ -180,7 +200,11 @@ const JUDGED: &[Judged<'static>] = &[
     (b"a\n\xff\xfe\n", Ok(1)),
 ];
 
-fn expect_judged(rt: &(impl Abort + RandomSource), alloc: Global, rows: &[Judged<'_>]) {
+fn expect_judged(
+    rt: &(impl Abort + RandomSource + Threads + Sync),
+    alloc: Global,
+    rows: &[Judged<'_>],
+) {
     for (text, wanted) in rows {
         assert!(rt; rows_loaded(rt, alloc, text) == *wanted, "{text:?}");
     }
@@ -212,7 +236,7 @@ fn text_of(alloc: Global, long: &Long<'_>) -> Result<Vec<u8>, AllocError> {
 }
 
 fn expect_long(
-    rt: &(impl Abort + RandomSource),
+    rt: &(impl Abort + RandomSource + Threads + Sync),
     alloc: Global,
     rows: &[Long<'_>],
 ) -> Result<(), Fail> {
