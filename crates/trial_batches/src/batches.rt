@@ -53,11 +53,16 @@ pub(crate) const ALONE_BY_COLUMNS: Options = Options {
     parts: 1,
 };
 
-fn load_text(rt: &impl Abort, alloc: Global, keys: RandomState, text: &[u8]) -> Result<Loaded, Fail>
+fn load_text<R: Abort + Threads + Sync>(
+    rt: &R,
+    alloc: Global,
+    keys: RandomState,
+    text: &[u8],
+) -> Result<Loaded, Fail>
     ensures { IfOk result (λ l. CanBeLoaded l.table l.dicts.items) }
 {
     assert!(rt; text.len() <= 1000);
-    match load(alloc, keys, text) {
+    match load(rt, alloc, keys, text, 0) {
         Ok(loaded) => Ok(loaded),
         Err(_) => panic!(rt; "no table"),
     }
@@ -182,8 +187,8 @@ fn is_cut(loaded: &Loaded, per: u32) -> bool
 }
 
 // The table of a batch that may run under these options.
-fn table_for(
-    rt: &impl Abort,
+fn table_for<R: Abort + Threads + Sync>(
+    rt: &R,
     alloc: Global,
     keys: RandomState,
     text: &[u8],

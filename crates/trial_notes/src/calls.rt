@@ -191,6 +191,7 @@ fn each_call_says_just_its_text(rt: HostRuntime) -> Result<(), Fail> {
         let words = words_of(alloc, *line)?;
         let keys = RandomState::new(&rt)?;
         let ended = inspect(
+            &rt,
             alloc,
             keys,
             &words,

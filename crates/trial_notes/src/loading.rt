@@ -8,10 +8,11 @@ use std::alloc::Global;
 use std::hash::RandomState;
 use std::process::Abort;
 use std::random::RandomSource;
+use std::thread::Threads;
 
 // The table of a text within the limit.
 pub(crate) fn loaded(
-    rt: &(impl Abort + RandomSource),
+    rt: &(impl Abort + RandomSource + Threads + Sync),
     alloc: Global,
     text: &[u8],
 ) -> Result<Loaded, LoadRefusal>
@@ -23,6 +24,6 @@ pub(crate) fn loaded(
 {
     assert!(rt; text.len() <= MOST_TEXT_BYTES);
     let keys = RandomState::new(rt).expect(rt, "keys");
-    let loaded = load(alloc, keys, text)?;
+    let loaded = load(rt, alloc, keys, text, 0)?;
     Ok(loaded)
 }

@@ -5,6 +5,7 @@ use std::alloc::Global;
 use std::process::Abort;
 use std::random::RandomSource;
 use std::test::Fail;
+use std::thread::Threads;
 use table_core::Bytes;
 use table_profile::{profile_of, write_profile};
 
@@ -40,7 +41,11 @@ TEXT for 1 that are no numbers, first 'n/a' in row 5\n",
     ),
 ];
 
-fn told(rt: &(impl Abort + RandomSource), alloc: Global, text: &[u8]) -> Result<Bytes, Fail> {
+fn told(
+    rt: &(impl Abort + RandomSource + Threads + Sync),
+    alloc: Global,
+    text: &[u8],
+) -> Result<Bytes, Fail> {
     let loaded = loaded(rt, alloc, text)?;
     let profiles = profile_of(alloc, &loaded)?;
     Ok(write_profile(alloc, &loaded, &profiles)?)

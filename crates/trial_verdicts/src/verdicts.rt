@@ -11,6 +11,7 @@ use std::hash::RandomState;
 use std::process::Abort;
 use std::random::RandomSource;
 use std::test::Fail;
+use std::thread::Threads;
 use story_referee::{Counts, Reason, Rule};
 
 const TABLE: &[u8] = b"a\n1\n2\n";
@@ -50,7 +51,7 @@ fn words_of(alloc: Global) -> Result<Vec<String>, Fail> {
 }
 
 // The verdict on an output of the run.
-fn verdict_on<R: Abort + RandomSource>(
+fn verdict_on<R: Abort + RandomSource + Threads + Sync>(
     rt: &R,
     alloc: Global,
     output: &[u8],
@@ -64,7 +65,7 @@ fn verdict_on<R: Abort + RandomSource>(
     let Ok(request) = request_in(alloc, Call::Run, &words) else {
         panic!(rt; "usage")
     };
-    let Ok(inputs) = inputs_of(alloc, keys, &request, &mut shelf) else {
+    let Ok(inputs) = inputs_of(rt, alloc, keys, &request, &mut shelf) else {
         panic!(rt; "stopped")
     };
     let Ok(verdict) = verdict_of(alloc, &inputs, PolicyName::Relevance, output) else {
@@ -74,7 +75,7 @@ fn verdict_on<R: Abort + RandomSource>(
 }
 
 // The verdict on a first text with a second one behind it.
-fn verdict_on_both<R: Abort + RandomSource>(
+fn verdict_on_both<R: Abort + RandomSource + Threads + Sync>(
     rt: &R,
     alloc: Global,
     answers: &[u8],

@@ -11,6 +11,7 @@ use std::hash::RandomState;
 use std::process::Abort;
 use std::random::RandomSource;
 use std::test::Fail;
+use std::thread::Threads;
 
 const TABLE: &[u8] = b"id,dept,pay\n1,a,10\n2,b,20\n3,a,\n4,c,40\n5,b,-5\n";
 
@@ -62,7 +63,7 @@ fn words_of(alloc: Global, line: &str) -> Result<Vec<String>, Fail> {
 }
 
 fn read(
-    rt: &impl RandomSource,
+    rt: &(impl RandomSource + Threads + Sync),
     alloc: Global,
     line: &str,
     table: Option<&[u8]>,
@@ -73,14 +74,14 @@ fn read(
     let mut shelf = shelf_of(alloc, table, batch, fail_read)?;
     let keys = RandomState::new(rt)?;
     match request_in(alloc, Call::Run, &words) {
-        Ok(request) => Ok(inputs_of(alloc, keys, &request, &mut shelf)),
+        Ok(request) => Ok(inputs_of(rt, alloc, keys, &request, &mut shelf)),
         Err(stop) => Ok(Err(stop)),
     }
 }
 
 // Why a run stops that is given so, if it does.
 fn stop_of(
-    rt: &impl RandomSource,
+    rt: &(impl RandomSource + Threads + Sync),
     alloc: Global,
     line: &str,
     table: Option<&[u8]>,
@@ -165,7 +166,7 @@ const STOPS: &[Stopped<'static>] = &[
     ("--layout column a.csv b.sql", SOME, None, Stop::BatchFault),
 ];
 
-fn expect_stops<R: Abort + RandomSource>(
+fn expect_stops<R: Abort + RandomSource + Threads + Sync>(
     rt: &R,
     alloc: Global,
     rows: &[Stopped<'_>],
@@ -256,7 +257,7 @@ const LIMITS: &[Limit<'static>] = &[
     ),
 ];
 
-fn expect_limits<R: Abort + RandomSource>(
+fn expect_limits<R: Abort + RandomSource + Threads + Sync>(
     rt: &R,
     alloc: Global,
     rows: &[Limit<'_>],
@@ -284,7 +285,7 @@ const READS: &[(u64, Option<Stop>)] = &[
     (5, None),
 ];
 
-fn expect_reads<R: Abort + RandomSource>(
+fn expect_reads<R: Abort + RandomSource + Threads + Sync>(
     rt: &R,
     alloc: Global,
     rows: &[(u64, Option<Stop>)],
@@ -332,7 +333,7 @@ const SETTINGS: &[(&str, Settings)] = &[
 
 // Whether the words of a line give these settings, with neither summary nor trace.
 fn has_settings(
-    rt: &impl RandomSource,
+    rt: &(impl RandomSource + Threads + Sync),
     alloc: Global,
     line: &str,
     wanted: Settings,
@@ -343,7 +344,7 @@ fn has_settings(
     }
 }
 
-fn expect_settings<R: Abort + RandomSource>(
+fn expect_settings<R: Abort + RandomSource + Threads + Sync>(
     rt: &R,
     alloc: Global,
     rows: &[(&str, Settings)],
@@ -460,10 +461,10 @@ fn inputs_are_made_again_of_the_texts_that_were_read(rt: HostRuntime) -> Result<
         panic!(rt; "usage")
     };
     assert!(rt; request.compare);
-    let Ok((first, texts)) = read_inputs(alloc, keys, &request, &mut shelf) else {
+    let Ok((first, texts)) = read_inputs(&rt, alloc, keys, &request, &mut shelf) else {
         panic!(rt; "stopped")
     };
-    let Ok(second) = inputs_again(alloc, keys, &request, &texts) else {
+    let Ok(second) = inputs_again(&rt, alloc, keys, &request, &texts) else {
         panic!(rt; "stopped again")
     };
     for inputs in [&first, &second] {
