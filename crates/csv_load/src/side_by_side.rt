@@ -39,8 +39,8 @@ fn cut_at(columns: &[Gathered], wanted: usize) -> usize
     most
 }
 
-// The columns of these texts as `type_columns` makes them, by at most so many threads beside the caller's. Each thread has
-// columns that stand together, with about as many texts as any other's. Where none can be started the caller's does its work.
+// The columns of these texts as `type_columns` makes them, by at most so many threads beside the caller's. Each has columns
+// that stand together, with about as many texts as any other's. Where a thread can't be started, the caller's does its work.
 #[cycle(sides)]
 pub(crate) fn type_side_by_side<R: Threads + Sync>(
     rt: &R,
@@ -54,7 +54,7 @@ pub(crate) fn type_side_by_side<R: Threads + Sync>(
     if most_threads == 0 || columns.len() < 2 || texts < LEAST_TEXTS {
         return type_columns(alloc, columns);
     }
-    // One thread is started for the front. So many more may be started by it, and the others by the caller's.
+    // One thread is started here, for the front. So many more may be started by it, and the rest by the caller's.
     let beside = (most_threads - 1) / 2;
     let here = most_threads - 1 - beside;
     let share = texts / (most_threads as usize + 1);
