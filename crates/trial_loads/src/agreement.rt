@@ -9,23 +9,24 @@ use std::hash::RandomState;
 use std::process::Abort;
 use std::random::RandomSource;
 use std::test::Fail;
+use std::thread::Threads;
 use table_core::{Cell, Dict, Kind, Table};
 
 // What the loader makes of a text within its limit.
 fn loaded(
-    rt: &(impl Abort + RandomSource),
+    rt: &(impl Abort + RandomSource + Threads + Sync),
     alloc: Global,
     text: &[u8],
 ) -> Result<Loaded, LoadRefusal> {
     assert!(rt; text.len() <= MOST_TEXT_BYTES);
     let keys = RandomState::new(rt).expect(rt, "keys");
-    load(alloc, keys, text)
+    load(rt, alloc, keys, text, 1)
 }
 
 // The cell of a row and a column of a table; nothing where there is none.
 fn cell_at(table: &Table, row: usize, column: usize) -> Option<Cell> {
-    if row < table.len() {
-        table.row(row).get(column).copied()
+    if row < table.len() && column < table.schema().len() {
+        Some(table.cell(row, column))
     } else {
         None
     }
@@ -113,7 +114,7 @@ fn agrees(
 }
 
 fn text_agrees(
-    rt: &(impl Abort + RandomSource),
+    rt: &(impl Abort + RandomSource + Threads + Sync),
     alloc: Global,
     seed: u64,
 ) -> Result<bool, AllocError> {
