@@ -4,3 +4,4 @@ pub mod Firsts
 pub mod Lines
 pub mod Written
 pub mod Pushed
+pub mod Whole

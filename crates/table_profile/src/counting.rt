@@ -16,7 +16,8 @@ fn cell_in(table: &Table, row: usize, column: usize) -> Cell
     requires wide { All (λ row. column < length row) table.now.rows }
     ensures { result ≡ cell_at (slice_index_or table.now.rows row []) column }
 {
-    table.row(row)[column]
+    table.rows_are_whole();
+    table.cell(row, column)
 }
 
 fn is_null(cell: Cell, dict: &Dict) -> bool

@@ -119,7 +119,7 @@ pub fn profile_of(alloc: Global, loaded: &Loaded) -> Result<Vec<ColumnProfile>, 
 {
     let table = &loaded.table;
     let columns = table.schema().len();
-    let zones = zones_of(columns as u32, table.rows(0, table.len()));
+    let zones = zones_of(table, 0, table.len());
     let mut profiles = Vec::new(alloc);
     for column in 0..columns {
         profiles.push(profile_at(loaded, &zones, column))?;

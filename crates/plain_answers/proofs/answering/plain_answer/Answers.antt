@@ -10,7 +10,7 @@ use Rattle.plain_answers.proofs.answering.plain_answer.Goals as goal
 pub add_row-requires-clause-width : goal.add_row-requires-clause-width
 add_row-requires-clause-width c =
     let low : c.loop-row.row < length c.args.table.now.rows = omega (arith, c.loop-row-test.true, c.len-row-end.ensures) in
-    subst (λ (r : List Cell). FitsWidth c.args.plan.now (length r)) (sym c.row.ensures) (c.requires.width c.loop-row.row [] low)
+    subst (λ (r : List Cell). FitsWidth c.args.plan.now (length r)) (sym (c.as_slice.ensures.value ∙ c.read_row.ensures.row)) (c.requires.width c.loop-row.row [] low)
 
 pub loop-row-preserved : goal.loop-row-preserved
 loop-row-preserved c =
@@ -22,9 +22,9 @@ loop-row-preserved c =
     let old = matching p (numbered 0 (take i rows)) in
     let told = c.in_ok-add_row.ensures in
     let new = told.ok old inv.stands (is_new p rows i low c.loop-row.partial) in
-    let same : old ++ matching p ((i, c.row.result.now) ∷ []) ≡ matching p (numbered 0 (take (i + 1) rows)) =
-    ap (λ (r : List Cell). old ++ matching p ((i, r) ∷ [])) c.row.ensures ∙ sym (matching_more p rows i low) in
-    record { plan = told.plan p inv.plan; stands = subst (Stands c.add_row.new.self) same new; count = omega (arith, told.count, inv.count) }
+    let same : old ++ matching p ((i, c.as_slice.result.now) ∷ []) ≡ matching p (numbered 0 (take (i + 1) rows)) =
+    ap (λ (r : List Cell). old ++ matching p ((i, r) ∷ [])) (c.as_slice.ensures.value ∙ c.read_row.ensures.row) ∙ sym (matching_more p rows i low) in
+    record { plan = told.plan p inv.plan; stands = subst (Stands c.add_row.new.self) same new; count = omega (arith, told.count, inv.count); width = c.read_row.ensures.width }
 
 pub returns-clause-over : goal.returns-clause-over
 returns-clause-over c =

@@ -1,4 +1,4 @@
-use Rattle.std.proofs.Common.{◌≤◌, take}
+use Rattle.std.proofs.Common.{◌≡◌, ◌≤◌, length, take}
 use Rattle.sql_bind.specs.Meaning.{numbered}
 use Rattle.query_gather.specs.Partial.{FitsPlan, Stands, matching, row_count}
 use Rattle.plain_answers.proofs.answering.plain_answer.Given as goal
@@ -9,4 +9,5 @@ invariant-loop-row l = record {
   plan : FitsPlan l.plan l.partial;
   stands : Stands l.partial (matching l.plan (numbered 0 (take l.row l.table.rows)));
   count : row_count l.partial ≤ l.row;
+  width : length l.cells.items ≡ length l.table.columns;
 }

@@ -1,4 +1,8 @@
-use Rattle.std.proofs.Common.{◌+◌, ◌∙◌, ◌∷◌, [], ap, length-append}
+use Rattle.std.proofs.Common.{◌≡◌, ◌+◌, ◌∙◌, ◌∷◌, [], List, ap, arith, length, length-append, subst}
+use Rattle.std.specs.Prelude.{All}
+use Rattle.table_core.specs.declared.cell.Cell.{Cell}
+use Rattle.filter_zones.specs.Zone.{CoversRow, IsZone, column_of, zone_at}
+use Rattle.table_profile.proofs.Whole.{whole}
 use Rattle.table_core.specs.Fitting.{dict_at}
 use Rattle.table_profile.specs.Profiles.{IsProfileAt}
 use Rattle.table_profile.specs.Written.{IsReadable}
@@ -16,3 +20,16 @@ loop-column-preserved c =
       each = each_pushed (IsProfileAt l) ps p x c.loop-column.invariant.count c.loop-column.invariant.each c.profile_at.ensures.profile;
       readable = each_pushed (λ k q. IsReadable (dict_at l.dicts.items k) q) ps p x c.loop-column.invariant.count c.loop-column.invariant.readable c.profile_at.ensures.readable;
     })
+
+-- the zones are over all rows
+pub profile_at-requires-clause-zone : goal.profile_at-requires-clause-zone
+profile_at-requires-clause-zone c =
+    let rows = c.args.loaded.now.table.rows in
+    let x = c.loop-column.column in
+    subst (λ (part : List (List Cell)). IsZone (column_of x part) (zone_at c.zones_of-zones.result.zones x)) (whole rows c.len-2.result (omega (arith, c.len-2.ensures)))
+    (c.zones_of-zones.ensures.of_columns x (omega (arith, c.loop-column-test.true, c.len-columns.ensures, ap length c.schema.ensures)))
+
+pub profile_at-requires-clause-covers : goal.profile_at-requires-clause-covers
+profile_at-requires-clause-covers c =
+    let rows = c.args.loaded.now.table.rows in
+    subst (All (CoversRow c.zones_of-zones.result.zones)) (whole rows c.len-2.result (omega (arith, c.len-2.ensures))) c.zones_of-zones.ensures.covers
