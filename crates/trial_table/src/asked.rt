@@ -2,17 +2,17 @@
 ghost use Rattle.std.specs.Prelude.{◌≡◌, ◌<◌, ◌-◌, ℕ, [], length, slice_index_or, false};
 ghost use Rattle.std.specs.Bool.{OnTrue};
 ghost use Rattle.std.specs.Ordering.{is_gt};
+ghost use Rattle.piece_format.specs.Cells.{cell_at};
 ghost use Rattle.piece_format.specs.Shape.{IsShape};
 ghost use Rattle.table_core.specs.Fitting.{kind_at};
 ghost use Rattle.table_core.specs.Dict.{text_cmp};
-ghost use Rattle.table_core.specs.Table.{AreWholeRows};
+ghost use Rattle.table_core.specs.Columns.{AreColumnsOf};
 ghost use Rattle.table_core.specs.Value.{FitsColumn};
-ghost use Rattle.table_core.specs.declared.cell.Cell.TheVariants.{Null};
 ghost use Rattle.table_pieces.specs.Shaping.{FitsDicts, shape_of};
 
 use piece_format::{Layout, Shape};
 use table_core::{
-    Cell, Column, Dict, Kind, MOST_CHUNK_ROWS, MOST_CHUNKS, MOST_COLUMNS, MOST_ROWS, Table,
+    Cell, Cells, Column, Dict, Kind, MOST_CHUNK_ROWS, MOST_CHUNKS, MOST_COLUMNS, MOST_ROWS, Table,
     chunk_count,
 };
 
@@ -56,15 +56,17 @@ fn fits_column(kind: Kind, dict: &Dict, cell: Cell) -> bool
     }
 }
 
-fn fits_row(columns: &[Column], dicts: &[Dict], row: &[Cell]) -> bool
+fn fits_row(columns: &[Column], dicts: &[Dict], table: &Table, row: usize) -> bool
+    requires columns { columns.now ≡ table.now.columns }
+    requires row { row < length table.now.rows }
     ensures { OnTrue result ((x : ℕ) → x < length columns.now
-        → FitsColumn (kind_at columns.now x) (slice_index_or dicts.now x []) (slice_index_or row.now x Null)) }
+        → FitsColumn (kind_at columns.now x) (slice_index_or dicts.now x []) (cell_at table.now.rows row x)) }
 {
-    if row.len() != columns.len() || dicts.len() != columns.len() {
+    if dicts.len() != columns.len() {
         return false;
     }
     for x in 0..columns.len() {
-        if !fits_column(columns[x].kind, &dicts[x], row[x]) {
+        if !fits_column(columns[x].kind, &dicts[x], table.cell(row, x)) {
             return false;
         }
     }
@@ -76,18 +78,26 @@ pub(crate) fn fits_dicts(table: &Table, dicts: &[Dict]) -> bool
     ensures { OnTrue result (FitsDicts table.now dicts.now) }
 {
     for row in 0..table.len() {
-        if !fits_row(table.schema().columns(), dicts, table.row(row)) {
+        if !fits_row(table.schema().columns(), dicts, table, row) {
             return false;
         }
     }
     true
 }
 
-// Whether the cells are whole rows.
-pub(crate) fn are_whole_rows(width: usize, cells: &[Cell]) -> bool
-    ensures { OnTrue result (AreWholeRows width cells.now) }
+// Whether there are so many columns, at least one, each so long.
+pub(crate) fn are_columns(width: usize, rows: usize, columns: &[Cells]) -> bool
+    ensures { OnTrue result (AreColumnsOf width rows columns.now) }
 {
-    width > 0 && cells.len() % width == 0
+    if width == 0 || columns.len() != width {
+        return false;
+    }
+    for column in columns {
+        if column.len() != rows {
+            return false;
+        }
+    }
+    true
 }
 
 // Whether the text may stand at the end of the dictionary.

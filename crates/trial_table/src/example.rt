@@ -1,14 +1,15 @@
 // The tables that are cut: among them the columns `id`, `dept` and `pay`, whose texts are a, b and c.
 ghost use Rattle.std.specs.Prelude.{IfOk};
+ghost use Rattle.table_core.specs.Codes.{IsCode};
 ghost use Rattle.piece_format.specs.Cells.{IsTableOf};
 ghost use Rattle.piece_format.specs.Shape.{IsShape};
 
-use crate::asked::{are_whole_rows, can_follow, fits_dicts, has_shape};
+use crate::asked::{are_columns, can_follow, fits_dicts, has_shape};
 use piece_format::{Layout, Shape};
 use std::alloc::{AllocError, Global};
 use std::process::Abort;
 use std::test::Fail;
-use table_core::{Bytes, Cell, Column, Dict, Kind, Schema, Table};
+use table_core::{Bytes, Cell, Cells, Codes, Column, Dict, Kind, Numbers, Schema, Table};
 use table_pieces::shape_of;
 
 pub(crate) const KINDS: [Kind; 3] = [Kind::Int, Kind::Text, Kind::Int];
@@ -51,7 +52,65 @@ pub(crate) fn seventy(alloc: Global, codes: bool) -> Result<Vec<Cell>, AllocErro
     Ok(cells)
 }
 
-fn table_of(
+// The numbers of a column of cells that stand row by row.
+fn numbers_of(
+    alloc: Global,
+    cells: &[Cell],
+    width: usize,
+    place: usize,
+) -> Result<Numbers, AllocError> {
+    let mut numbers = Numbers::new(alloc);
+    for at in 0..cells.len() {
+        if at.checked_rem(width) == Some(place) {
+            numbers.push(match cells[at] {
+                Cell::Int(number) => Some(number),
+                _ => None,
+            })?;
+        }
+    }
+    Ok(numbers)
+}
+
+// A code that may stand in a column.
+fn code_in(cell: Cell) -> Option<u32>
+    ensures { IsCode result }
+{
+    match cell {
+        Cell::Code(code) => if code < u32::MAX { Some(code) } else { None },
+        _ => None,
+    }
+}
+
+// The codes of a column of cells that stand row by row.
+fn codes_of(
+    alloc: Global,
+    cells: &[Cell],
+    width: usize,
+    place: usize,
+) -> Result<Codes, AllocError> {
+    let mut codes = Codes::new(alloc);
+    for at in 0..cells.len() {
+        if at.checked_rem(width) == Some(place) {
+            codes.push(code_in(cells[at]))?;
+        }
+    }
+    Ok(codes)
+}
+
+// The columns of these kinds, of cells that stand row by row.
+fn columns_of(alloc: Global, kinds: &[Kind], cells: &[Cell]) -> Result<Vec<Cells>, AllocError> {
+    let mut columns = Vec::new(alloc);
+    for place in 0..kinds.len() {
+        columns.push(match kinds[place] {
+            Kind::Text => Cells::Codes(codes_of(alloc, cells, kinds.len(), place)?),
+            _ => Cells::Numbers(numbers_of(alloc, cells, kinds.len(), place)?),
+        })?;
+    }
+    Ok(columns)
+}
+
+// The table of these kinds, of cells that stand row by row.
+pub(crate) fn table_of(
     rt: &impl Abort,
     alloc: Global,
     kinds: &[Kind],
@@ -64,9 +123,10 @@ fn table_of(
             kind: *kind,
         })?;
     }
-    let cells = Vec::from_slice(alloc, cells)?;
-    assert!(rt; are_whole_rows(columns.len(), cells.as_slice()));
-    Ok(Table::new(Schema::new(columns), cells))
+    let rows = cells.len().checked_div(kinds.len()).unwrap_or(0);
+    let cells = columns_of(alloc, kinds, cells)?;
+    assert!(rt; are_columns(columns.len(), rows, cells.as_slice()));
+    Ok(Table::new(Schema::new(columns), cells, rows))
 }
 
 // A dictionary of so many texts of one byte: a, b, c and so on.

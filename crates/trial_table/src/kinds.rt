@@ -120,7 +120,7 @@ fn names_are_ranked_byte_by_byte(rt: HostRuntime) -> Result<(), Fail> {
     let Ok(loaded) = loaded(&rt, rt.alloc(), NAMES) else {
         return Err(Fail::new("refused"));
     };
-    assert!(rt; cells_of(&loaded.table) == RANKS);
+    assert!(rt; cells_of(rt.alloc(), &loaded.table)?.as_slice() == RANKS);
     expect_codes(&rt, &loaded.dicts, CODES);
     Ok(())
 }

@@ -78,9 +78,15 @@ pub(crate) fn loaded_by(
     load(rt, alloc, keys, text, most_threads)
 }
 
-// All cells of a table.
-pub(crate) fn cells_of(table: &Table) -> &[Cell] {
-    table.rows(0, table.len())
+// All cells of a table, row by row.
+pub(crate) fn cells_of(alloc: Global, table: &Table) -> Result<Vec<Cell>, AllocError> {
+    let mut cells = Vec::new(alloc);
+    for row in 0..table.len() {
+        for column in 0..table.schema().len() {
+            cells.push(table.cell(row, column))?;
+        }
+    }
+    Ok(cells)
 }
 
 // Whether the text has a table of these cells.
@@ -91,7 +97,7 @@ fn has_cells(
     cells: &[Cell],
 ) -> bool {
     match loaded(rt, alloc, text) {
-        Ok(loaded) => cells_of(&loaded.table) == cells,
+        Ok(loaded) => cells_of(alloc, &loaded.table).is_ok_and(|read| read.as_slice() == cells),
         Err(_) => false,
     }
 }

@@ -11,7 +11,7 @@ use piece_format::{Layout, Piece, Shape, cell_of, groups, piece_words, word_at, 
 use std::alloc::Global;
 use std::process::Abort;
 use std::test::Fail;
-use table_core::{Bytes, Cell, Kind};
+use table_core::{Bytes, Cell, Kind, Table};
 use table_pieces::chunks_of;
 
 // The cell of a row and a column that the piece has, from the words at its places.
@@ -39,8 +39,23 @@ fn has_column(piece: Piece, column: u32) -> bool
     }
 }
 
-// Whether each cell of a row that the piece has comes back from its bytes.
-fn come_back(shape: &Shape, piece: Piece, bytes: &[u8], row: u32, cells: &[Cell]) -> bool
+// The cell of a row and a column of a table, if they are there.
+fn cell_of_table(table: &Table, row: usize, column: usize) -> Option<Cell> {
+    if row < table.len() && column < table.schema().len() {
+        return Some(table.cell(row, column));
+    }
+    None
+}
+
+// Whether each cell of a row that the piece has comes back from its bytes, as it stands in a row of the table.
+fn come_back(
+    shape: &Shape,
+    piece: Piece,
+    bytes: &[u8],
+    row: u32,
+    table: &Table,
+    place: usize,
+) -> bool
     requires shape { IsShape shape.now }
     requires piece { IsPieceOf shape.now piece }
     requires bytes { length bytes.now ≡ 8 * words_in piece }
@@ -49,7 +64,7 @@ fn come_back(shape: &Shape, piece: Piece, bytes: &[u8], row: u32, cells: &[Cell]
     for column in 0..piece.columns {
         if has_column(piece, column) {
             let cell = cell_in(shape, piece, bytes, row, column);
-            if cells.get(column as usize) != Some(&cell) {
+            if cell_of_table(table, place, column as usize) != Some(cell) {
                 return false;
             }
         }
@@ -76,7 +91,7 @@ fn row_comes_back(rt: &impl Abort, cut: &Example, piece: u32, bytes: &[u8], row:
     assert!(rt; row < part.rows);
     let first = (piece / groups(shape)).saturating_mul(shape.per);
     let place = first.saturating_add(row) as usize;
-    place < cut.table.len() && come_back(shape, part, bytes, row, cut.table.row(place))
+    come_back(shape, part, bytes, row, &cut.table, place)
 }
 
 // The bytes of a piece, which are found to be sound.

@@ -3,14 +3,13 @@ ghost use Rattle.std.specs.Prelude.{All};
 ghost use Rattle.std.specs.Bool.{OnTrue};
 ghost use Rattle.filter_zones.specs.Possible.{FitsZones};
 
-use crate::asked::are_whole_rows;
 use crate::conds::{NOTHING, NULLS, OPS, both, chunk_of, compare, expect, fits_chunk, not, set_of};
-use crate::example::CELLS;
+use crate::example::{CELLS, KINDS, table_of};
 use filter_zones::{Bound, ChunkZones, Cond, Zone, needed, zones_of};
-use std::alloc::Global;
+use std::alloc::{AllocError, Global};
 use std::process::Abort;
 use std::test::Fail;
-use table_core::{Cell, Op};
+use table_core::{Cell, Op, Table};
 
 // Each comparison, with its possible truths where the value is below the least cell 2, at it, between, at the greatest
 // cell 4, and above it, and where it is below, at and above the only cell 3.
@@ -183,26 +182,28 @@ const THIRD_PAY: Zone = Zone {
     range: Some((Cell::Int(-5), Cell::Int(-5))),
 };
 
-// The zones of a chunk of these cells in three columns.
-fn zones_of_cells(rt: &impl Abort, cells: &[Cell]) -> ChunkZones {
-    assert!(rt; are_whole_rows(3, cells));
-    zones_of(3, cells)
+// The zones of the rows from one place up to another, of a table of three columns.
+fn zones_between(rt: &impl Abort, table: &Table, from: usize, to: usize) -> ChunkZones {
+    assert!(rt; from <= to && to <= table.len() && table.schema().len() == 3);
+    zones_of(table, from, to)
 }
 
 // The zones of the chunks of the five rows, two in each but the last.
-fn three_chunks(rt: &impl Abort) -> [ChunkZones; 3] {
-    [
-        zones_of_cells(rt, &CELLS[0..6]),
-        zones_of_cells(rt, &CELLS[6..12]),
-        zones_of_cells(rt, &CELLS[12..15]),
-    ]
+fn three_chunks(rt: &impl Abort, alloc: Global) -> Result<[ChunkZones; 3], AllocError> {
+    let table = table_of(rt, alloc, &KINDS, &CELLS)?;
+    Ok([
+        zones_between(rt, &table, 0, 2),
+        zones_between(rt, &table, 2, 4),
+        zones_between(rt, &table, 4, 5),
+    ])
 }
 
 #[test]
-fn each_chunk_has_its_zones(rt: HostRuntime) {
-    let chunks = three_chunks(&rt);
+fn each_chunk_has_its_zones(rt: HostRuntime) -> Result<(), Fail> {
+    let chunks = three_chunks(&rt, rt.alloc())?;
     assert!(rt; &chunks[1].zones[..4] == SECOND.as_slice());
     assert!(rt; chunks[2].zones[2] == THIRD_PAY);
+    Ok(())
 }
 
 // How many of the chunks are needed without a condition.
@@ -218,18 +219,18 @@ fn chunks_needed(rt: &impl Abort, cond: &Cond, chunks: &[ChunkZones; 3]) -> [boo
 }
 
 // The condition needs just these of the three chunks.
-fn expect_needed(rt: &impl Abort, cond: &Cond, wanted: [bool; 3]) {
-    let chunks = three_chunks(rt);
-    assert!(rt; chunks_needed(rt, cond, &chunks) == wanted, "{cond:?}");
+fn expect_needed(rt: &impl Abort, chunks: &[ChunkZones; 3], cond: &Cond, wanted: [bool; 3]) {
+    assert!(rt; chunks_needed(rt, cond, chunks) == wanted, "{cond:?}");
 }
 
 #[test]
 fn a_condition_skips_the_chunks_that_it_cannot_match(rt: HostRuntime) -> Result<(), Fail> {
-    assert!(rt; count_needed(&three_chunks(&rt)) == 3);
-    expect_needed(&rt, &compare(0, Op::Ge, 4), [false, true, true]);
-    expect_needed(&rt, &compare(0, Op::Gt, 9), [false, false, false]);
+    let chunks = three_chunks(&rt, rt.alloc())?;
+    assert!(rt; count_needed(&chunks) == 3);
+    expect_needed(&rt, &chunks, &compare(0, Op::Ge, 4), [false, true, true]);
+    expect_needed(&rt, &chunks, &compare(0, Op::Gt, 9), [false, false, false]);
     let not_over_null = not(rt.alloc(), compare(2, Op::Gt, 15))?;
-    expect_needed(&rt, &not_over_null, [true, false, true]);
+    expect_needed(&rt, &chunks, &not_over_null, [true, false, true]);
     Ok(())
 }
 
@@ -250,7 +251,8 @@ fn expect_none(rt: &impl Abort, alloc: Global, chunk: &ChunkZones, op: Op) -> Re
 
 #[test]
 fn an_empty_chunk_has_no_truth(rt: HostRuntime) -> Result<(), Fail> {
-    let chunk = zones_of_cells(&rt, &[]);
+    let table = table_of(&rt, rt.alloc(), &KINDS, &CELLS)?;
+    let chunk = zones_between(&rt, &table, 2, 2);
     let zones = [NOTHING; 16];
     assert!(rt; chunk == ChunkZones { zones });
     for op in OPS {
