@@ -51,6 +51,38 @@ const CELLS: &[Read<'static>] = &[
             Cell::Code(1),
         ],
     ),
+    // numbers with places: all alike, a whole one and a zero with a sign among them, and those above a text
+    (
+        b"p,w,z,t\n1.50,7,0.5,0.00\n-0.25,,-0,1.25\n,2,2.5,-0.00\n12.00,1.5,,x\n",
+        &[
+            Cell::Int(150),
+            Cell::Int(70),
+            Cell::Int(5),
+            Cell::Code(1),
+            Cell::Int(-25),
+            Cell::Null,
+            Cell::Int(0),
+            Cell::Code(2),
+            Cell::Null,
+            Cell::Int(20),
+            Cell::Int(25),
+            Cell::Code(0),
+            Cell::Int(1200),
+            Cell::Int(15),
+            Cell::Null,
+            Cell::Code(3),
+        ],
+    ),
+    // the last row has other places than the numbers above it, which reach the end of 64 bits
+    (
+        b"v\n-0.05\n10.00\n-92233720368547758.08\n1.5\n",
+        &[
+            Cell::Int(-5),
+            Cell::Int(1000),
+            Cell::Int(-9223372036854775808),
+            Cell::Int(150),
+        ],
+    ),
     // 17 bytes that are the same
     (
         b"v\naaaaaaaaaaaaaaaaab\naaaaaaaaaaaaaaaaa\naaaaaaaaaaaaaaaaaab\naaaaaaaaaaaaaaaaaa\n",
