@@ -75,7 +75,13 @@ fn a_table_and_a_batch_come_out_of_pipes(rt: HostRuntime) -> Result<(), Fail> {
     let (table, batch) = (pipe_of(rt, TABLE)?, pipe_of(rt, BATCH)?);
     let (table_name, batch_name) = (name_of(rt, &table)?, name_of(rt, &batch)?);
     let mut shelf = DiskShelf::new(rt);
-    let is_table = is_read(rt.alloc(), &mut shelf, table_name.as_str(), 268435456, TABLE);
+    let is_table = is_read(
+        rt.alloc(),
+        &mut shelf,
+        table_name.as_str(),
+        268435456,
+        TABLE,
+    );
     let is_batch = is_read(rt.alloc(), &mut shelf, batch_name.as_str(), 1048576, BATCH);
     assert!(rt; is_table && is_batch);
     Ok(())
