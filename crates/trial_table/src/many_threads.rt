@@ -1,4 +1,6 @@
 // One text loaded by several numbers of threads.
+ghost use Rattle.std.specs.Prelude.{◌<◌};
+
 use crate::loading::loaded_by;
 use csv_load::Loaded;
 use std::alloc::{AllocError, Global};
@@ -13,7 +15,9 @@ const WIDTH: usize = 6;
 
 // The fields of a row: its number; falling texts; one of two texts; texts that a step of 7 mixes; its number in
 // hundredths; and texts of which each third is left out.
-fn record(alloc: Global, row: u32) -> Result<String, AllocError> {
+fn record(alloc: Global, row: u32) -> Result<String, AllocError>
+    requires { row < ROWS }
+{
     let two = if row % 2 == 0 { "low" } else { "high" };
     let falling = ROWS - 1 - row;
     let mixed = row * 7 % ROWS;
@@ -45,7 +49,9 @@ const KINDS: [Kind; WIDTH] = [
 const TEXTS: [u32; WIDTH] = [0, ROWS, 2, ROWS, 0, ROWS / 3 * 2];
 
 // The cells of a row. `high` stands before `low`, and two of three rows have a text of the last column.
-fn cells(row: u32) -> [Cell; WIDTH] {
+fn cells(row: u32) -> [Cell; WIDTH]
+    requires { row < ROWS }
+{
     let thirds = if row % 3 == 0 {
         Cell::Null
     } else {
@@ -74,16 +80,24 @@ fn has_kinds(loaded: &Loaded) -> bool {
     true
 }
 
-fn has_cells(table: &Table) -> bool {
-    if table.len() != ROWS as usize {
+fn has_row(table: &Table, row: u32) -> bool
+    requires { row < ROWS }
+{
+    if row as usize >= table.len() || table.schema().len() != WIDTH {
         return false;
     }
+    let mut read = [Cell::Null; WIDTH];
+    table.row(row as usize, &mut read);
+    read == cells(row)
+}
+
+fn has_cells(table: &Table) -> bool {
     for row in 0..ROWS {
-        if table.row(row as usize) != cells(row).as_slice() {
+        if !has_row(table, row) {
             return false;
         }
     }
-    true
+    table.len() == ROWS as usize
 }
 
 // Whether a column's dictionary has this text for a code.
