@@ -33,7 +33,6 @@ use relevance::Policy;
 use std::alloc::Global;
 use std::sync::Wait;
 use std::thread::Threads;
-use table_core::Table;
 use table_pieces::{BatchRefusal, put_pieces};
 
 /// Answers a batch of queries over one table, on as many workers as the options say, each in a thread of its own as far as
@@ -119,8 +118,7 @@ pub fn run_batch<P: Policy, D: Depot + Send, T: Gate + Sync, R: Threads + Wait +
         Err(refusal) => return Err((depot, refusal)),
     }
     // What is answered comes from the depot.
-    let Table { schema, cells } = table;
-    drop(cells);
+    let schema = table.into_schema();
     let Setup {
         shape,
         needs,

@@ -59,6 +59,14 @@ impl Table {
         &self.schema
     }
 
+    /// The columns, of a table whose cells are let go.
+    pub fn into_schema(self) -> Schema
+        ensures { result ≡ self.columns }
+    {
+        let Table { schema, .. } = self;
+        schema
+    }
+
     /// How many rows there are.
     pub fn len(&self) -> usize
         ensures { result ≡ length self.now.rows }
