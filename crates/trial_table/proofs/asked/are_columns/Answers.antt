@@ -7,13 +7,14 @@ use Rattle.trial_table.proofs.asked.are_columns.Goals as goal
 
 pub loop-column-preserved : goal.loop-column-preserved
 loop-column-preserved c =
-    All-more (λ (column : Cells). length (column_cells column) ≡ c.args.rows) c.args.columns.now c.loop-column.column-index _ c.loop-column-test.true c.loop-column.invariant ?
+    All-more (λ (column : Cells). length (column_cells column) ≡ c.args.rows) c.args.columns.now c.loop-column.column-index c.column-item.result c.loop-column-test.true c.loop-column.invariant
+    (ap (λ cells. length (column_cells cells)) (sym c.column-item.is) ∙ sym c.len.ensures ∙ c.if-len-rows.false)
 
 pub returns : goal.returns
 returns c =
     let columns = c.args.columns.now in
     record {
-      count = ?;
+      count = c.if-columns-width.false;
       long = All-same (λ (column : Cells). length (column_cells column) ≡ c.args.rows) columns (take c.loop-column.column-index columns) (sym (take_all c.loop-column.column-index columns c.loop-column-test.false)) c.loop-column.invariant;
-      none = ?;
+      none = λ none. absurd (c.if-width-eq0.false none);
     }
