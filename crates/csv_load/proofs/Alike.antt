@@ -1,10 +1,10 @@
 -- Numbers that are spelled alike, with one more.
 use Rattle.std.proofs.Common.{◌≡◌, ◌∙◌, ◌<◌, ◌≤◌, ◌++◌, ℕ, List, [], ◌∷◌, arith, refl, ap, length, get_or, map, length-append, true, false}
 use Rattle.std.specs.Prelude.{All, ℤ, Option, Some, None, IfSome, is_some}
-use Rattle.std.proofs.lemmas.List.{get_or_append_left, map_push}
+use Rattle.std.proofs.lemmas.List.{map_push}
 use Rattle.std.proofs.lemmas.List.Elements.{All-head, All-push, All-tail, All-weaker}
 use Rattle.std.proofs.Math.Seq.{get_or-append_seam}
-use Rattle.csv_load.specs.Gathered.{AreNumbers, Follows, number_fields, places_or_none, spelled, with_places}
+use Rattle.csv_load.specs.Gathered.{AreNumbers, Follows, number_fields, spelled, with_places}
 use Rattle.csv_load.specs.Number.{number_read}
 use Rattle.csv_load.specs.declared.number.Number.{Number}
 use Rattle.csv_load.proofs.Spelled.{number-spelled}
@@ -18,23 +18,8 @@ IsRead places o = IfSome o (λ n. number_read (number_text places n) ≡ Some (w
 abbrev pub IsBegun : List (Option ℤ) → Type 0
 IsBegun numbers = (k : ℕ) × (k < length numbers) × (is_some (get_or numbers k None) ≡ true)
 
-begun-more : (numbers : List (Option ℤ)) (o : Option ℤ) → IsBegun numbers → IsBegun (numbers ++ o ∷ [])
-begun-more numbers o begun = (begun.0, omega (arith, begun.1, length-append numbers (o ∷ [])), rw (get_or_append_left numbers (o ∷ []) None begun.0 begun.1) begun.2)
-
 begun-here : (numbers : List (Option ℤ)) (n : ℤ) → IsBegun (numbers ++ Some n ∷ [])
 begun-here numbers n = (length numbers, omega (arith, length-append numbers (Some n ∷ [])), rw (get_or-append_seam numbers (Some n) [] None) refl)
-
--- an empty field more
-pub numbers-none : (places : Option ℕ) (numbers : List (Option ℤ)) → AreNumbers places numbers → AreNumbers places (numbers ++ None ∷ [])
-numbers-none None numbers is = All-push (λ (o : Option ℤ). o ≡ None) numbers None is refl
-numbers-none (Some places) numbers is = record {
-  few = is.few;
-  begun = begun-more numbers None is.begun;
-  read = All-push (IsRead places) numbers None is.read tt;
-}
-
-pub fields-none : (places : Option ℕ) (numbers : List (Option ℤ)) → number_fields places (numbers ++ None ∷ []) ≡ number_fields places numbers ++ [] ∷ []
-fields-none places numbers = map_push (spelled (places_or_none places)) numbers None
 
 -- empty fields are the same with any places
 all-empty : (p q : ℕ) (numbers : List (Option ℤ)) → All (λ o. o ≡ None) numbers → map (spelled p) numbers ≡ map (spelled q) numbers
@@ -72,8 +57,3 @@ fields-some None numbers n field is e plain follows =
     map_push (spelled n.places) numbers (Some n.value) ∙ rw (← number-spelled field n e plain, all-empty n.places 0 numbers is) refl
 fields-some (Some places) numbers n field is e plain follows =
     map_push (spelled n.places) numbers (Some n.value) ∙ rw (← number-spelled field n e plain, follows) refl
-
--- there are at most nine places
-pub numbers-few : (places : Option ℕ) (numbers : List (Option ℤ)) → AreNumbers places numbers → places_or_none places ≤ 9
-numbers-few None numbers is = omega arith
-numbers-few (Some places) numbers is = is.few

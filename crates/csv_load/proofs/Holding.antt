@@ -14,7 +14,7 @@ use Rattle.csv_load.proofs.Few.{small-number, AreSmall}
 use Rattle.table_core.specs.declared.schema.Kind.{Kind}
 use Rattle.table_core.specs.declared.schema.Kind.TheVariants.{Int, Text, Dec}
 use Rattle.table_core.specs.Columns.{number_cell}
-use Rattle.table_core.specs.Value.{FitsColumn, none, number, places_of, value_in}
+use Rattle.table_core.specs.Value.{FitsColumn, number, places_of, value_in}
 
 pub times-one : (z : ℤ) → z *ℤ pos 1 ≡ z
 unfolding one
@@ -33,13 +33,6 @@ of-decimal Int [] numbers of = refl
 of-decimal Int (c ∷ cs) numbers of = plain-fits (number_read (c ∷ cs)) (small-number (c ∷ cs)) of
 of-decimal Text field numbers of = absurd (numbers refl)
 of-decimal (Dec places) field numbers of = of
-
--- no number: then the field is empty
-pub value-null : (kind : Kind) (field : List ℕ) → kind ≢ Text → number_read field ≡ None → is_of kind field ≡ true → none ≡ value_as kind field
-value-null kind [] numbers unread of = refl
-value-null Int (c ∷ cs) numbers unread of = rw unread refl
-value-null Text (c ∷ cs) numbers unread of = absurd (numbers refl)
-value-null (Dec places) (c ∷ cs) numbers unread of = rw unread refl
 
 pub value-number : (kind : Kind) (field : List ℕ) (n : Number) → kind ≢ Text → number_read field ≡ Some n → number (scaled (places_of kind) n) ≡ value_as kind field
 value-number kind [] n numbers e = absurd (cc)
