@@ -8,8 +8,8 @@ use std::alloc::{AllocError, Global};
 use std::process::Abort;
 use std::test::Fail;
 use table_core::{
-    Bytes, Cell, Cells, ChunkSet, Codes, Column, ColumnSet, Dict, Kind, MOST_CHUNKS, Numbers, Schema, Table,
-    Texts, chunk_count, chunk_span, places_of_kind, write_quoted, write_value,
+    Bytes, Cell, Cells, ChunkSet, Codes, Column, ColumnSet, Dict, Kind, MOST_CHUNKS, Numbers,
+    Schema, Table, Texts, chunk_count, chunk_span, places_of_kind, write_quoted, write_value,
 };
 
 fn bytes_of(alloc: Global, text: &[u8]) -> Result<Bytes, AllocError> {
