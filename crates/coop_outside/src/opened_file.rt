@@ -5,10 +5,11 @@ use std::fs::{self, File};
 use std::io::{self, ErrorKind, Read, Seek, SeekFrom};
 use std::rt::Files;
 
-/// An open file, the name under which it was opened, and where its next read begins, in bytes from 0.
+/// An open file, the name under which it was opened, and where its next read begins, in bytes from 0. Where there was no
+/// memory for the name, it has none, and isn't read on.
 #[derive(Drop)]
 pub(crate) struct OpenedFile {
-    name: String,
+    name: Option<String>,
     file: File,
     place: u64,
 }
@@ -21,17 +22,20 @@ impl OpenedFile {
         name: &str,
         place: u64,
     ) -> io::Result<Self> {
-        let name = String::from_str(rt.alloc(), name)?;
-        let mut file = fs::open(rt, name.as_str())?;
+        let mut file = fs::open(rt, name)?;
         if place > 0 {
             file.seek(SeekFrom::Start(place))?;
         }
+        let name = String::from_str(rt.alloc(), name).ok();
         Ok(OpenedFile { name, file, place })
     }
 
     /// Tells whether the next read is of this name, from this place on.
     pub(crate) fn is_at(&self, name: &str, place: u64) -> bool {
-        self.place == place && self.name.as_str() == name
+        match &self.name {
+            Some(own) => self.place == place && own.as_str() == name,
+            None => false,
+        }
     }
 
     /// Reads on, and says how many bytes it read; a read that the system interrupts is made again.
