@@ -26,10 +26,10 @@ pub profile_at-requires-clause-zone : goal.profile_at-requires-clause-zone
 profile_at-requires-clause-zone c =
     let rows = c.args.loaded.now.table.rows in
     let x = c.loop-column.column in
-    subst (λ (part : List (List Cell)). IsZone (column_of x part) (zone_at c.zones_of-zones.result.zones x)) (whole rows c.len-2.result (omega (arith, c.len-2.ensures)))
+    subst (λ (part : List (List Cell)). IsZone (column_of x part) (zone_at c.zones_of-zones.result.zones x)) (whole rows c.len.result (omega (arith, c.len.ensures)))
     (c.zones_of-zones.ensures.of_columns x (omega (arith, c.loop-column-test.true, c.len-columns.ensures, ap length c.schema.ensures)))
 
 pub profile_at-requires-clause-covers : goal.profile_at-requires-clause-covers
 profile_at-requires-clause-covers c =
     let rows = c.args.loaded.now.table.rows in
-    subst (All (CoversRow c.zones_of-zones.result.zones)) (whole rows c.len-2.result (omega (arith, c.len-2.ensures))) c.zones_of-zones.ensures.covers
+    subst (All (CoversRow c.zones_of-zones.result.zones)) (whole rows c.len.result (omega (arith, c.len.ensures))) c.zones_of-zones.ensures.covers
