@@ -11,9 +11,11 @@ use inspect_calls::{StderrSink, inspect, say};
 use std::hash::RandomState;
 use std::io;
 use std::process::ExitCode;
+use std::thread::Threads;
 
 // Runs the program over the files of the system, and answers its status; or why the words could not be had.
-fn inspect_on(
+fn inspect_on<R: Threads + Sync>(
+    handle: &R,
     rt: HostRuntime,
     out: &mut StdoutSink<HostRuntime>,
     err: &mut StderrSink,
@@ -22,7 +24,7 @@ fn inspect_on(
     let keys = RandomState::new(&rt)?;
     let mut shelf = DiskShelf::new(rt);
     Ok(inspect(
-        &rt,
+        handle,
         rt.alloc(),
         keys,
         behind_name(&all),
@@ -35,7 +37,7 @@ fn inspect_on(
 fn main(rt: HostRuntime) -> ExitCode {
     let mut out = StdoutSink::new(rt);
     let mut err = StderrSink::new(rt);
-    let status = match inspect_on(rt, &mut out, &mut err) {
+    let status = match inspect_on(&rt, rt, &mut out, &mut err) {
         Ok(status) => status,
         Err(error) => say(&unread(rt.alloc(), &error), &mut out, &mut err),
     };

@@ -5,10 +5,11 @@
 use coop_outside::{DiskShelf, StdoutSink};
 use inspect_calls::{StderrSink, inspect};
 use std::hash::RandomState;
+use std::thread::Threads;
 use std::{env, io};
 
 // Makes one call over the files of the system, and answers its status.
-fn make(rt: HostRuntime, call: &str) -> io::Result<u8> {
+fn make<R: Threads + Sync>(handle: &R, rt: HostRuntime, call: &str) -> io::Result<u8> {
     let alloc = rt.alloc();
     let mut words = Vec::new(alloc);
     for word in call.split(' ') {
@@ -17,13 +18,13 @@ fn make(rt: HostRuntime, call: &str) -> io::Result<u8> {
     let keys = RandomState::new(&rt)?;
     let (mut out, mut err) = (StdoutSink::new(rt), StderrSink::new(rt));
     let mut shelf = DiskShelf::new(rt);
-    Ok(inspect(&rt, alloc, keys, &words, &mut shelf, &mut out, &mut err))
+    Ok(inspect(handle, alloc, keys, &words, &mut shelf, &mut out, &mut err))
 }
 
 fn main(rt: HostRuntime) -> io::Result<()> {
     for call in env::args(&rt)?.skip(1) {
         println!(rt; "$ coop_inspect {call}")?;
-        let status = make(rt, &call)?;
+        let status = make(&rt, rt, &call)?;
         println!(rt; "status {status}")?;
     }
     Ok(())
