@@ -125,6 +125,18 @@ impl Gathered {
             self.places = Some(number.places);
             return Ok(());
         }
+        self.put_first_text(field)
+    }
+
+    // Puts a field at the end as a text, behind numbers that become texts. It stands apart from `put`, which would pay
+    // for these locals at each field.
+    fn put_first_text(&mut self, field: &[u8]) -> Result<(), AllocError>
+        ensures { IfOk result (λ _. self.new ≡ self.old ++ field.now ∷ []) }
+    {
+        if self.has_texts {
+            self.texts.put(field)?;
+            return Ok(());
+        }
         let mut texts = spelled_texts(self.alloc, self.hash, self.places, &self.numbers)?;
         texts.put(field)?;
         self.texts = texts;
