@@ -120,6 +120,11 @@ impl KeptTexts {
         }
     }
 
+    // How many texts are kept.
+    pub(crate) fn text_count(&self) -> usize {
+        self.texts.len()
+    }
+
     // The texts, and the place of each field's text. The look-up is let go.
     pub(crate) fn into_parts(self) -> (Texts, Codes)
         ensures fields { map (stands_for result.0) result.1 ≡ self }

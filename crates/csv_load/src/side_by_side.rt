@@ -16,7 +16,7 @@ const LEAST_TEXTS: usize = 2048;
 fn texts_in(columns: &[Gathered]) -> usize {
     let mut texts = 0usize;
     for column in columns {
-        texts = texts.saturating_add(column.len());
+        texts = texts.saturating_add(column.text_count());
     }
     texts
 }
@@ -28,9 +28,9 @@ fn cut_at(columns: &[Gathered], wanted: usize) -> usize
     ensures not_all { result < length columns.now }
 {
     let most = columns.len() - 1;
-    let mut texts = columns[0].len();
+    let mut texts = columns[0].text_count();
     for place in 1..most {
-        let next = columns[place].len();
+        let next = columns[place].text_count();
         if texts.saturating_add(next / 2) > wanted {
             return place;
         }
