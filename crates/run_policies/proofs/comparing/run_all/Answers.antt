@@ -18,7 +18,7 @@ loop-policy-init g c =
     }
 
 pub inputs_for-requires-clause-first : goal.inputs_for-requires-clause-first
-inputs_for-requires-clause-first g c = rw c.take.ensures.value c.loop-policy.invariant.first
+inputs_for-requires-clause-first g c κs within = rw c.take.ensures.value c.loop-policy.invariant.first
 
 pub returns-in-Err : goal.returns-in-Err
 returns-in-Err g c =
