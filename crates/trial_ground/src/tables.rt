@@ -116,13 +116,14 @@ fn a_table_gives_its_rows(rt: HostRuntime) -> Result<(), Fail> {
 }
 
 // Whether there is a number at this place, which is then the place's number.
-fn has_number(numbers: &Numbers, place: usize, there: bool) -> bool {
-    if place >= numbers.len() || numbers.is_none(place) == there {
+fn has_number(numbers: &Numbers, place: u32, there: bool) -> bool {
+    let row = place as usize;
+    if row >= numbers.len() || numbers.is_none(row) == there {
         return false;
     }
-    match numbers.get(place) {
-        None => !there && numbers.or_zero(place) == 0,
-        Some(number) => there && number == place as i64 && numbers.or_zero(place) == number,
+    match numbers.get(row) {
+        None => !there && numbers.or_zero(row) == 0,
+        Some(number) => there && number == i64::from(place) && numbers.or_zero(row) == number,
     }
 }
 
