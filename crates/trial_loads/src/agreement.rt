@@ -1,27 +1,16 @@
 // The loader and a plain one have the same tables and the same refusals for drawn texts.
 use crate::drawn_texts::drawn_text;
+use crate::loading::loaded_by;
 use crate::plain_columns::{PlainColumn, plain_column};
 use crate::plain_records::{column_at, field_of, plain_refusal, records_of};
 use csv::ByteRecord;
-use csv_load::{LoadRefusal, Loaded, MOST_TEXT_BYTES, load};
+use csv_load::{LoadRefusal, Loaded};
 use std::alloc::{AllocError, Global};
-use std::hash::RandomState;
 use std::process::Abort;
 use std::random::RandomSource;
 use std::test::Fail;
 use std::thread::Threads;
 use table_core::{Cell, Dict, Kind, Table};
-
-// What the loader makes of a text within its limit.
-fn loaded(
-    rt: &(impl Abort + RandomSource + Threads + Sync),
-    alloc: Global,
-    text: &[u8],
-) -> Result<Loaded, LoadRefusal> {
-    assert!(rt; text.len() <= MOST_TEXT_BYTES);
-    let keys = RandomState::new(rt).expect(rt, "keys");
-    load(rt, alloc, keys, text, 1)
-}
 
 // The cell of a row and a column of a table; nothing where there is none.
 fn cell_at(table: &Table, row: usize, column: usize) -> Option<Cell> {
@@ -120,7 +109,7 @@ fn text_agrees(
 ) -> Result<bool, AllocError> {
     let text = drawn_text(alloc, seed)?;
     let records = records_of(alloc, &text)?;
-    agrees(alloc, &records, loaded(rt, alloc, &text))
+    agrees(alloc, &records, loaded_by(rt, alloc, &text, 1))
 }
 
 #[test]

@@ -1,4 +1,5 @@
-//! Trials of the loader: drawn texts, for which it and a plain loader have the same tables and the same refusals.
+//! Trials of the loader: texts whose tables and refusals are written down, by any number of threads, and drawn texts, of
+//! which it and a plain loader make the same.
 //!
 //! All of it is tests. The plain loader is written from docs/TABLES.md alone.
 #![tactic(auto)]
@@ -10,6 +11,12 @@ mod drawn_sorts;
 #[cfg(test)]
 mod drawn_texts;
 #[cfg(test)]
+mod kinds;
+#[cfg(test)]
+mod loading;
+#[cfg(test)]
+mod many_threads;
+#[cfg(test)]
 mod odd_fields;
 #[cfg(test)]
 mod plain_columns;
@@ -17,3 +24,5 @@ mod plain_columns;
 mod plain_numbers;
 #[cfg(test)]
 mod plain_records;
+#[cfg(test)]
+mod ranking;

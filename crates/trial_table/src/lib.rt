@@ -1,7 +1,7 @@
-//! Trials of tables as they are kept: a text loaded, its cells cut into pieces and read back, pieces with damages,
-//! pieces put into depots, and conditions over the zones of chunks.
+//! Trials of tables as they are kept: cells cut into pieces and read back, pieces with damages, pieces put into depots,
+//! and conditions over the zones of chunks.
 //!
-//! All of it is tests. docs/TABLES.md, docs/PIECES.md and docs/ZONES.md tell what they try.
+//! All of it is tests. docs/PIECES.md and docs/ZONES.md tell what they try.
 #![tactic(auto)]
 
 #[cfg(test)]
@@ -17,17 +17,9 @@ mod example;
 #[cfg(test)]
 mod full_depot;
 #[cfg(test)]
-mod kinds;
-#[cfg(test)]
-mod loading;
-#[cfg(test)]
-mod many_threads;
-#[cfg(test)]
 mod pieces;
 #[cfg(test)]
 mod putting;
-#[cfg(test)]
-mod ranking;
 #[cfg(test)]
 mod reading_back;
 #[cfg(test)]

@@ -1,5 +1,5 @@
 // Tables of whole texts, and the texts that are refused.
-use csv_load::{LoadRefusal, Loaded, load};
+use csv_load::{LoadRefusal, Loaded, MOST_TEXT_BYTES, load};
 use std::alloc::{AllocError, Global};
 use std::hash::RandomState;
 use std::process::Abort;
@@ -7,9 +7,6 @@ use std::random::RandomSource;
 use std::test::Fail;
 use std::thread::Threads;
 use table_core::{Cell, Kind, MOST_ROWS, Table};
-
-// The most bytes that a table's text may have.
-const MOST_TEXT_BYTES: usize = 268435456;
 
 // A text and the cells of its table, row by row.
 pub(crate) type Read<'a> = (&'a [u8], &'a [Cell]);
