@@ -8,7 +8,7 @@ use std::process::Abort;
 use std::test::Fail;
 use table_core::{Cell, Kind, Table};
 
-// Enough rows that the texts of a column are worth a thread, and that they are read in several blocks.
+// Enough rows that the texts of a column are worth a thread.
 const ROWS: u32 = 18000;
 
 const WIDTH: usize = 6;
