@@ -8,4 +8,5 @@ mod Turning
 mod Rounding
 mod Scanning
 mod Rows
+mod Slots
 mod Blocks

@@ -54,7 +54,8 @@ slots_pinned s z h q given pool b is frames of pins i low =
     let f = is.frames.within i low in
     ((of, omega (arith, f, frames)), ap (pinned (slot_at slots i).0) pins ∙ pinned_at slots i (length slots) (length slots) low (omega arith) is.frames.apart)
 
-column_groups : (z : TableShape) → z.layout ≡ layouts.Column → groups z ≡ length z.kinds
+-- in the column layout a chunk has a piece for each column
+pub column_groups : (z : TableShape) → z.layout ≡ layouts.Column → groups z ≡ length z.kinds
 column_groups z e = ap (λ (l : Layout). groups_in l (length z.kinds)) e
 
 -- a group that is read is one of the shape's columns, where there are several
