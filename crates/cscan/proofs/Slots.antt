@@ -3,9 +3,11 @@ use Rattle.std.proofs.Common.{◌≡◌, ◌<◌, ◌*◌, ◌%◌, ◌∙◌, �
 use Rattle.std.proofs.Math.Nat.{div-lt_iff_lt-mul}
 use Rattle.frame_pool.specs.Berths.{BerthView, PoolView}
 use Rattle.frame_pool.specs.Views.{pinned}
+use Rattle.piece_format.specs.Reading.{HasColumn, HasColumnIn}
 use Rattle.piece_format.specs.Shape.{IsPiece, TableShape, chunk_of, chunks, frame_words, groups, groups_in, piece_at, pieces}
 use Rattle.piece_format.specs.declared.layout.Layout.{Layout}
 use Rattle.piece_format.specs.declared.layout.Layout.TheVariants as layouts
+use Rattle.piece_format.specs.declared.pieces.Piece.{Piece}
 use Rattle.cscan.specs.declared.framed.Framed.{Framed}
 use Rattle.cscan.specs.Framed.{ArePinned, IsFramed}
 use Rattle.cscan.specs.Pins.{slot_at}
@@ -50,3 +52,7 @@ framed_slot z pool b slots i slot p are low is room there frame number piece sma
       piece = piece ∙ ap (piece_at z) (sym number);
       small = small;
     }
+
+-- in the column layout a piece has the column of its place in its chunk
+pub has_column : (z : TableShape) (p x : ℕ) (q : Piece) → z.layout ≡ layouts.Column → q ≡ piece_at z p → x ≡ p % groups z → HasColumn q x
+has_column z p x q e is here = subst (λ (l : Layout). HasColumnIn l q x) (sym (ap (λ (r : Piece). r.layout) is ∙ e)) (here ∙ sym (ap (λ (r : Piece). r.group) is))

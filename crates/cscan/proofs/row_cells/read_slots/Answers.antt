@@ -1,10 +1,15 @@
 use Rattle.std.proofs.Common.{◌≡◌, ◌∙◌, ◌<◌, ◌+◌, ◌-◌, ◌*◌, ◌%◌, ℕ, length, slice_set, arith, ap, subst, sym}
 use Rattle.std.proofs.lemmas.List.{length-set}
-use Rattle.piece_format.specs.Shape.{chunk_of, groups, rows_in}
+use Rattle.frame_pool.specs.Berths.{BerthView}
+use Rattle.frame_pool.specs.Steps.{IsWordOf}
+use Rattle.piece_format.specs.Reading.{null_place}
+use Rattle.piece_format.specs.Shape.{chunk_of, groups, pieces, rows_in}
 use Rattle.piece_format.specs.declared.pieces.Piece.{Piece}
+use Rattle.cscan.specs.Framed.{IsFramed}
 use Rattle.cscan.specs.Pins.{slot_at}
 use Rattle.cscan.specs.Rows.{AreForSlots, IsForPlace, column_in}
 use Rattle.cscan.proofs.Rows.{one_slot_more, slot_chunk, slot_group}
+use Rattle.cscan.proofs.Slots.{framed_slot, has_column, slot_there}
 use Rattle.cscan.proofs.row_cells.read_slots.Goals as goal
 use Rattle.cscan.proofs.row_cells.read_slots.Goals.{After-at-slot, After-of-framed}
 
@@ -25,13 +30,35 @@ column_is g c =
 pub of-framed-requires-clause-rows : goal.of-framed-requires-clause-rows
 of-framed-requires-clause-rows g c = let is = chunk_is g (goal.at.of-framed-requires-clause-rows g c).After-at-slot in c.requires.rows ∙ ap (rows_in c.args.shape.now) (sym is)
 
-pub of-framed-requires-clause-group : goal.of-framed-requires-clause-group
-of-framed-requires-clause-group g c =
+-- the column is the piece's place in its chunk
+group_is : (g : _) (c : After-at-slot g) → c.at-slot.result.1 - c.args.given.now.chunk * length c.args.cells.now ≡ c.at-slot.result.1 % groups c.args.shape.now
+group_is g c =
     let z = c.args.shape.now in
-    let at = (goal.at.of-framed-requires-clause-group g c).After-at-slot in
-    column_is g at
-    ∙ (sym (slot_group z c.args.given.now.chunk c.args.given.now.slots c.loop-i.i c.requires.layout c.requires.columns (low g at))
-    ∙ ap (λ (b : ℕ × ℕ). b.1 % groups z) (sym c.at-slot.ensures))
+    column_is g c ∙ (sym (slot_group z c.args.given.now.chunk c.args.given.now.slots c.loop-i.i c.requires.layout c.requires.columns (low g c)) ∙ ap (λ (b : ℕ × ℕ). b.1 % groups z) (sym c.at-slot.ensures))
+
+-- the piece is one of the table's
+is_there : (g : _) (c : After-at-slot g) → c.at-slot.result.1 < pieces c.args.shape.now
+is_there g c =
+    let z = c.args.shape.now in
+    subst (λ (b : ℕ × ℕ). b.1 < pieces z) (sym c.at-slot.ensures) (slot_there z c.args.given.now.chunk c.args.given.now.slots c.loop-i.i c.requires.layout c.requires.columns c.requires.chunk (low g c))
+
+pub of-framed-requires-clause-shape : goal.of-framed-requires-clause-shape
+of-framed-requires-clause-shape g c = c.requires.shape
+
+pub of-framed-requires-clause-there : goal.of-framed-requires-clause-there
+of-framed-requires-clause-there g c = is_there g (goal.at.of-framed-requires-clause-there g c).After-at-slot
+
+pub of-framed-requires-clause-group : goal.of-framed-requires-clause-group
+of-framed-requires-clause-group g c = group_is g (goal.at.of-framed-requires-clause-group g c).After-at-slot
+
+-- the piece is framed
+framed : (g : _) (c : After-of-framed g) → IsFramed c.args.shape.now c.args.pool.now c.loop-i.berth c.of-framed.result
+framed g c =
+    let z = c.args.shape.now in
+    let at = (goal.at.After-of-framed g c).After-at-slot in
+    let f = c.of-framed.ensures in
+    subst (λ (b : BerthView). IsFramed z c.args.pool.now b c.of-framed.result) (sym c.loop-i.invariant.same)
+    (framed_slot z c.args.pool.now c.args.berth.now c.args.given.now.slots c.loop-i.i c.at-slot.result c.of-framed.result c.requires.pinned (low g at) c.at-slot.ensures c.requires.room (is_there g at) f.frame f.number f.piece f.small)
 
 -- the framed piece has the chunk's rows
 rows_are : (g : _) (c : After-of-framed g) → c.args.row < c.of-framed.result.piece.rows
@@ -43,6 +70,25 @@ rows_are g c =
 
 pub nulls_of-nulls-requires-clause-row : goal.nulls_of-nulls-requires-clause-row
 nulls_of-nulls-requires-clause-row g c = rows_are g (goal.at.nulls_of-nulls-requires-clause-row g c).After-of-framed
+
+pub nulls_of-nulls-requires-clause-framed : goal.nulls_of-nulls-requires-clause-framed
+nulls_of-nulls-requires-clause-framed g c = framed g (goal.at.nulls_of-nulls-requires-clause-framed g c).After-of-framed
+
+pub cell_for-requires-clause-shape : goal.cell_for-requires-clause-shape
+cell_for-requires-clause-shape g c = c.requires.shape
+
+pub cell_for-requires-clause-framed : goal.cell_for-requires-clause-framed
+cell_for-requires-clause-framed g c =
+    subst (λ (b : BerthView). IsFramed c.args.shape.now c.args.pool.now b c.of-framed.result) (sym c.nulls_of-nulls.ensures.same) (framed g (goal.at.cell_for-requires-clause-framed g c).After-of-framed)
+
+pub cell_for-requires-clause-nulls : goal.cell_for-requires-clause-nulls
+cell_for-requires-clause-nulls g c =
+    let f = c.of-framed.result in
+    subst (λ (b : BerthView). IsWordOf g.C.Content.pieces b.pins f.frame (null_place f.piece c.args.row) c.nulls_of-nulls.result) (sym c.nulls_of-nulls.ensures.same) c.nulls_of-nulls.ensures.word
+
+pub cell_for-requires-clause-column : goal.cell_for-requires-clause-column
+cell_for-requires-clause-column g c =
+    has_column c.args.shape.now c.at-slot.result.1 (c.at-slot.result.1 - c.args.given.now.chunk * length c.args.cells.now) c.of-framed.result.piece c.requires.layout c.of-framed.ensures.piece (group_is g (goal.at.cell_for-requires-clause-column g c).After-at-slot)
 
 pub cell_for-requires-clause-row : goal.cell_for-requires-clause-row
 cell_for-requires-clause-row g c = rows_are g (goal.at.cell_for-requires-clause-row g c).After-of-framed
