@@ -56,3 +56,7 @@ framed_slot z pool b slots i slot p are low is room there frame number piece sma
 -- in the column layout a piece has the column of its place in its chunk
 pub has_column : (z : TableShape) (p x : ℕ) (q : Piece) → z.layout ≡ layouts.Column → q ≡ piece_at z p → x ≡ p % groups z → HasColumn q x
 has_column z p x q e is here = subst (λ (l : Layout). HasColumnIn l q x) (sym (ap (λ (r : Piece). r.layout) is ∙ e)) (here ∙ sym (ap (λ (r : Piece). r.group) is))
+
+-- in the row layout a piece has each column of the table
+pub has_each : (z : TableShape) (p x : ℕ) (q : Piece) → z.layout ≡ layouts.Row → q ≡ piece_at z p → x < length z.kinds → HasColumn q x
+has_each z p x q e is low = subst (λ (l : Layout). HasColumnIn l q x) (sym (ap (λ (r : Piece). r.layout) is ∙ e)) (subst (λ (n : ℕ). x < n) (sym (ap (λ (r : Piece). r.columns) is)) low)

@@ -1,16 +1,18 @@
 use Rattle.std.proofs.Common.{◌≡◌, ◌<◌, ◌+◌, ◌-◌, ◌*◌, ◌%◌, ◌∙◌, ℕ, true, length, refl, sym, ap, subst, arith, inl, inr}
 use Rattle.std.proofs.lemmas.Bool.{cases_eq}
 use Rattle.frame_pool.specs.Berths.{BerthView}
-use Rattle.piece_format.specs.Shape.{chunk_of, groups, rows_in}
+use Rattle.piece_format.specs.Shape.{chunk_of, groups, pieces, rows_in}
 use Rattle.piece_format.specs.declared.layout.Layout.TheVariants as layouts
 use Rattle.piece_format.specs.declared.pieces.Piece.{Piece}
 use Rattle.row_blocks.specs.Blocks.{BlockView}
 use Rattle.table_core.specs.Sets.{has}
 use Rattle.cscan.specs.Blocks.{HasNullBits, HasReadSlots, IsLaneOf, IsReadSlot, IsSpan}
+use Rattle.cscan.specs.Framed.{IsFramed}
 use Rattle.cscan.specs.Pins.{slot_at}
 use Rattle.cscan.specs.Rows.{column_in}
 use Rattle.cscan.proofs.Blocks.{lane_place, none_read, one_lane_more, one_other_more, shared_bits}
 use Rattle.cscan.proofs.Rows.{slot_chunk, slot_group}
+use Rattle.cscan.proofs.Slots.{framed_slot, has_column, slot_there}
 use Rattle.cscan.proofs.block_rows.put_slots.Goals as goal
 use Rattle.cscan.proofs.block_rows.put_slots.Goals.{After-at-slot, After-of-framed, then-has, else-has}
 
@@ -40,13 +42,35 @@ column_is g c =
 pub of-framed-requires-clause-rows : goal.of-framed-requires-clause-rows
 of-framed-requires-clause-rows g c = let is = chunk_is g (goal.at.of-framed-requires-clause-rows g c).After-at-slot in c.requires.rows ∙ ap (rows_in c.args.shape.now) (sym is)
 
-pub of-framed-requires-clause-group : goal.of-framed-requires-clause-group
-of-framed-requires-clause-group g c =
+-- the column is the piece's place in its chunk
+group_is : (g : _) (c : After-at-slot g) → c.at-slot.result.1 - c.args.given.now.chunk * c.width.result ≡ c.at-slot.result.1 % groups c.args.shape.now
+group_is g c =
     let z = c.args.shape.now in
-    let at = (goal.at.of-framed-requires-clause-group g c).After-at-slot in
-    column_is g at
-    ∙ (sym (slot_group z c.args.given.now.chunk c.args.given.now.slots c.loop-k.k c.requires.layout c.requires.columns (low g at))
-    ∙ ap (λ (b : ℕ × ℕ). b.1 % groups z) (sym c.at-slot.ensures))
+    column_is g c ∙ (sym (slot_group z c.args.given.now.chunk c.args.given.now.slots c.loop-k.k c.requires.layout c.requires.columns (low g c)) ∙ ap (λ (b : ℕ × ℕ). b.1 % groups z) (sym c.at-slot.ensures))
+
+-- the piece is one of the table's
+is_there : (g : _) (c : After-at-slot g) → c.at-slot.result.1 < pieces c.args.shape.now
+is_there g c =
+    let z = c.args.shape.now in
+    subst (λ (b : ℕ × ℕ). b.1 < pieces z) (sym c.at-slot.ensures) (slot_there z c.args.given.now.chunk c.args.given.now.slots c.loop-k.k c.requires.layout c.requires.columns c.requires.chunk (low g c))
+
+pub of-framed-requires-clause-shape : goal.of-framed-requires-clause-shape
+of-framed-requires-clause-shape g c = c.requires.shape
+
+pub of-framed-requires-clause-there : goal.of-framed-requires-clause-there
+of-framed-requires-clause-there g c = is_there g (goal.at.of-framed-requires-clause-there g c).After-at-slot
+
+pub of-framed-requires-clause-group : goal.of-framed-requires-clause-group
+of-framed-requires-clause-group g c = group_is g (goal.at.of-framed-requires-clause-group g c).After-at-slot
+
+-- the piece is framed
+framed : (g : _) (c : After-of-framed g) → IsFramed c.args.shape.now c.args.pool.now c.loop-k.berth c.of-framed.result
+framed g c =
+    let z = c.args.shape.now in
+    let at = (goal.at.After-of-framed g c).After-at-slot in
+    let f = c.of-framed.ensures in
+    subst (λ (b : BerthView). IsFramed z c.args.pool.now b c.of-framed.result) (sym c.loop-k.invariant.same)
+    (framed_slot z c.args.pool.now c.args.berth.now c.args.given.now.slots c.loop-k.k c.at-slot.result c.of-framed.result c.requires.pinned (low g at) c.at-slot.ensures c.requires.room (is_there g at) f.frame f.number f.piece f.small)
 
 -- the framed piece has the chunk's rows
 rows_are : (g : _) (c : After-of-framed g) → c.of-framed.result.piece.rows ≡ c.args.given.now.rows
@@ -60,6 +84,20 @@ pub nulls_of-nulls-requires-clause-row : goal.nulls_of-nulls-requires-clause-row
 nulls_of-nulls-requires-clause-row g c =
     let rows = rows_are g (goal.at.nulls_of-nulls-requires-clause-row g c).After-of-framed in
     omega (arith, rows, c.requires.span.1, c.requires.span.3)
+
+pub nulls_of-nulls-requires-clause-framed : goal.nulls_of-nulls-requires-clause-framed
+nulls_of-nulls-requires-clause-framed g c = framed g (goal.at.nulls_of-nulls-requires-clause-framed g c).After-of-framed
+
+pub read_lane-lane-requires-clause-shape : goal.read_lane-lane-requires-clause-shape
+read_lane-lane-requires-clause-shape g c = c.requires.shape
+
+pub read_lane-lane-requires-clause-framed : goal.read_lane-lane-requires-clause-framed
+read_lane-lane-requires-clause-framed g c =
+    subst (λ (b : BerthView). IsFramed c.args.shape.now c.args.pool.now b c.of-framed.result) (sym c.nulls_of-nulls.ensures.same) (framed g (goal.at.read_lane-lane-requires-clause-framed g c).After-of-framed)
+
+pub read_lane-lane-requires-clause-column : goal.read_lane-lane-requires-clause-column
+read_lane-lane-requires-clause-column g c =
+    has_column c.args.shape.now c.at-slot.result.1 (c.at-slot.result.1 - c.args.given.now.chunk * c.width.result) c.of-framed.result.piece c.requires.layout c.of-framed.ensures.piece (group_is g (goal.at.read_lane-lane-requires-clause-column g c).After-at-slot)
 
 pub read_lane-lane-requires-clause-span : goal.read_lane-lane-requires-clause-span
 read_lane-lane-requires-clause-span g c =
@@ -75,6 +113,13 @@ read_lane-lane-requires-clause-nulls g c =
     let span = subst (λ (n : ℕ). IsSpan n c.args.span) (sym (rows_are g (goal.at.read_lane-lane-requires-clause-nulls g c).After-of-framed)) c.requires.span in
     subst (λ (b : BerthView). HasNullBits told b.pins f q c.args.span x c.nulls_of-nulls.result) (sym c.nulls_of-nulls.ensures.same)
     (shared_bits told c.loop-k.berth.pins f q c.args.span x c.nulls_of-nulls.result layout span c.nulls_of-nulls.ensures.word)
+
+pub put-requires : goal.put-requires
+put-requires g c =
+    let at = (goal.at.put-requires g c).After-at-slot in
+    let column = column_is g at in
+    let below = (c.requires.columns c.loop-k.k (low g at)).1 in
+    omega (arith, column, below, c.loop-k.invariant.width, c.requires.width)
 
 pub loop-k-preserved : goal.loop-k-preserved
 loop-k-preserved g c =
@@ -117,3 +162,9 @@ loop-k-preserved g c =
             (one_other_more told z chunk first columns b x (IsReadSlot z chunk slots k) (IsReadSlot z chunk slots (k + 1)) (sym c.has.ensures ∙ w.if-has.false) more before.read);
       }
     ]
+
+pub returns-clause-read : goal.returns-clause-read
+returns-clause-read g c =
+    let slots = c.args.given.now.slots in
+    let all : c.loop-k.k ≡ length slots = omega (arith, c.loop-k-test.false, c.loop-k.auto.k-end, c.len-k-end.ensures.len) in
+    subst (λ (n : ℕ). HasReadSlots g.C.Content.pieces c.args.shape.now c.args.given.now.chunk c.args.span.first c.args.columns.now slots n c.loop-k.block) all c.loop-k.invariant.read
