@@ -1,5 +1,5 @@
 //! Settings at random.
-ghost use Rattle.std.specs.Prelude.{◌<◌, ◌≤◌, IfOk};
+ghost use Rattle.std.specs.Prelude.{◌+◌, ◌<◌, ◌≤◌, IfOk, length};
 ghost use Rattle.story_views.specs.Small.{IsSmall};
 
 use rand_core::Rng;
@@ -38,6 +38,43 @@ fn some_need(
     })
 }
 
+/// Adds needs of so many queries: each of one worker, round the workers.
+fn add_needs(
+    alloc: Global,
+    rng: &mut Pcg32,
+    queries: u32,
+    workers: u32,
+    chunks: u32,
+    groups: u32,
+    needs: &mut LinkedList<Need>,
+) -> Result<(), AllocError>
+    requires { 0 < workers }
+    ensures { IfOk result (λ _. length needs.new ≤ length needs.old + queries) }
+{
+    for i in 0..queries {
+        let need = some_need(alloc, rng, i + 1, i % workers, chunks, groups)?;
+        needs.push_back(need)?;
+    }
+    Ok(())
+}
+
+/// Needs of so many queries.
+fn some_needs(
+    alloc: Global,
+    rng: &mut Pcg32,
+    queries: u32,
+    workers: u32,
+    chunks: u32,
+    groups: u32,
+) -> Result<LinkedList<Need>, AllocError>
+    requires { 0 < workers }
+    ensures { IfOk result (λ needs. length needs ≤ queries) }
+{
+    let mut needs = LinkedList::new(alloc);
+    add_needs(alloc, rng, queries, workers, chunks, groups, &mut needs)?;
+    Ok(needs)
+}
+
 /// A setting of the policy with just the frames that so many workers must have. Each worker has a query, one worker
 /// alone has two, and at times there is one more. Each query needs most of the chunks and reads most of the groups.
 /// The error is out of memory.
@@ -54,11 +91,8 @@ pub fn some_setting(
     ensures { IfOk result IsSmall }
 {
     let more: u32 = if rng.next_u32() % 4 == 0 { 1 } else { 0 };
-    let mut needs = LinkedList::new(alloc);
-    for i in 0..workers.max(2) + more {
-        let need = some_need(alloc, rng, i + 1, i % workers, chunks, groups)?;
-        needs.push_back(need)?;
-    }
+    let queries = workers.max(2) + more;
+    let needs = some_needs(alloc, rng, queries, workers, chunks, groups)?;
     let cursor = first_cursor(alloc, policy)?;
     Ok(Setting {
         needs,
