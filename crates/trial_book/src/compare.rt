@@ -131,18 +131,24 @@ fn same_load(load: &Option<Load>, book: &Book) -> bool {
     }
 }
 
+// Whether each number of the book is the one that the judge makes of the list, whose load underway this is.
+fn same_numbers(s: &Setting, entries: &[Entry], load: &Option<Load>, book: &Book) -> bool
+    requires small { IsSmall s.now }
+    requires load { load.now ≡ underway s.now (past entries.now) }
+{
+    book.running() == views::running(s, entries)
+        && book.free_frames() == views::free_frames(s, entries, load)
+        && same_load(load, book)
+        && same_queries(s, entries, book)
+        && same_chunks(s, entries, load, book)
+        && same_frames(s, entries, book)
+        && same_holds(s, entries, book)
+}
+
 /// Whether each number of the book is the one that the judge makes of the list. The error is out of memory.
 pub fn agrees(alloc: Global, s: &Setting, entries: &[Entry], book: &Book) -> Result<bool, Memory>
     requires { IsSmall s.now }
 {
     let load = views::underway(alloc, s, entries)?;
-    Ok(
-        book.running() == views::running(s, entries)
-            && book.free_frames() == views::free_frames(s, entries, &load)
-            && same_load(&load, book)
-            && same_queries(s, entries, book)
-            && same_chunks(s, entries, &load, book)
-            && same_frames(s, entries, book)
-            && same_holds(s, entries, book),
-    )
+    Ok(same_numbers(s, entries, &load, book))
 }

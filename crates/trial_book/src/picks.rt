@@ -1,6 +1,7 @@
 //! What a policy picks from a book of a list.
-ghost use Rattle.std.specs.Prelude.{◌≡◌};
+ghost use Rattle.std.specs.Prelude.{◌≡◌, IfOk};
 ghost use Rattle.scan_story.specs.Views.{past};
+ghost use Rattle.scan_story.specs.Loads as loads;
 ghost use Rattle.story_views.specs.Small.{IsSmall};
 ghost use Rattle.interest_book.specs.Stands.{Stands};
 ghost use Rattle.trial_book.specs.Begun.{begins_some};
@@ -43,6 +44,7 @@ pub fn load<P: Policy>(
     policy.pick_load(book, q)
 }
 
+// Whether the load has begun a fill.
 fn has_begun(load: &Option<Load>) -> bool
     ensures { result ≡ begins_some load.now }
 {
@@ -50,6 +52,15 @@ fn has_begun(load: &Option<Load>) -> bool
         Some(load) => load.begun.len() > 0,
         None => false,
     }
+}
+
+// Whether a fill is underway.
+fn is_filling(alloc: Global, s: &Setting, entries: &[Entry]) -> Result<bool, Memory>
+    requires { IsSmall s.now }
+    ensures { IfOk result (λ b. b ≡ begins_some (loads.underway s.now (past entries.now))) }
+{
+    let load = underway(alloc, s, entries)?;
+    Ok(has_begun(&load))
 }
 
 /// The chunk to evict, where no fill is underway and there is one.
@@ -63,8 +74,8 @@ pub fn victim<P: Policy>(
     requires small { IsSmall s.now }
     requires stands { Stands book.now s.now (past entries.now) }
 {
-    let load = underway(alloc, s, entries)?;
-    if has_begun(&load) {
+    let filling = is_filling(alloc, s, entries)?;
+    if filling {
         return Ok(None);
     }
     Ok(policy.pick_victim(book))

@@ -103,6 +103,25 @@ fn is_new(needs: &[Need], q: u32) -> bool
     true
 }
 
+// Adds the needs of the setting as a book takes them, where a setting may have them.
+fn add_needs(s: &Setting, needs: &mut Vec<Need>) -> Result<bool, Memory>
+    requires chunks { s.now.chunks ≤ 1024 }
+    requires groups { s.now.groups ≤ 16 }
+    requires empty { needs.old.items ≡ [] }
+    ensures { IfOk result (λ b. IsTrue b → AreFit s.now needs.new.items) }
+{
+    for n in s.needs.iter() {
+        let Some(need) = book_need(s, n) else {
+            return Ok(false);
+        };
+        if !is_new(needs, n.query) {
+            return Ok(false);
+        }
+        needs.push(need)?;
+    }
+    Ok(true)
+}
+
 /// The needs of the setting as a book takes them; `None` where no setting has them. The error is out of memory.
 pub fn book_needs(alloc: Global, s: &Setting) -> Result<Option<Vec<Need>>, Memory>
     requires chunks { s.now.chunks ≤ 1024 }
@@ -110,14 +129,8 @@ pub fn book_needs(alloc: Global, s: &Setting) -> Result<Option<Vec<Need>>, Memor
     ensures { IfOk result (λ o. IfSome o (λ v. AreFit s.now v.items)) }
 {
     let mut needs = Vec::new(alloc);
-    for n in s.needs.iter() {
-        let Some(need) = book_need(s, n) else {
-            return Ok(None);
-        };
-        if !is_new(&needs, n.query) {
-            return Ok(None);
-        }
-        needs.push(need)?;
+    if !add_needs(s, &mut needs)? {
+        return Ok(None);
     }
     Ok(Some(needs))
 }

@@ -1,5 +1,5 @@
 //! Stories played through a book.
-ghost use Rattle.std.specs.Prelude.{◌≡◌, ◌<◌, ◌+◌, ◌-◌, ◌^◌, IfOk, IfSome, IsTrue, length, take};
+ghost use Rattle.std.specs.Prelude.{◌≡◌, ◌<◌, ◌+◌, ◌-◌, ◌^◌, [], IfOk, IfSome, IsTrue, length, take};
 ghost use Rattle.scan_story.specs.Views.{past};
 ghost use Rattle.story_views.specs.Small.{IsSmall};
 ghost use Rattle.interest_book.specs.Stands.{Stands};
@@ -66,6 +66,25 @@ pub fn note_next(
     follow_next(alloc, s, entries, i, book)
 }
 
+/// Notes the story in a book that has noted nothing, where each entry may follow those before it.
+fn follow_all(
+    alloc: Global,
+    s: &Setting,
+    entries: &[Entry],
+    book: &mut Book,
+) -> Result<bool, Memory>
+    requires small { IsSmall s.now }
+    requires stands { Stands book.old s.now [] }
+    ensures { IfOk result (λ b. IsTrue b → Stands book.new s.now (past entries.now)) }
+{
+    for i in 0..entries.len() {
+        if !follow_next(alloc, s, entries, i, book)? {
+            return Ok(false);
+        }
+    }
+    Ok(true)
+}
+
 /// A book that has noted the story, where each entry may follow those before it.
 pub fn played(alloc: Global, s: &Setting, entries: &[Entry]) -> Result<Option<Book>, Memory>
     requires small { IsSmall s.now }
@@ -74,12 +93,34 @@ pub fn played(alloc: Global, s: &Setting, entries: &[Entry]) -> Result<Option<Bo
     let Some(mut book) = book_of(alloc, s)? else {
         return Ok(None);
     };
-    for i in 0..entries.len() {
-        if !follow_next(alloc, s, entries, i, &mut book)? {
-            return Ok(None);
-        }
+    if !follow_all(alloc, s, entries, &mut book)? {
+        return Ok(None);
     }
     Ok(Some(book))
+}
+
+/// Plays the story through a book that has noted nothing, and compares each number after each entry with the judge's.
+fn try_entries(
+    alloc: Global,
+    s: &Setting,
+    entries: &[Entry],
+    book: &mut Book,
+) -> Result<Trial, Memory>
+    requires small { IsSmall s.now }
+    requires stands { Stands book.old s.now [] }
+{
+    if !agrees(alloc, s, &entries[..0], book)? {
+        return Ok(Trial::Differs(0));
+    }
+    for i in 0..entries.len() {
+        if !note_next(alloc, s, entries, i, book)? {
+            return Ok(Trial::Illegal(i));
+        }
+        if !agrees(alloc, s, &entries[..i + 1], book)? {
+            return Ok(Trial::Differs(i));
+        }
+    }
+    Ok(Trial::Agrees)
 }
 
 /// Plays the story through a book, and compares each number after each entry with the judge's.
@@ -89,16 +130,5 @@ pub fn try_story(alloc: Global, s: &Setting, entries: &[Entry]) -> Result<Trial,
     let Some(mut book) = book_of(alloc, s)? else {
         return Ok(Trial::Unfit);
     };
-    if !agrees(alloc, s, &entries[..0], &book)? {
-        return Ok(Trial::Differs(0));
-    }
-    for i in 0..entries.len() {
-        if !note_next(alloc, s, entries, i, &mut book)? {
-            return Ok(Trial::Illegal(i));
-        }
-        if !agrees(alloc, s, &entries[..i + 1], &book)? {
-            return Ok(Trial::Differs(i));
-        }
-    }
-    Ok(Trial::Agrees)
+    try_entries(alloc, s, entries, &mut book)
 }

@@ -9,5 +9,5 @@ pick_victim-requires g c = record {
   setting = c.args.s.now;
   history = past c.args.entries.now;
   stands = c.requires.stands;
-  none_begun = λ l u. none_begun l (ap begins_some (sym u ∙ sym c.in_ok-load.ensures) ∙ (sym c.has_begun.ensures ∙ c.if-has_begun.false));
+  none_begun = λ l u. none_begun l (ap begins_some (sym u) ∙ (sym c.in_ok-filling.ensures ∙ c.if-filling.false));
 }

@@ -5,7 +5,7 @@ use Rattle.scan_story.specs.Setting.{IsNeed, AreDistinct}
 use Rattle.chunk_interest.specs.declared.need.Need.{Need}
 use Rattle.chunk_interest.specs.Fresh.{as_need}
 use Rattle.trial_book.proofs.Listed.{map_push, all_push, distinct_push, none_names, append_apart, unnot}
-use Rattle.trial_book.proofs.settings.book_needs.Goals as goal
+use Rattle.trial_book.proofs.settings.add_needs.Goals as goal
 
 pub loop-n-preserved : goal.loop-n-preserved
 loop-n-preserved c =

@@ -2,7 +2,7 @@ use Rattle.std.proofs.Common.{◌≡◌, ◌++◌, map}
 use Rattle.std.specs.List.{AllByRecursion}
 use Rattle.scan_story.specs.Setting.{IsNeed, AreDistinct}
 use Rattle.chunk_interest.specs.Fresh.{as_need}
-use Rattle.trial_book.proofs.settings.book_needs.Given as goal
+use Rattle.trial_book.proofs.settings.add_needs.Given as goal
 
 abbrev pub invariant-loop-n : goal.invariant-loop-n
 invariant-loop-n l = record {
