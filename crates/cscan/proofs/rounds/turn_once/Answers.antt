@@ -51,6 +51,12 @@ pub give-requires-clause-story : goal.give-requires-clause-story
 give-requires-clause-story g c =
     adds_these c.args.station.now.pass c.take_desk-desk.new.pass c.args.station.now.number c.take_desk-desk.result c.take_desk-desk.result [] c.take_desk-desk.ensures.pass (sym (append-nil c.take_desk-desk.result)) c.requires.seated.0.1 tt
 
+pub returns-then-lies_down-clause-seated : goal.returns-then-lies_down-clause-seated
+returns-then-lies_down-clause-seated g c =
+    let old = c.take_desk-desk.result in
+    let waits = waits_again c.args.baton.now g.S.Origin.origin c.args.station.now.number c.args.station.now.pass c.take_desk-desk.new.pass c.give.new.pass old old c.requires.seated.0 c.take_desk-desk.ensures.pass c.give.ensures.pass in
+    (waits, c.requires.seated.1, c.requires.seated.2)
+
 pub returns-then-lies_down-clause-round : goal.returns-then-lies_down-clause-round
 returns-then-lies_down-clause-round g c =
     let s = g.S.Origin.origin.setting in
@@ -73,12 +79,24 @@ give-requires-2-clause-story g c =
     let a = turn_added (λ (d : g.row.D.Denot). depot_view (g.D.Depot.held d) (g.D.Depot.gets d) (g.D.Depot.faults d)) g.S.Origin.origin c.args.station.now.number c.args.query c.take_desk-desk.result c.turn-turn.new.self c.turn-turn.result c.turn-turn.ensures.answer in
     adds_these c.args.station.now.pass c.take_desk-desk.new.pass c.args.station.now.number c.take_desk-desk.result c.turn-turn.new.self a.0 c.take_desk-desk.ensures.pass a.1 c.requires.seated.0.1 a.2
 
+pub pin_all-requires-clause-of : goal.pin_all-requires-clause-of
+pin_all-requires-clause-of g c = c.requires.seated.1.0
+
+pub pin_all-requires-clause-none : goal.pin_all-requires-clause-none
+pin_all-requires-clause-none g c = c.requires.seated.1.1
+
+pub pin_all-requires-clause-fill : goal.pin_all-requires-clause-fill
+pin_all-requires-clause-fill g c = c.requires.seated.1.2
+
 pub pin_all-requires-clause-frames : goal.pin_all-requires-clause-frames
 pin_all-requires-clause-frames g c =
     let s = g.S.Origin.origin.setting in
     let a = c.in-Take.ensures.answer in
     let once = subst NoneTwice (sym a.read) ((grouped s c.take_desk-desk.ensures.start.setting).once c.args.query c.in-Take.chunk) in
     subst (λ (n : ℕ). AreFrames n c.in-Take.slots) c.requires.fits.frames (stand_apart s (past c.turn-turn.new.self) c.in-Take.slots a.frames once)
+
+pub rows_of-rows-requires-clause-shape : goal.rows_of-rows-requires-clause-shape
+rows_of-rows-requires-clause-shape g c = c.requires.fits.shape
 
 pub rows_of-rows-requires-clause-chunk : goal.rows_of-rows-requires-clause-chunk
 rows_of-rows-requires-clause-chunk g c =
@@ -92,6 +110,12 @@ waits g c =
 
 pub load-requires-clause-seated : goal.load-requires-clause-seated
 load-requires-clause-seated g c κs within = (waits g (goal.at.load-requires-clause-seated g c).After-give-2, c.requires.seated.1, c.requires.seated.2)
+
+pub load-requires-clause-fits : goal.load-requires-clause-fits
+load-requires-clause-fits g c κs within = c.requires.fits
+
+pub load-requires-clause-start : goal.load-requires-clause-start
+load-requires-clause-start g c κs within = c.take_desk-desk.ensures.start
 
 pub load-requires-clause-legal : goal.load-requires-clause-legal
 load-requires-clause-legal g c κs within =
@@ -223,6 +247,12 @@ returns-in-NotYet-clause-round g c =
       legal = subst (λ (l : List Entry). Legal s (past l)) (sym seen) c.take_desk-desk.ensures.legal;
       may = subst (λ (l : List Entry). MayTurn s (past l) w q) (sym seen) (may g at.After-take_desk-desk);
     }
+
+pub returns-in-Load-clause-seated : goal.returns-in-Load-clause-seated
+returns-in-Load-clause-seated g c = c.load.ensures.seated
+
+pub returns-in-Load-clause-number : goal.returns-in-Load-clause-number
+returns-in-Load-clause-number g c = c.load.ensures.number
 
 pub returns-in-Load-clause-round : goal.returns-in-Load-clause-round
 returns-in-Load-clause-round g c =
