@@ -1,5 +1,5 @@
 -- Slots whose frames are pinned with their pieces.
-use Rattle.std.proofs.Common.{◌≡◌, ◌<◌, ◌*◌, ◌%◌, ◌∙◌, ℕ, List, Some, length, arith, sym, ap, subst}
+use Rattle.std.proofs.Common.{◌≡◌, ◌<◌, ◌%◌, ◌∙◌, ℕ, List, Some, length, arith, sym, ap, subst}
 use Rattle.std.proofs.Math.Nat.{div-lt_iff_lt-mul}
 use Rattle.frame_pool.specs.Berths.{BerthView, PoolView}
 use Rattle.frame_pool.specs.Views.{pinned}

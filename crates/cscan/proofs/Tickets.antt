@@ -68,3 +68,8 @@ if_err (Err e) P Q f p = f e p
 pub may_report : (o : Start) (h : History) (held : Stored) (from to : ℕ) (why : Why) → held ≡ o.held → last_fault o.faults h ≤ from → reads.MayReport held from to why → MayReport o h to why
 may_report o h held from to (Fault before after) same low may = (omega (arith, low, may.0), may.1, may.2)
 may_report o h held from to (Damage word) same low may = ap is_some (sym same ∙ may)
+
+-- a report of the reads since some of the depot's calls is one of the reads since an earlier call
+pub reports_since : (held later : Stored) (from mid to : ℕ) (why : Why) → later ≡ held → from ≤ mid → reads.MayReport later mid to why → reads.MayReport held from to why
+reports_since held later from mid to (Fault before after) same low may = (omega (arith, low, may.0), may.1, may.2)
+reports_since held later from mid to (Damage word) same low may = sym same ∙ may
