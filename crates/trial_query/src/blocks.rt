@@ -1,8 +1,9 @@
 // Groups with the chosen rows of blocks are those with each chosen row in turn.
-ghost use Rattle.std.specs.Prelude.{◌≡◌, ◌≤◌, ◌+◌, OnOk, IfOk};
+ghost use Rattle.std.specs.Prelude.{◌≡◌, ◌≤◌, ◌+◌, OnOk};
 ghost use Rattle.agg_groups.specs.Groups.{NamesPlaces};
 
 use crate::fitting::{are_rows, items_in, keys_in};
+use crate::groups::empty;
 use agg_groups::{FinishFault, Groups, Item, Rows};
 use row_blocks::{Block, Holds, Lane, MOST_BLOCK_ROWS, is_chosen};
 use std::alloc::Global;
@@ -123,16 +124,44 @@ fn is_same(a: Result<Rows, FinishFault>, b: Result<Rows, FinishFault>) -> bool {
     }
 }
 
-fn empty(alloc: Global, items: &[Item], keys: &[u32]) -> Result<Groups, Memory>
-    ensures items { IfOk result (λ g. g.items ≡ items.now) }
-    ensures keys { IfOk result (λ g. g.keys ≡ keys.now) }
-    ensures rows { IfOk result (λ g. g.rows ≡ 0) }
+// Adds chosen rows of three blocks, of which the third is the first again, so that its keys are known.
+fn add_three(
+    rt: &impl Abort,
+    at_once: &mut Groups,
+    in_turn: &mut Groups,
+    seed: u64,
+    count: u32,
+) -> Result<(), Memory>
+    requires few { at_once.old.rows ≡ 0 }
+    requires few_rows { in_turn.old.rows ≡ 0 }
+    requires places { NamesPlaces at_once.old.items at_once.old.keys 4 }
+    requires row_places { NamesPlaces in_turn.old.items in_turn.old.keys 4 }
 {
-    let items = Vec::from_slice(alloc, items)?;
-    Groups::new(alloc, items, Vec::from_slice(alloc, keys)?)
+    let first = block_of(rt, seed, count);
+    let second = block_of(rt, drawn(seed), 64);
+    let chosen = drawn(seed ^ 5) | drawn(seed ^ 6);
+    add_both(rt, at_once, in_turn, &first, chosen)?;
+    add_both(rt, at_once, in_turn, &second, drawn(seed ^ 7))?;
+    add_both(rt, at_once, in_turn, &first, u64::MAX)
 }
 
-// Three blocks, of which the third is the first again, so that its keys are known.
+// Whether the groups with three blocks are those with their rows.
+fn agrees(
+    rt: &impl Abort,
+    alloc: Global,
+    items: &[Item],
+    keys: &[u32],
+    seed: u64,
+    count: u32,
+) -> Result<bool, Memory>
+    requires { NamesPlaces items.now keys.now 4 }
+{
+    let mut at_once = empty(alloc, items, keys)?;
+    let mut in_turn = empty(alloc, items, keys)?;
+    add_three(rt, &mut at_once, &mut in_turn, seed, count)?;
+    Ok(is_same(at_once.finish(), in_turn.finish()))
+}
+
 fn check(
     rt: &impl Abort,
     alloc: Global,
@@ -142,18 +171,8 @@ fn check(
     count: u32,
 ) -> Result<(), Fail> {
     assert!(rt; items_in(items, 4) && keys_in(keys, 4));
-    let mut at_once = empty(alloc, items, keys)?;
-    let mut in_turn = empty(alloc, items, keys)?;
-    let first = block_of(rt, seed, count);
-    let second = block_of(rt, drawn(seed), 64);
-    let chosen = drawn(seed ^ 5) | drawn(seed ^ 6);
-    add_both(rt, &mut at_once, &mut in_turn, &first, chosen)?;
-    add_both(rt, &mut at_once, &mut in_turn, &second, drawn(seed ^ 7))?;
-    add_both(rt, &mut at_once, &mut in_turn, &first, u64::MAX)?;
-    assert!(rt;
-        is_same(at_once.finish(), in_turn.finish()),
-        "{keys:?} {seed} {count}"
-    );
+    let agrees = agrees(rt, alloc, items, keys, seed, count)?;
+    assert!(rt; agrees, "{keys:?} {seed} {count}");
     Ok(())
 }
 

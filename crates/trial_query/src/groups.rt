@@ -1,6 +1,6 @@
 // What no clause says: the worked answers, and that each call finds memory.
-ghost use Rattle.std.specs.Prelude.{◌≡◌, ◌≤◌, ◌<◌, length, All, IfOk};
-ghost use Rattle.agg_groups.specs.Running.{IsInRow};
+ghost use Rattle.std.specs.Prelude.{◌≡◌, ◌≤◌, ◌+◌, length, OnOk, IfOk};
+ghost use Rattle.agg_groups.specs.Groups.{NamesPlaces};
 
 use crate::fitting::{are_rows, items_in, keys_in};
 use agg_groups::{FinishFault, Groups, Item, Rows, rows_text};
@@ -8,9 +8,32 @@ use std::alloc::Global;
 use std::process::Abort;
 use std::test::Fail;
 use table_core::Cell::{self, Code, Int, Null};
-use table_core::{Bytes, Column, Dict, Kind, Memory, Schema};
+use table_core::{Bytes, Column, Dict, Kind, MOST_ROWS, Memory, Schema};
 
 const MOST: i64 = 9223372036854775807;
+
+pub(crate) fn empty(alloc: Global, items: &[Item], keys: &[u32]) -> Result<Groups, Memory>
+    ensures items { IfOk result (λ g. g.items ≡ items.now) }
+    ensures keys { IfOk result (λ g. g.keys ≡ keys.now) }
+    ensures rows { IfOk result (λ g. g.rows ≡ 0) }
+{
+    let items = Vec::from_slice(alloc, items)?;
+    Groups::new(alloc, items, Vec::from_slice(alloc, keys)?)
+}
+
+// Adds rows of two cells.
+fn add_rows(groups: &mut Groups, rows: &[[Cell; 2]]) -> Result<(), Memory>
+    requires places { NamesPlaces groups.old.items groups.old.keys 2 }
+    requires few { groups.old.rows + length rows.now ≤ 100 }
+    ensures items { groups.new.items ≡ groups.old.items }
+    ensures keys { groups.new.keys ≡ groups.old.keys }
+    ensures rows { OnOk result (groups.new.rows ≡ groups.old.rows + length rows.now) }
+{
+    for row in rows {
+        groups.add_row(row)?;
+    }
+    Ok(())
+}
 
 // The groups of rows of two cells.
 fn grouped(
@@ -19,21 +42,14 @@ fn grouped(
     keys: &[u32],
     rows: &[[Cell; 2]],
 ) -> Result<Groups, Memory>
-    requires items { All (λ i. IsInRow i 2) items.now }
-    requires keys { All (λ x. x < 2) keys.now }
+    requires places { NamesPlaces items.now keys.now 2 }
     requires few { length rows.now ≤ 100 }
     ensures items { IfOk result (λ g. g.items ≡ items.now) }
     ensures keys { IfOk result (λ g. g.keys ≡ keys.now) }
     ensures rows { IfOk result (λ g. g.rows ≡ length rows.now) }
 {
-    let mut groups = Groups::new(
-        alloc,
-        Vec::from_slice(alloc, items)?,
-        Vec::from_slice(alloc, keys)?,
-    )?;
-    for row in rows {
-        groups.add_row(row)?;
-    }
+    let mut groups = empty(alloc, items, keys)?;
+    add_rows(&mut groups, rows)?;
     Ok(groups)
 }
 
@@ -45,6 +61,36 @@ fn is_wanted(got: Result<Rows, FinishFault>, wanted: Answer) -> bool {
         (Err(fault), Err(other)) => fault == other,
         _ => false,
     }
+}
+
+// Adds groups behind the others.
+fn merge(groups: &mut Groups, more: Groups) -> Result<(), Memory>
+    requires items { more.items ≡ groups.old.items }
+    requires keys { more.keys ≡ groups.old.keys }
+    requires few { groups.old.rows + more.rows ≤ MOST_ROWS }
+{
+    match groups.merge(more) {
+        Ok(()) => Ok(()),
+        Err((_, memory)) => Err(memory),
+    }
+}
+
+// Whether the groups of the rows, merged with those of more rows, give the answer.
+fn gives(
+    alloc: Global,
+    items: &[Item],
+    keys: &[u32],
+    rows: &[[Cell; 2]],
+    more: &[[Cell; 2]],
+    wanted: Answer,
+) -> Result<bool, Memory>
+    requires places { NamesPlaces items.now keys.now 2 }
+    requires few { length rows.now ≤ 50 }
+    requires few_more { length more.now ≤ 50 }
+{
+    let mut groups = grouped(alloc, items, keys, rows)?;
+    merge(&mut groups, grouped(alloc, items, keys, more)?)?;
+    Ok(is_wanted(groups.finish(), wanted))
 }
 
 // A name, items, keys, rows of two cells, and the answer.
@@ -62,10 +108,8 @@ fn check(rt: &impl Abort, alloc: Global, case: &Case) -> Result<(), Fail> {
     assert!(rt; items_in(items, 2) && keys_in(keys, 2));
     assert!(rt; rows.len() <= 50);
     for cut in 0..rows.len() + 1 {
-        let mut groups = grouped(alloc, items, keys, &rows[..cut])?;
-        let merged = groups.merge(grouped(alloc, items, keys, &rows[cut..])?);
-        assert!(rt; merged.is_ok(), "{name}");
-        assert!(rt; is_wanted(groups.finish(), wanted), "{name}, cut at {cut}");
+        let gives = gives(alloc, items, keys, &rows[..cut], &rows[cut..], wanted)?;
+        assert!(rt; gives, "{name}, cut at {cut}");
     }
     Ok(())
 }

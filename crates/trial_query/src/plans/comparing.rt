@@ -3,7 +3,7 @@ use crate::fitting::fits_row;
 use crate::plans::{CODES, plan};
 use filter_zones::{Truth, truth_of};
 use sql_bind::Plan;
-use std::alloc::Global;
+use std::alloc::{AllocError, Global};
 use std::cmp::Ordering;
 use std::process::Abort;
 use std::test::Fail;
@@ -22,12 +22,17 @@ fn is_met(op: usize, order: Ordering) -> bool {
     }
 }
 
-// The plan of `SELECT COUNT(*) FROM t WHERE` these parts, if there is one.
-fn plan_where(rt: &impl Abort, alloc: Global, parts: [&[u8]; 3]) -> Result<Option<Plan>, Fail> {
-    let mut text = b"SELECT COUNT(*) FROM t WHERE ".to_vec(alloc)?;
+fn add_parts(text: &mut Vec<u8>, parts: [&[u8]; 3]) -> Result<(), AllocError> {
     for part in parts {
         text.extend_from_slice(part)?;
     }
+    Ok(())
+}
+
+// The plan of `SELECT COUNT(*) FROM t WHERE` these parts, if there is one.
+fn plan_where(rt: &impl Abort, alloc: Global, parts: [&[u8]; 3]) -> Result<Option<Plan>, Fail> {
+    let mut text = b"SELECT COUNT(*) FROM t WHERE ".to_vec(alloc)?;
+    add_parts(&mut text, parts)?;
     match plan(rt, alloc, &text)? {
         Ok(plan) => Ok(Some(plan)),
         Err(_) => Ok(None),
@@ -115,28 +120,39 @@ const CELLS: [i64; 19] = [
     MOST,
 ];
 
+// Tests the plan's comparison of each cell of a column, whose cells count parts of one, with a literal.
+fn compares_cells(
+    rt: &impl Abort,
+    plan: &Option<Plan>,
+    (column, scale): (usize, i128),
+    op: usize,
+    (literal, number, power): Number<'_>,
+) -> Result<(), Fail> {
+    for cell in CELLS {
+        let order = i128::from(cell)
+            .wrapping_mul(power)
+            .cmp(&i128::from(number).wrapping_mul(scale));
+        let truth = truth(rt, plan, &row_with(column, Int(cell)));
+        assert!(rt;
+            truth == said(is_met(op, order)),
+            "{cell} {op} {literal:?} {column}"
+        );
+    }
+    let truth = truth(rt, plan, &row_with(column, Null));
+    assert!(rt; truth == Some(Truth::Unknown), "{literal:?}");
+    Ok(())
+}
+
 // Tests a comparison of a column, whose cells count parts of one, with a literal.
 fn compares(
     rt: &impl Abort,
     alloc: Global,
     (name, column, scale): (&[u8], usize, i128),
     (op, sign): (usize, &[u8]),
-    (literal, number, power): Number<'_>,
+    number: Number<'_>,
 ) -> Result<(), Fail> {
-    let plan = plan_where(rt, alloc, [name, sign, literal])?;
-    for cell in CELLS {
-        let order = i128::from(cell)
-            .wrapping_mul(power)
-            .cmp(&i128::from(number).wrapping_mul(scale));
-        let truth = truth(rt, &plan, &row_with(column, Int(cell)));
-        assert!(rt;
-            truth == said(is_met(op, order)),
-            "{cell} {op} {literal:?} {column}"
-        );
-    }
-    let truth = truth(rt, &plan, &row_with(column, Null));
-    assert!(rt; truth == Some(Truth::Unknown), "{literal:?}");
-    Ok(())
+    let plan = plan_where(rt, alloc, [name, sign, number.0])?;
+    compares_cells(rt, &plan, (column, scale), op, number)
 }
 
 // Each number under a comparison, with a column of whole numbers and with one of two places.
