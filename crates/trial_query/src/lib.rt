@@ -1,4 +1,4 @@
-//! Trials of a query's way: its tokens, its tree, its plan, its groups or first rows, and what it gathers.
+//! Trials of a query's way behind its text: its plan, its groups or first rows, and what it gathers.
 //!
 //! All of it is tests. `docs/SQL.md` and `docs/ANSWERS.md` tell the rules.
 #![tactic(auto)]
@@ -15,7 +15,3 @@ mod gathering;
 mod groups;
 #[cfg(test)]
 mod plans;
-#[cfg(test)]
-mod texts;
-#[cfg(test)]
-mod tokens;

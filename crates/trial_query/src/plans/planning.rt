@@ -2,7 +2,7 @@
 use crate::plans::plan;
 use agg_groups::Item;
 use sql_bind::{BindRefusal, Plan, StatementRefusal};
-use sql_text::TextRefusal;
+use sql_tokens::TextRefusal;
 use std::alloc::Global;
 use std::process::Abort;
 use std::test::Fail;

@@ -1,4 +1,4 @@
-use Rattle.trial_query.proofs.texts.rewritten.Goals as goal
+use Rattle.trial_sql.proofs.texts.rewritten.Goals as goal
 
 pub write_query-requires : goal.write_query-requires
 write_query-requires g c = (c.args.text.now, c.in_ok-query.ensures.found)

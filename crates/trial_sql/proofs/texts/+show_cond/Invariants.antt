@@ -1,4 +1,4 @@
-use Rattle.trial_query.proofs.texts.+show_cond.Given as goal
+use Rattle.trial_sql.proofs.texts.+show_cond.Given as goal
 
 abbrev pub decreases-show_cond : goal.decreases-show_cond
 decreases-show_cond l = l.depth
