@@ -27,7 +27,7 @@ use Rattle.piece_format.proofs.Places.{mask_slot, row_value_slot, column_value_s
 
 -- ---- where the words of a cell stand
 
-one_row : (rows row columns : ℕ) → row < rows → row * (columns + 1) + (columns + 1) ≤ rows * (columns + 1)
+pub one_row : (rows row columns : ℕ) → row < rows → row * (columns + 1) + (columns + 1) ≤ rows * (columns + 1)
 one_row rows row columns low =
     let e : (row + 1) * (columns + 1) ≡ row * (columns + 1) + (columns + 1) = omega (arith, add-mul row 1 (columns + 1)) in
     let fits : (row + 1) * (columns + 1) ≤ rows * (columns + 1) = mul-le-mul_right (columns + 1) (omega arith) in

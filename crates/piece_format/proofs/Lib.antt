@@ -6,3 +6,4 @@ pub mod Places
 pub mod Putting
 pub mod Sizes
 pub mod Back
+pub mod Filling

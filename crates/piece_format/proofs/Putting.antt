@@ -13,17 +13,17 @@ use Rattle.piece_format.specs.Encoding.{AreFirst, IsKept, held_cell}
 use Rattle.piece_format.specs.Shape.{IsPiece, groups_in}
 use Rattle.piece_format.specs.Words.{Slot, bits, first_words, nulls, slot_at, slot_word, value}
 use Rattle.piece_format.proofs.Bits.{bits-same}
-use Rattle.piece_format.proofs.Places.{mask_slot, row_value_slot, column_value_slot, null_slot}
+use Rattle.piece_format.proofs.Places.{column_value_slot, null_slot}
 
-abbrev is_value : Slot → Bool
+abbrev pub is_value : Slot → Bool
 is_value (value row x) = true
 is_value (nulls count row x) = false
 
-abbrev row_of : Slot → ℕ
+abbrev pub row_of : Slot → ℕ
 row_of (value row x) = row
 row_of (nulls count row x) = 0
 
-abbrev column_of : Slot → ℕ
+abbrev pub column_of : Slot → ℕ
 column_of (value row x) = x
 column_of (nulls count row x) = 0
 
@@ -72,23 +72,8 @@ module _ (q : Piece) (table : TableRows) (from : ℕ) where
   cell = held_cell q table from
 
   -- a cell of the chunk is one of the table
-  held : (row x : ℕ) → row < q.rows → cell_at table.rows (from + row) x ≡ cell row x
+  pub held : (row x : ℕ) → row < q.rows → cell_at table.rows (from + row) x ≡ cell row x
   held row x there = sym (ap (λ (r : List Cell). get_or r x Null) (get_or-take q.rows (drop from table.rows) row [] there ∙ get_or-drop from table.rows row []))
-
-  pub mask_more : (row : ℕ) (words : List ℕ) (w : ℕ) → q.layout ≡ layouts.Row → row < q.rows → AreFirst q cell (row * (q.columns + 1)) words
-      → w ≡ bits (λ x. is_null (cell_at table.rows (from + row) x)) q.columns → AreFirst q cell (row * (q.columns + 1) + 1) (words ++ w ∷ [])
-  mask_more row words w here there first is =
-      nulls_more q cell (row * (q.columns + 1)) q.columns (λ _. row) (λ bit. bit) words w first (mask_slot q row here)
-      (is ∙ bits-same (λ x. is_null (cell_at table.rows (from + row) x)) (λ x. is_null (cell row x)) q.columns (λ x low. ap is_null (held row x there)))
-
-  pub row_value_more : (row x : ℕ) (words : List ℕ) (w : ℕ) → q.layout ≡ layouts.Row → row < q.rows → x < q.columns → AreFirst q cell (row * (q.columns + 1) + 1 + x) words
-      → w ≡ value_word (cell_at table.rows (from + row) x) → IsKept (cell_at table.rows (from + row) x)
-      → AreFirst q cell (row * (q.columns + 1) + 1 + (x + 1)) (words ++ w ∷ [])
-  row_value_more row x words w here there low first is kept =
-      let place = row * (q.columns + 1) + 1 + x in
-      let e : place + 1 ≡ row * (q.columns + 1) + 1 + (x + 1) = omega arith in
-      subst (λ n. AreFirst q cell n (words ++ w ∷ [])) e
-      (value_more q cell place row x words w first (row_value_slot q row x here low) (is ∙ ap value_word (held row x there)) (subst IsKept (held row x there) kept))
 
   pub column_value_more : (row : ℕ) (words : List ℕ) (w : ℕ) → q.layout ≡ layouts.Column → row < q.rows → AreFirst q cell row words
       → w ≡ value_word (cell_at table.rows (from + row) q.group) → IsKept (cell_at table.rows (from + row) q.group) → AreFirst q cell (row + 1) (words ++ w ∷ [])

@@ -6,7 +6,7 @@ ghost use Rattle.piece_format.specs.declared.layout.Layout.TheVariants as layout
 ghost use Rattle.piece_format.specs.Shape.{IsPiece, IsShape, piece_at, pieces, words_in};
 ghost use Rattle.piece_format.specs.Bytes.{bytes_of, word_of};
 ghost use Rattle.piece_format.specs.Broken.{NoneBroken};
-ghost use Rattle.piece_format.specs.Cells.{IsTableOf, cell_at, is_null as is_null_cell};
+ghost use Rattle.piece_format.specs.Cells.{IsTableOf, is_null as is_null_cell};
 ghost use Rattle.piece_format.specs.Encoding.{AreFirst, HoldsRows, held_cell};
 ghost use Rattle.piece_format.specs.Reading.{GivesBack};
 ghost use Rattle.piece_format.specs.Words as spec;
@@ -15,24 +15,11 @@ ghost use Rattle.piece_format.specs.Words.{bits};
 use crate::cells::{is_null_at, value_word_at, with_bit};
 use crate::layout::Layout;
 use crate::pieces::Piece;
+use crate::row_words::fill_rows;
 use crate::shape::{Shape, groups, piece_words};
 use crate::word_bytes::bytes_give_words;
 use std::alloc::Global;
 use table_core::{Cells, Memory, Table, chunk_span};
-
-// The null bits of so many cells of a row, from the first column on.
-fn mask_word(table: &Table, row: usize, count: u32) -> u64
-    requires few { count ≤ 64 }
-    requires columns { count ≤ length table.now.columns }
-    requires row { row < length table.now.rows }
-    ensures { result ≡ bits (λ x. is_null_cell (cell_at table.now.rows row x)) count }
-{
-    let mut word = 0;
-    for x in 0..count {
-        word = with_bit(word, x, is_null_at(table.column(x as usize), row));
-    }
-    word
-}
 
 // The null bits of so many cells of a column.
 fn null_word(column: &Cells, from: u32, count: u32) -> u64
@@ -45,44 +32,6 @@ fn null_word(column: &Cells, from: u32, count: u32) -> u64
         word = with_bit(word, b, is_null_at(column, from as usize + b as usize));
     }
     word
-}
-
-// Puts the words of a row: its mask word and its value words.
-fn push_row(
-    words: &mut Vec<u64>,
-    piece: Piece,
-    table: &Table,
-    from: u32,
-    row: u32,
-) -> Result<(), Memory>
-    requires piece { IsPiece piece }
-    requires layout { piece.layout ≡ layouts.Row }
-    requires rows { HoldsRows piece table.now from }
-    requires row { row < piece.rows }
-    requires before { AreFirst piece (held_cell piece table.now from) (row * (piece.columns + 1)) words.old.items }
-    ensures { OnOk result (AreFirst piece (held_cell piece table.now from)
-        (row * (piece.columns + 1) + 1 + piece.columns) words.new.items) }
-{
-    let place = (from + row) as usize;
-    words.push(mask_word(table, place, piece.columns))?;
-    for x in 0..piece.columns {
-        words.push(value_word_at(table.column(x as usize), place))?;
-    }
-    Ok(())
-}
-
-// Puts the words of a chunk row by row.
-fn push_rows(words: &mut Vec<u64>, piece: Piece, table: &Table, from: u32) -> Result<(), Memory>
-    requires piece { IsPiece piece }
-    requires layout { piece.layout ≡ layouts.Row }
-    requires rows { HoldsRows piece table.now from }
-    requires empty { words.old.items ≡ [] }
-    ensures { OnOk result (AreFirst piece (held_cell piece table.now from) (words_in piece) words.new.items) }
-{
-    for row in 0..piece.rows {
-        push_row(words, piece, table, from, row)?;
-    }
-    Ok(())
 }
 
 // Puts the value words of a column.
@@ -125,7 +74,7 @@ fn encode_rows(words: &mut Vec<u64>, piece: Piece, table: &Table, from: u32) -> 
 {
     words.clear();
     match piece.layout {
-        Layout::Row => return push_rows(words, piece, table, from),
+        Layout::Row => return fill_rows(words, piece, table, from),
         Layout::Column => {
             push_values(words, piece, table, from)?;
             return push_nulls(words, piece, table, from);

@@ -16,6 +16,7 @@ mod encoding;
 mod fours;
 mod layout;
 mod pieces;
+mod row_words;
 mod shape;
 mod sound;
 mod word_bytes;
