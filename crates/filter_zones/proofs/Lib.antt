@@ -8,3 +8,4 @@ pub mod Bits
 pub mod Joined
 pub mod Limits
 pub mod RowTruths
+pub mod Values

@@ -5,3 +5,4 @@ pub mod Masks
 pub mod Ends
 pub mod Truths
 pub mod Certain
+pub mod Found

@@ -12,6 +12,7 @@ mod block_truths;
 mod certain;
 mod cond;
 mod ends;
+mod found;
 mod lane_truths;
 mod masks;
 mod possible;

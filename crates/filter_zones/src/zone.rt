@@ -1,16 +1,14 @@
 // Zones of columns, and of chunks.
-ghost use Rattle.std.specs.Prelude.{◌≡◌, ◌<◌, ◌≤◌, ◌-◌, ◌++◌, ◌∷◌, [], ℕ, List, All, length, take, drop};
-ghost use Rattle.std.specs.Ordering.{is_gt};
-ghost use Rattle.table_core.specs.Cell.{cell_cmp};
+ghost use Rattle.std.specs.Prelude.{◌≡◌, ◌<◌, ◌≤◌, ◌-◌, ℕ, All, length, take, drop};
 ghost use Rattle.table_core.specs.Columns.{column_cells};
-ghost use Rattle.table_core.specs.declared.cell.Cell.{Cell};
 ghost use Rattle.filter_zones.specs.declared.cond.Cond.{Cond};
 ghost use Rattle.filter_zones.specs.Truth.{FitsRow};
 ghost use Rattle.filter_zones.specs.Possible.{FitsZones};
 ghost use Rattle.filter_zones.specs.Zone as spec;
 ghost use Rattle.filter_zones.specs.Zone.{part};
 
-use table_core::{Cell, Cells, MOST_COLUMNS, Table, cell_order};
+use crate::found::{zone_of_codes, zone_of_numbers};
+use table_core::{Cell, Cells, MOST_COLUMNS, Table};
 
 /// What stands in a column of a chunk.
 #[derive(Clone, Copy, Debug, PartialEq, Eq)]
@@ -41,48 +39,16 @@ const NOTHING: Zone = Zone {
     range: None,
 };
 
-fn is_above(a: Cell, b: Cell) -> bool
-    ensures { result ≡ is_gt (cell_cmp a b) }
-{
-    cell_order();
-    a.cmp(&b).is_gt()
-}
-
-// The zone of a column's cells and one more.
-fn widened(zone: Zone, cell: Cell) -> Zone
-    ensures { (cells : List Cell) → zone ≡ spec.zone_of cells → result ≡ spec.zone_of (cells ++ cell ∷ []) }
-{
-    match (cell, zone.range) {
-        (Cell::Null, range) => Zone {
-            has_null: true,
-            range,
-        },
-        (cell, None) => Zone {
-            has_null: zone.has_null,
-            range: Some((cell, cell)),
-        },
-        (cell, Some((low, high))) => {
-            let low = if is_above(low, cell) { cell } else { low };
-            let high = if is_above(cell, high) { cell } else { high };
-            Zone {
-                has_null: zone.has_null,
-                range: Some((low, high)),
-            }
-        }
-    }
-}
-
 // The zone of a column's cells from one row up to, not including, another.
 fn zone_between(column: &Cells, from: usize, to: usize) -> Zone
     requires rises { from ≤ to }
     requires there { to ≤ length (column_cells column.now) }
     ensures { result ≡ spec.zone_of (take (to - from) (drop from (column_cells column.now))) }
 {
-    let mut zone = NOTHING;
-    for row in from..to {
-        zone = widened(zone, column.get(row));
+    match column {
+        Cells::Numbers(numbers) => zone_of_numbers(numbers, from, to),
+        Cells::Codes(codes) => zone_of_codes(codes, from, to),
     }
-    zone
 }
 
 /// The zone of each column of a chunk: of the rows of a table from one place up to, not including, another.
