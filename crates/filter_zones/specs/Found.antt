@@ -12,7 +12,7 @@ use Rattle.filter_zones.specs.declared.zone.Zone.{Zone}
 abbrev pub zone_from : {T : Type 0} → (Option T → Cell) → Found T → Zone
 zone_from cell found = record { has_null = found.has_null; range = option_map (λ p. (cell (Some p.0), cell (Some p.1))) found.range }
 
--- each value is a cell other than NULL, these cells stand as the values do, and none is NULL
+-- no value is NULL as a cell, each value is another cell, and these stand as the values do
 pub record IsOrdered {T : Type 0} (cmp : T → T → Ordering) (cell : Option T → Cell) : Type 0 where
   pub none : cell None ≡ Null
   pub some : (v : T) → is_null (cell (Some v)) ≡ false
