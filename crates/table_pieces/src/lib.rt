@@ -2,13 +2,14 @@
 //!
 //!     let shape = shape_of(alloc, &table, &dicts, Layout::Row, 1024)?;
 //!     let zones = zones_of_chunks(alloc, &shape, &table)?;
-//!     put_pieces(alloc, &shape, &table, &mut depot)?;   // or the piece that was not stored
+//!     put_pieces(rt, alloc, &shape, &table, &mut depot, 3)?;   // or the piece that was not stored
 //!     let chunks = chunks_of(&shape);
 //!
 //! docs/PIECES.md and docs/ZONES.md have the rules.
 #![tactic(auto)]
 
 mod chunk_rows;
+mod parcel;
 mod putting;
 mod refusal;
 mod shaping;

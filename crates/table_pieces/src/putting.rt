@@ -1,55 +1,125 @@
 // The pieces of a table, put into a depot.
-ghost use Rattle.std.specs.Prelude.{◌≡◌, ◌≢◌, ◌<◌, ◌≤◌, ◌+◌, ◌*◌, IfErr, OnOk, OnErr, length};
-ghost use Rattle.coop_outside.specs.Pieces.{with_piece};
-ghost use Rattle.piece_format.specs.Broken.{NoneBroken};
-ghost use Rattle.piece_format.specs.Bytes.{word_of};
+ghost use Rattle.std.specs.Prelude.{◌≡◌, ◌<◌, ◌≤◌, ◌+◌, ◌^◌, ℕ, IfErr, IfOk, OnOk, length};
+ghost use Rattle.coop_outside.specs.Pieces.{Stored};
 ghost use Rattle.piece_format.specs.Cells.{IsTableOf};
-ghost use Rattle.piece_format.specs.Reading.{GivesBack};
-ghost use Rattle.piece_format.specs.Shape.{IsShape, piece_at, pieces, words_in};
-ghost use Rattle.table_pieces.specs.Putting.{ArePut, AreLong, AreSound, GiveBack, IsPutRefusal, ReadBack, ReadsBack, piece_bytes};
+ghost use Rattle.piece_format.specs.Shape.{IsShape, pieces};
+ghost use Rattle.table_pieces.specs.Putting.{AreFilled, ArePut, AreLong, AreSound, GiveBack, IsFilled, IsPutRefusal, IsReadable, ReadBack};
 
+use crate::parcel::Parcel;
 use crate::refusal::BatchRefusal;
 use crate::shaping::chunks_of;
 use coop_outside::{Depot, DepotFault};
-use piece_format::{Shape, encode_into, groups, words_into_bytes};
+use piece_format::{Shape, frame_words, groups};
 use std::alloc::Global;
+use std::thread;
+use std::thread::Threads;
 use table_core::{Memory, Table};
 
-// The bytes of a piece, in place of those that stood there; its words likewise.
-fn bytes_of_piece(
-    words: &mut Vec<u64>,
-    bytes: &mut Vec<u8>,
+// About how many words are made before they are put: 4 MiB.
+const BLOCK_WORDS: u32 = 1 << 19;
+
+// How many pieces are made before they are put. Without threads it is one, which stays in the processor's cache.
+fn block_len(shape: &Shape, count: u32, most_threads: u32) -> u32
+    requires shape { IsShape shape.now }
+    requires some { 0 < count }
+    ensures { 0 < result }
+{
+    if most_threads == 0 {
+        return 1;
+    }
+    (BLOCK_WORDS / frame_words(shape).max(1)).max(1).min(count)
+}
+
+fn empty_parcels(alloc: Global, count: u32) -> Result<Vec<Parcel>, Memory>
+    ensures { IfOk result (λ v. length v.items ≡ count) }
+{
+    let mut parcels = Vec::new(alloc);
+    for _ in 0..count {
+        parcels.push(Parcel::new(alloc))?;
+    }
+    Ok(parcels)
+}
+
+// Makes the pieces from one on, side by side, by at most so many threads beside the caller's.
+fn fill_all<R: Threads + Sync>(
+    rt: &R,
     shape: &Shape,
     table: &Table,
-    piece: u32,
-) -> Result<(), Memory>
+    first: u32,
+    parcels: &mut [Parcel],
+    most_threads: u32,
+)
     requires shape { IsShape shape.now }
     requires table { IsTableOf shape.now table.now }
-    requires there { piece < pieces shape.now }
-    ensures bytes { OnOk result (bytes.new.items ≡ piece_bytes shape.now table.now.rows piece) }
-    ensures len { OnOk result (length (piece_bytes shape.now table.now.rows piece)
-        ≡ 8 * words_in (piece_at shape.now piece)) }
-    ensures words { OnOk result (ReadsBack shape.now table.now.rows piece) }
-    ensures back { OnOk result (GivesBack shape.now table.now.rows piece
-        (word_of (piece_bytes shape.now table.now.rows piece))) }
-    ensures sound { OnOk result (let q = piece_at shape.now piece in NoneBroken shape.now q
-        (word_of (piece_bytes shape.now table.now.rows piece)) (words_in q)) }
+    requires there { first + length parcels.old ≤ pieces shape.now }
+    requires numbers { first + length parcels.old < 2 ^ 32 }
+    ensures { AreFilled shape.now table.now.rows first parcels.new }
 {
-    encode_into(words, shape, table, piece)?;
-    words_into_bytes(words.as_slice(), bytes)?;
+    let threads = most_threads as usize + 1;
+    thread::for_each_mut(
+        rt,
+        parcels,
+        threads,
+        &|place, parcel|
+            requires { IsShape shape.now × IsTableOf shape.now table.now × (first + place < pieces shape.now)
+                × (first + place < 2 ^ 32) }
+            ensures { IsFilled shape.entry.now table.entry.now.rows (first + place) parcel.exit.now }
+        { parcel.fill(shape, table, first + place as u32) },
+    );
+}
+
+// Makes the pieces from one on, as many as there are parcels, and puts them by rising piece.
+fn put_block<R: Threads + Sync, D: Depot>(
+    rt: &R,
+    shape: &Shape,
+    table: &Table,
+    first: u32,
+    parcels: &mut [Parcel],
+    depot: &mut D,
+    most_threads: u32,
+) -> Result<(), BatchRefusal>
+    requires shape { IsShape shape.now }
+    requires table { IsTableOf shape.now table.now }
+    requires there { first + length parcels.old ≤ pieces shape.now }
+    requires numbers { first + length parcels.old < 2 ^ 32 }
+    ensures stored { OnOk result ((start : Stored) → ArePut shape.now table.now.rows first first start (D.held depot.old)
+        → let next = first + length parcels.old in ArePut shape.now table.now.rows next next start (D.held depot.new)) }
+    ensures readable { OnOk result ((i : ℕ) → i < length parcels.old → IsReadable shape.now table.now.rows (first + i)) }
+    ensures refused { IfErr result (λ r. (start : Stored)
+        → ArePut shape.now table.now.rows first first start (D.held depot.old)
+        → IsPutRefusal shape.now table.now.rows start (D.held depot.new) (D.faults depot.old) (D.faults depot.new) r) }
+    ensures gets { D.gets depot.new ≡ D.gets depot.old }
+    ensures later { D.faults depot.old ≤ D.faults depot.new }
+{
+    fill_all(rt, shape, table, first, parcels, most_threads);
+    let mut piece = first;
+    for parcel in parcels.iter() {
+        parcel.made?;
+        match depot.put(piece, parcel.bytes.as_slice()) {
+            Ok(()) => {}
+            Err(DepotFault::Failed) => return Err(BatchRefusal::Put { piece }),
+            Err(DepotFault::Memory) => return Err(BatchRefusal::Memory),
+        }
+        piece += 1;
+    }
     Ok(())
 }
 
 /// Puts each piece of a table into a depot, by rising piece.
 ///
-/// The table has the kinds and rows of the shape, and each cell is one that its column may have. One piece's words and
-/// bytes are kept at a time. After `Put` the pieces below the one that it names are put, that one may be anything, and
-/// those above it are as they were; after `Memory` the pieces below some number are put and all others are as they were.
-pub fn put_pieces<D: Depot>(
+/// The table has the kinds and rows of the shape, and each cell is one that its column may have. Pieces are made side by
+/// side, by at most `most_threads` threads beside the caller's, and put by the caller's alone: unless memory runs out, the
+/// answer is the same for every number of threads. About 4 MiB of words and their bytes are kept at a time, at least one
+/// piece's; with 0 threads just one piece's. After `Put` the pieces below the one that it names are put, that one may be
+/// anything, and those above it are as they were; after `Memory` the pieces below some number are put and all others are as
+/// they were.
+pub fn put_pieces<R: Threads + Sync, D: Depot>(
+    rt: &R,
     alloc: Global,
     shape: &Shape,
     table: &Table,
     depot: &mut D,
+    most_threads: u32,
 ) -> Result<(), BatchRefusal>
     requires shape { IsShape shape.now }
     requires table { IsTableOf shape.now table.now }
@@ -65,15 +135,19 @@ pub fn put_pieces<D: Depot>(
     ensures gets { D.gets depot.new ≡ D.gets depot.old }
     ensures later { D.faults depot.old ≤ D.faults depot.new }
 {
-    let mut words = Vec::new(alloc);
-    let mut bytes = Vec::new(alloc);
-    for piece in 0..chunks_of(shape) * groups(shape) {
-        bytes_of_piece(&mut words, &mut bytes, shape, table, piece)?;
-        match depot.put(piece, bytes.as_slice()) {
-            Ok(()) => {}
-            Err(DepotFault::Failed) => return Err(BatchRefusal::Put { piece }),
-            Err(DepotFault::Memory) => return Err(BatchRefusal::Memory),
-        }
+    let count = chunks_of(shape) * groups(shape);
+    if count == 0 {
+        return Ok(());
+    }
+    let most = block_len(shape, count, most_threads);
+    let mut parcels = empty_parcels(alloc, most)?;
+    let room = parcels.as_mut_slice();
+    let mut next = 0;
+    while next < count {
+        let len = most.min(count - next);
+        let block = &mut room[..len as usize];
+        put_block(rt, shape, table, next, block, depot, most_threads)?;
+        next += len;
     }
     Ok(())
 }

@@ -1,12 +1,13 @@
 // The pieces of a table in a depot.
-use crate::example::{CELLS, MINUS_5, cut};
+use crate::example::{CELLS, MINUS_5, cut, cut_of, seventy};
 use crate::full_depot::FullDepot;
 use coop_outside::{Depot, MemDepot};
 use piece_format::Layout;
 use std::alloc::Global;
 use std::process::Abort;
 use std::test::Fail;
-use table_core::Cell;
+use std::thread::Threads;
+use table_core::{Cell, Kind};
 use table_pieces::{BatchRefusal, put_pieces};
 
 // The words of each piece, with two rows in a chunk.
@@ -61,12 +62,13 @@ fn holds_first(depot: &MemDepot, pieces: &[&[u64]], count: usize) -> bool {
     count <= pieces.len() && depot.pieces.len() == count
 }
 
-// Cells that are put, two rows in a chunk, the put that fails, counted from 1; what all of them answer, how many faults
-// are counted, and how many of the first pieces the depot then holds.
+// Cells that are put, two rows in a chunk, by how many threads at most beside the caller's; the put that fails, counted
+// from 1; what all of them answer, how many faults are counted, and how many of the first pieces the depot then holds.
 #[derive(Clone, Copy)]
 struct Case<'a> {
     cells: &'a [Cell],
     layout: Layout,
+    most_threads: u32,
     fails: u64,
     answer: Result<(), BatchRefusal>,
     faults: u64,
@@ -80,17 +82,34 @@ fn is_left(depot: &MemDepot, case: &Case<'_>) -> bool {
 }
 
 // Whether the puts come to what the case says.
-fn puts(rt: &impl Abort, alloc: Global, case: &Case<'_>) -> Result<bool, Fail> {
+fn puts<R: Abort + Threads + Sync>(rt: &R, alloc: Global, case: &Case<'_>) -> Result<bool, Fail> {
     let cut = cut(rt, alloc, case.cells, case.layout, 2)?;
     let mut depot = MemDepot::new(alloc);
     depot.fail_puts.push(case.fails)?;
-    let answer = put_pieces(alloc, &cut.shape, &cut.table, &mut depot);
+    let answer = put_pieces(
+        rt,
+        alloc,
+        &cut.shape,
+        &cut.table,
+        &mut depot,
+        case.most_threads,
+    );
     Ok(answer == case.answer && is_left(&depot, case))
 }
 
-fn expect_put(rt: &impl Abort, alloc: Global, cases: &[Case<'_>]) -> Result<(), Fail> {
+fn expect_put<R: Abort + Threads + Sync>(
+    rt: &R,
+    alloc: Global,
+    cases: &[Case<'_>],
+) -> Result<(), Fail> {
     for case in cases {
-        assert!(rt; puts(rt, alloc, case)?, "{:?} {}", case.layout, case.fails);
+        assert!(rt;
+            puts(rt, alloc, case)?,
+            "{:?} {} {}",
+            case.layout,
+            case.most_threads,
+            case.fails
+        );
     }
     Ok(())
 }
@@ -98,6 +117,7 @@ fn expect_put(rt: &impl Abort, alloc: Global, cases: &[Case<'_>]) -> Result<(), 
 const IN_ROWS: Case<'static> = Case {
     cells: &CELLS,
     layout: Layout::Row,
+    most_threads: 0,
     fails: 0,
     answer: Ok(()),
     faults: 0,
@@ -110,7 +130,27 @@ const IN_COLUMNS: Case<'static> = Case {
     ..IN_ROWS
 };
 
-const ALL: &[Case<'static>] = &[IN_ROWS, IN_COLUMNS];
+// Three pieces, and nine, by fewer threads than pieces and by more.
+const ALL: &[Case<'static>] = &[
+    IN_ROWS,
+    IN_COLUMNS,
+    Case {
+        most_threads: 1,
+        ..IN_ROWS
+    },
+    Case {
+        most_threads: 7,
+        ..IN_ROWS
+    },
+    Case {
+        most_threads: 3,
+        ..IN_COLUMNS
+    },
+    Case {
+        most_threads: 20,
+        ..IN_COLUMNS
+    },
+];
 
 #[test]
 fn each_piece_is_put_with_its_bytes(rt: HostRuntime) -> Result<(), Fail> {
@@ -118,11 +158,18 @@ fn each_piece_is_put_with_its_bytes(rt: HostRuntime) -> Result<(), Fail> {
 }
 
 // The put of each of so many pieces fails.
-fn expect_failing(rt: &impl Abort, alloc: Global, layout: Layout, count: u32) -> Result<(), Fail> {
+fn expect_failing<R: Abort + Threads + Sync>(
+    rt: &R,
+    alloc: Global,
+    layout: Layout,
+    count: u32,
+    most_threads: u32,
+) -> Result<(), Fail> {
     for piece in 0..count {
         let case = Case {
             cells: &CELLS,
             layout,
+            most_threads,
             fails: u64::from(piece) + 1,
             answer: Err(BatchRefusal::Put { piece }),
             faults: 1,
@@ -135,13 +182,15 @@ fn expect_failing(rt: &impl Abort, alloc: Global, layout: Layout, count: u32) ->
 
 #[test]
 fn a_put_that_fails_is_told_by_its_piece(rt: HostRuntime) -> Result<(), Fail> {
-    expect_failing(&rt, rt.alloc(), Layout::Row, 3)?;
-    expect_failing(&rt, rt.alloc(), Layout::Column, 9)
+    expect_failing(&rt, rt.alloc(), Layout::Row, 3, 0)?;
+    expect_failing(&rt, rt.alloc(), Layout::Column, 9, 0)?;
+    expect_failing(&rt, rt.alloc(), Layout::Column, 9, 3)
 }
 
 const NO_ROWS: Case<'static> = Case {
     cells: &[],
     layout: Layout::Row,
+    most_threads: 0,
     fails: 1,
     answer: Ok(()),
     faults: 0,
@@ -153,18 +202,86 @@ const NO_COLUMNS: Case<'static> = Case {
     ..NO_ROWS
 };
 
-const NONE: &[Case<'static>] = &[NO_ROWS, NO_COLUMNS];
+const NONE: &[Case<'static>] = &[
+    NO_ROWS,
+    NO_COLUMNS,
+    Case {
+        most_threads: 3,
+        ..NO_COLUMNS
+    },
+];
 
 #[test]
 fn a_table_without_rows_has_no_pieces(rt: HostRuntime) -> Result<(), Fail> {
     expect_put(&rt, rt.alloc(), NONE)
 }
 
+// A depot with the pieces of a column of 70 rows, each a chunk, made by so many threads at most beside the caller's.
+fn seventy_put<R: Abort + Threads + Sync>(
+    rt: &R,
+    alloc: Global,
+    layout: Layout,
+    most_threads: u32,
+) -> Result<MemDepot, Fail> {
+    let cells = seventy(alloc, false)?;
+    let cut = cut_of(rt, alloc, &[Kind::Int], &[0], cells.as_slice(), layout, 1)?;
+    let mut depot = MemDepot::new(alloc);
+    let put = put_pieces(rt, alloc, &cut.shape, &cut.table, &mut depot, most_threads);
+    assert!(rt; put == Ok(()), "{most_threads}");
+    Ok(depot)
+}
+
+// Whether both depots hold these pieces, with the same bytes.
+fn hold_alike(one: &MemDepot, other: &MemDepot, count: u32) -> bool {
+    for piece in 0..count {
+        let (Some(bytes), Some(others)) = (one.pieces.get(&piece), other.pieces.get(&piece)) else {
+            return false;
+        };
+        if bytes.as_slice() != others.as_slice() {
+            return false;
+        }
+    }
+    one.pieces.len() == count as usize && other.pieces.len() == count as usize
+}
+
+const WAYS: &[(Layout, u32)] = &[
+    (Layout::Row, 1),
+    (Layout::Row, 3),
+    (Layout::Row, 7),
+    (Layout::Row, 100),
+    (Layout::Column, 1),
+    (Layout::Column, 3),
+    (Layout::Column, 7),
+    (Layout::Column, 100),
+];
+
+fn expect_alike<R: Abort + Threads + Sync>(
+    rt: &R,
+    alloc: Global,
+    ways: &[(Layout, u32)],
+) -> Result<(), Fail> {
+    for (layout, most_threads) in ways {
+        let alone = seventy_put(rt, alloc, *layout, 0)?;
+        let beside = seventy_put(rt, alloc, *layout, *most_threads)?;
+        assert!(rt;
+            hold_alike(&alone, &beside, 70),
+            "{layout:?} {most_threads}"
+        );
+    }
+    Ok(())
+}
+
+#[test]
+fn each_number_of_threads_makes_the_same_pieces(rt: HostRuntime) -> Result<(), Fail> {
+    expect_alike(&rt, rt.alloc(), WAYS)
+}
+
 // What becomes of nine pieces in a depot that has room for so many, and how many faults it counts.
-fn put_in_room(
-    rt: &impl Abort,
+fn put_in_room<R: Abort + Threads + Sync>(
+    rt: &R,
     alloc: Global,
     room: u32,
+    most_threads: u32,
 ) -> Result<(Result<(), BatchRefusal>, u64), Fail> {
     let cut = cut(rt, alloc, &CELLS, Layout::Column, 2)?;
     let mut depot = FullDepot {
@@ -172,37 +289,21 @@ fn put_in_room(
         gets: 0,
         faults: 0,
     };
-    let put = put_pieces(alloc, &cut.shape, &cut.table, &mut depot);
+    let put = put_pieces(rt, alloc, &cut.shape, &cut.table, &mut depot, most_threads);
     Ok((put, depot.faults()))
-}
-
-// How many pieces have room, and what the puts answer.
-type Room = (u32, Result<(), BatchRefusal>);
-
-const ROOM: &[Room] = &[
-    (0, Err(BatchRefusal::Memory)),
-    (8, Err(BatchRefusal::Memory)),
-    (9, Ok(())),
-];
-
-fn expect_room(rt: &impl Abort, alloc: Global, rows: &[Room]) -> Result<(), Fail> {
-    for (room, wanted) in rows {
-        let put = put_in_room(rt, alloc, *room)?;
-        assert!(rt; put == (*wanted, 0), "{room}");
-    }
-    Ok(())
 }
 
 #[test]
 fn a_depot_without_room_is_out_of_memory(rt: HostRuntime) -> Result<(), Fail> {
-    for (room, wanted) in [
-        (0, Err(BatchRefusal::Memory)),
-        (8, Err(BatchRefusal::Memory)),
-        (9, Ok(())),
+    for (room, most_threads, wanted) in [
+        (0, 0, Err(BatchRefusal::Memory)),
+        (8, 0, Err(BatchRefusal::Memory)),
+        (8, 3, Err(BatchRefusal::Memory)),
+        (9, 0, Ok(())),
     ] {
         assert!(rt;
-            put_in_room(&rt, rt.alloc(), room)? == (wanted, 0),
-            "{room}"
+            put_in_room(&rt, rt.alloc(), room, most_threads)? == (wanted, 0),
+            "{room} {most_threads}"
         );
     }
     Ok(())
