@@ -113,7 +113,9 @@ pub fn run_batch<P: Policy, D: Depot + Send, T: Gate + Sync, R: Threads + Wait +
         Ok(setup) => setup,
         Err(_) => return Err((depot, BatchRefusal::Memory)),
     };
-    match put_pieces(alloc, &setup.shape, &table, &mut depot) {
+    // No more threads make pieces than there are workers.
+    let threads = most_threads.min(options.workers.saturating_sub(1));
+    match put_pieces(rt, alloc, &setup.shape, &table, &mut depot, threads) {
         Ok(()) => {}
         Err(refusal) => return Err((depot, refusal)),
     }
