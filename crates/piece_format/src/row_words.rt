@@ -1,5 +1,5 @@
 // The words of a chunk in the row layout, filled a column at a time: a column's cells stand side by side in the table.
-ghost use Rattle.std.specs.Prelude.{◌≡◌, ◌<◌, ◌+◌, ◌*◌, ◌^◌, ℕ, All, [], OnOk, if◌then◌else◌, length, nat_lt, set, slice_index};
+ghost use Rattle.std.specs.Prelude.{◌≡◌, ◌<◌, ◌+◌, ◌*◌, ◌^◌, ℕ, [], OnOk, if◌then◌else◌, length, set, slice_index};
 ghost use Rattle.piece_format.specs.declared.layout.Layout.TheVariants as layouts;
 ghost use Rattle.piece_format.specs.Shape.{IsPiece, words_in};
 ghost use Rattle.piece_format.specs.Encoding.{AreFilled, AreFirst, HoldsRows, held_cell};

@@ -1,3 +1,4 @@
 pub mod Shaping
+pub mod Parcels
 pub mod Putting
 pub mod Zoning

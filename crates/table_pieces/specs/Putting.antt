@@ -1,5 +1,5 @@
 -- The pieces of a table in a depot, and what is left where not all could be put.
-use Rattle.std.specs.Prelude.{◌≡◌, ◌<◌, ◌≤◌, ◌+◌, ◌*◌, ⊤, ℕ, List, OnOk, length, slice_index, slice_index_or, Some, None}
+use Rattle.std.specs.Prelude.{◌≡◌, ◌<◌, ◌≤◌, ◌+◌, ◌*◌, ⊤, ℕ, List, length, slice_index, Some, None}
 use Rattle.coop_outside.specs.Causes.{Rose}
 use Rattle.coop_outside.specs.Pieces as depot
 use Rattle.coop_outside.specs.Pieces.{Pieces, Stored}
@@ -9,7 +9,6 @@ use Rattle.piece_format.specs.Reading.{GivesBack}
 use Rattle.piece_format.specs.Shape.{TableShape, piece_at, pieces, words_in}
 use Rattle.piece_format.specs.Words.{piece_words}
 use Rattle.table_core.specs.declared.cell.Cell.{Cell}
-use Rattle.table_pieces.specs.declared.parcel.Parcel.{Parcel}
 use Rattle.table_pieces.specs.declared.refusal.BatchRefusal.{BatchRefusal}
 use Rattle.table_pieces.specs.declared.refusal.BatchRefusal.TheVariants as refusals
 
@@ -48,26 +47,6 @@ GiveBack s rows count = (p : ℕ) → p < count → GivesBack s rows p (word_of 
 -- no word of a piece below a number breaks the rules
 abbrev pub AreSound : TableShape → List (List Cell) → ℕ → Type 0
 AreSound s rows count = (p : ℕ) → p < count → let q = piece_at s p in NoneBroken s q (word_of (piece_bytes s rows p)) (words_in q)
-
--- what a reader of a piece wants to know of its bytes
-pub record IsReadable (s : TableShape) (rows : List (List Cell)) (p : ℕ) : Type 0 where
-  pub len : length (piece_bytes s rows p) ≡ 8 * words_in (piece_at s p)
-  pub words : ReadsBack s rows p
-  pub back : GivesBack s rows p (word_of (piece_bytes s rows p))
-  pub sound : let q = piece_at s p in NoneBroken s q (word_of (piece_bytes s rows p)) (words_in q)
-
--- bytes that were made for a piece
-pub record IsMade (s : TableShape) (rows : List (List Cell)) (p : ℕ) (made : List ℕ) : Type 0 where
-  pub bytes : made ≡ piece_bytes s rows p
-  pub readable : IsReadable s rows p
-
--- a parcel that was filled with a piece, unless memory ran out
-abbrev pub IsFilled : TableShape → List (List Cell) → ℕ → Parcel → Type 0
-IsFilled s rows p parcel = OnOk parcel.made (IsMade s rows p parcel.bytes.items)
-
--- parcels that were filled with the pieces from this one on
-abbrev pub AreFilled : TableShape → List (List Cell) → ℕ → List Parcel → Type 0
-AreFilled s rows first parcels = (i : ℕ) (d : Parcel) → i < length parcels → IsFilled s rows (first + i) (slice_index_or parcels i d)
 
 -- a piece wasn't taken, and a fault counted: the pieces below it are put, and those above it are as they were
 pub record FailsAt (s : TableShape) (rows : List (List Cell)) (piece : ℕ) (old new : Stored) (before now : ℕ) : Type 0 where

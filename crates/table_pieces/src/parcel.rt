@@ -1,11 +1,9 @@
 // The bytes of a piece, made for a depot.
-ghost use Rattle.std.specs.Prelude.{◌≡◌, ◌<◌, ◌*◌, OnOk, length};
-ghost use Rattle.piece_format.specs.Broken.{NoneBroken};
-ghost use Rattle.piece_format.specs.Bytes.{word_of};
+ghost use Rattle.std.specs.Prelude.{◌≡◌, ◌<◌, OnOk};
 ghost use Rattle.piece_format.specs.Cells.{IsTableOf};
-ghost use Rattle.piece_format.specs.Reading.{GivesBack};
-ghost use Rattle.piece_format.specs.Shape.{IsShape, piece_at, pieces, words_in};
-ghost use Rattle.table_pieces.specs.Putting.{IsFilled, IsReadable, ReadsBack, piece_bytes};
+ghost use Rattle.piece_format.specs.Shape.{IsShape, pieces};
+ghost use Rattle.table_pieces.specs.Parcels.{IsFilled, IsReadable};
+ghost use Rattle.table_pieces.specs.Putting.{piece_bytes};
 
 use piece_format::{Shape, encode_into, words_into_bytes};
 use std::alloc::Global;

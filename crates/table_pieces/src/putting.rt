@@ -3,7 +3,8 @@ ghost use Rattle.std.specs.Prelude.{◌≡◌, ◌<◌, ◌≤◌, ◌+◌, ◌^
 ghost use Rattle.coop_outside.specs.Pieces.{Stored};
 ghost use Rattle.piece_format.specs.Cells.{IsTableOf};
 ghost use Rattle.piece_format.specs.Shape.{IsShape, pieces};
-ghost use Rattle.table_pieces.specs.Putting.{AreFilled, ArePut, AreLong, AreSound, GiveBack, IsFilled, IsPutRefusal, IsReadable, ReadBack};
+ghost use Rattle.table_pieces.specs.Parcels.{AreFilled, IsFilled, IsReadable};
+ghost use Rattle.table_pieces.specs.Putting.{ArePut, AreLong, AreSound, GiveBack, IsPutRefusal, ReadBack};
 
 use crate::parcel::Parcel;
 use crate::refusal::BatchRefusal;
@@ -82,9 +83,11 @@ fn put_block<R: Threads + Sync, D: Depot>(
     requires table { IsTableOf shape.now table.now }
     requires there { first + length parcels.old ≤ pieces shape.now }
     requires numbers { first + length parcels.old < 2 ^ 32 }
-    ensures stored { OnOk result ((start : Stored) → ArePut shape.now table.now.rows first first start (D.held depot.old)
+    ensures stored { OnOk result ((start : Stored)
+        → ArePut shape.now table.now.rows first first start (D.held depot.old)
         → let next = first + length parcels.old in ArePut shape.now table.now.rows next next start (D.held depot.new)) }
-    ensures readable { OnOk result ((i : ℕ) → i < length parcels.old → IsReadable shape.now table.now.rows (first + i)) }
+    ensures readable { OnOk result ((i : ℕ) → i < length parcels.old
+        → IsReadable shape.now table.now.rows (first + i)) }
     ensures refused { IfErr result (λ r. (start : Stored)
         → ArePut shape.now table.now.rows first first start (D.held depot.old)
         → IsPutRefusal shape.now table.now.rows start (D.held depot.new) (D.faults depot.old) (D.faults depot.new) r) }

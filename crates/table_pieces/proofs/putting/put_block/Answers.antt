@@ -1,7 +1,7 @@
 use Rattle.std.proofs.Common.{◌≡◌, ◌∙◌, ◌+◌, arith, sym, subst}
 use Rattle.std.proofs.lemmas.Result.{IfOk-at_ok}
 use Rattle.coop_outside.specs.Pieces.{with_piece}
-use Rattle.table_pieces.specs.Putting.{IsFilled, IsMade, IsReadable}
+use Rattle.table_pieces.specs.Parcels.{IsFilled, IsMade, IsReadable}
 use Rattle.table_pieces.proofs.Below.{one_more}
 use Rattle.table_pieces.proofs.Storing.{put_more}
 use Rattle.table_pieces.proofs.putting.put_block.Goals as goal

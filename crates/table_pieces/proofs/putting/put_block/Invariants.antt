@@ -1,6 +1,7 @@
 use Rattle.std.proofs.Common.{◌≡◌, ◌<◌, ◌≤◌, ◌+◌, ℕ}
 use Rattle.coop_outside.specs.Pieces.{Stored}
-use Rattle.table_pieces.specs.Putting.{ArePut, IsReadable}
+use Rattle.table_pieces.specs.Parcels.{IsReadable}
+use Rattle.table_pieces.specs.Putting.{ArePut}
 use Rattle.table_pieces.proofs.putting.put_block.Given as goal
 
 abbrev pub invariant-loop-parcel : goal.invariant-loop-parcel

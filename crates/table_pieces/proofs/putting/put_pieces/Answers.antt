@@ -1,5 +1,6 @@
 use Rattle.std.proofs.Common.{◌≡◌, ◌∙◌, ◌+◌, ◌<◌, ℕ, length, take, arith, length-take, subst}
-use Rattle.table_pieces.specs.Putting.{ArePut, IsReadable}
+use Rattle.table_pieces.specs.Parcels.{IsReadable}
+use Rattle.table_pieces.specs.Putting.{ArePut}
 use Rattle.table_pieces.proofs.Below.{some_more}
 use Rattle.table_pieces.proofs.putting.put_pieces.Goals as goal
 

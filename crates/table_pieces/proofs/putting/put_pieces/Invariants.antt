@@ -1,5 +1,6 @@
 use Rattle.std.proofs.Common.{◌≡◌, ◌<◌, ◌≤◌, ◌-◌, ℕ}
-use Rattle.table_pieces.specs.Putting.{ArePut, IsReadable}
+use Rattle.table_pieces.specs.Parcels.{IsReadable}
+use Rattle.table_pieces.specs.Putting.{ArePut}
 use Rattle.table_pieces.proofs.putting.put_pieces.Given as goal
 
 abbrev pub invariant-loop-next : goal.invariant-loop-next
