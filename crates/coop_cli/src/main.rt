@@ -3,16 +3,12 @@
 //! output; the theorem is `run_boxed`'s.
 #![tactic(auto)]
 
-mod depot;
 mod ending;
-#[cfg(test)]
-mod tests;
 mod words;
 
 ghost use Rattle.std.specs.Prelude.{◌≤◌, ◌^◌};
 ghost use Rattle.coop_outside.specs.Either.{any_gets};
 
-use crate::depot::depot_of;
 use crate::ending::end;
 use crate::words::{behind_name, stop_of};
 use coop_outside::{AnyDepot, DiskShelf, StdoutSink};
@@ -21,6 +17,7 @@ use cscan::NoGate;
 use policy_box::Elevator;
 use policy_plain::{Attach, Normal};
 use relevance::{Policy, Relevance};
+use run_inputs::depot_of;
 use run_output::Stop;
 use std::alloc::AllocError;
 use std::hash::RandomState;
@@ -71,7 +68,7 @@ fn run_on<R: Threads + Wait + Sync>(
     let all = all_words(&rt).map_err(stop_of)?;
     let words = behind_name(&all);
     let keys = RandomState::new(&rt).map_err(stop_of)?;
-    let depot = depot_of(rt, words)?;
+    let depot = depot_of(rt.alloc(), rt, words)?;
     Ok(run_with_four(handle, rt, keys, words, depot, out)?)
 }
 

@@ -3,3 +3,4 @@ pub mod Sources
 pub mod Statements
 pub mod Order
 pub mod Ending
+pub mod Depots

@@ -8,6 +8,7 @@
 #![tactic(auto)]
 
 mod batch;
+mod depot;
 mod frames;
 mod inputs;
 mod limits;
@@ -15,6 +16,7 @@ mod reading;
 mod request;
 mod table;
 
+pub use depot::depot_of;
 pub use inputs::{Inputs, ReadTexts};
 pub use limits::{MOST_BATCH_BYTES, MOST_POOL_WORDS, MOST_SCANS, MOST_STATEMENTS};
 pub use reading::{inputs_again, inputs_of, one_batch, read_inputs};

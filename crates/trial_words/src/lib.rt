@@ -15,6 +15,8 @@ mod lines;
 #[cfg(test)]
 mod outputs;
 #[cfg(test)]
+mod scratch;
+#[cfg(test)]
 mod texts;
 #[cfg(test)]
 mod words;
