@@ -72,6 +72,29 @@ type Case = (
     &'static [&'static [Cell]],
 );
 
+// The first rows of two parts.
+fn merged(alloc: Global, plan: &RowPlan, rows: &[Row], more: &[Row]) -> Result<TopRows, Memory> {
+    let mut top = first_of(alloc, plan, rows)?;
+    match top.merge(first_of(alloc, plan, more)?) {
+        Ok(()) => Ok(top),
+        Err((_, memory)) => Err(memory),
+    }
+}
+
+// Whether the rows of two parts give the answer.
+fn give(
+    alloc: Global,
+    plan: &RowPlan,
+    rows: &[Row],
+    more: &[Row],
+    wanted: &[&[Cell]],
+) -> Result<bool, Memory> {
+    let top = merged(alloc, plan, rows, more)?;
+    let kept = top.kept();
+    let picked = top.finish()?;
+    Ok(kept == wanted.len() && are_rows(picked.as_slice(), wanted))
+}
+
 // Tests the answer, where the rows come in two parts, cut at each place.
 fn check_cut(
     rt: &impl Abort,
@@ -82,21 +105,16 @@ fn check_cut(
     wanted: &[&[Cell]],
 ) -> Result<(), Fail> {
     for cut in 0..rows.len() + 1 {
-        let mut top = first_of(alloc, plan, &rows[..cut])?;
-        let merged = top.merge(first_of(alloc, plan, &rows[cut..])?);
-        assert!(rt; merged.is_ok(), "{name}");
-        assert_eq!(rt; top.kept(), wanted.len(), "{name}");
-        let picked = top.finish()?;
-        assert!(rt; are_rows(picked.as_slice(), wanted), "{name}, cut at {cut}");
+        let give = give(alloc, plan, &rows[..cut], &rows[cut..], wanted)?;
+        assert!(rt; give, "{name}, cut at {cut}");
     }
     Ok(())
 }
 
 fn check(rt: &impl Abort, alloc: Global, case: &Case) -> Result<(), Fail> {
-    let (name, columns, order, limit, tables, wanted) = *case;
-    let plan = plan_of(alloc, columns, order, limit)?;
-    for rows in tables {
-        check_cut(rt, alloc, name, &plan, rows, wanted)?;
+    let plan = plan_of(alloc, case.1, case.2, case.3)?;
+    for rows in case.4 {
+        check_cut(rt, alloc, case.0, &plan, rows, case.5)?;
     }
     Ok(())
 }

@@ -1,11 +1,13 @@
-// What a trial asks of a row or of a plan before it calls what requires it.
+// What a trial asks of a row, of a block or of a plan before it calls what requires it.
 ghost use Rattle.std.specs.Prelude.{◌≡◌, ◌<◌, All};
 ghost use Rattle.std.specs.Bool.{OnTrue};
 ghost use Rattle.filter_zones.specs.Truth as truth;
+ghost use Rattle.filter_zones.specs.Truths.{FitsBlock};
 ghost use Rattle.agg_groups.specs.Running.{IsInRow};
 
 use agg_groups::Item;
 use filter_zones::{Bound, Cond};
+use row_blocks::Block;
 use table_core::Cell;
 
 pub(crate) fn fits_cell(cell: Cell, value: Bound) -> bool
@@ -33,6 +35,23 @@ pub(crate) fn fits_row(cond: &Cond, row: &[Cell]) -> bool
         Cond::And(a, b) | Cond::Or(a, b) => fits_row(a, row) && fits_row(b, row),
         Cond::Not(a) => fits_row(a, row),
     }
+}
+
+// Whether the condition fits each row of a block of three columns.
+pub(crate) fn fits_block(cond: &Cond, block: &Block) -> bool
+    ensures { OnTrue result (FitsBlock cond.now block.now) }
+{
+    if block.width() != 3 {
+        return false;
+    }
+    let mut row = [Cell::Null; 3];
+    for i in 0..block.len() {
+        block.row(i, &mut row);
+        if !fits_row(cond, &row) {
+            return false;
+        }
+    }
+    true
 }
 
 fn is_in(item: Item, width: usize) -> bool

@@ -4,6 +4,8 @@
 #![tactic(auto)]
 
 #[cfg(test)]
+mod line;
+#[cfg(test)]
 mod texts;
 #[cfg(test)]
 mod tokens;

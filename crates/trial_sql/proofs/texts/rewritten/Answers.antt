@@ -1,4 +1,4 @@
 use Rattle.trial_sql.proofs.texts.rewritten.Goals as goal
 
 pub write_query-requires : goal.write_query-requires
-write_query-requires g c = (c.args.text.now, c.in_ok-query.ensures.found)
+write_query-requires g c = (c.args.text.now, c.in-Ok.ensures.found)

@@ -7,7 +7,7 @@ use std::alloc::Global;
 use std::process::Abort;
 use std::test::Fail;
 use table_core::{Cell, Memory};
-use top_rows::{Order, RowPlan, TopRows};
+use top_rows::{Order, Picked, RowPlan, TopRows};
 
 const NUMBER_UP: Order = Order {
     column: 0,
@@ -89,20 +89,47 @@ fn add_each(
     Ok(())
 }
 
-// The first rows of all blocks, each added at once, and again one row after another.
-fn check(rt: &impl Abort, alloc: Global, order: &[Order], limit: u32) -> Result<(), Fail> {
-    let mut at_once = none_of(alloc, order, limit)?;
-    let mut each = none_of(alloc, order, limit)?;
+fn add_blocks(rt: &impl Abort, top: &mut TopRows) -> Result<(), Memory> {
+    for (seed, first, count, chosen) in BLOCKS {
+        let block = drawn_block(rt, seed, count);
+        top.add_block(first, &block, chosen)?;
+    }
+    Ok(())
+}
+
+fn add_rows(rt: &impl Abort, top: &mut TopRows) -> Result<(), Memory> {
     for (seed, first, count, chosen) in BLOCKS {
         assert!(rt; first < 1000);
         let block = drawn_block(rt, seed, count);
-        at_once.add_block(first, &block, chosen)?;
-        add_each(rt, &mut each, first, &block, chosen)?;
+        add_each(rt, top, first, &block, chosen)?;
     }
-    let (found, wanted) = (at_once.finish()?, each.finish()?);
-    assert!(rt; wanted.as_slice().len() == limit.min(98) as usize);
+    Ok(())
+}
+
+// The first rows of all blocks, each block added at once.
+fn by_blocks(
+    rt: &impl Abort,
+    alloc: Global,
+    order: &[Order],
+    limit: u32,
+) -> Result<Picked, Memory> {
+    let mut top = none_of(alloc, order, limit)?;
+    add_blocks(rt, &mut top)?;
+    top.finish()
+}
+
+// The first rows of all blocks, added one row after another.
+fn by_rows(rt: &impl Abort, alloc: Global, order: &[Order], limit: u32) -> Result<Picked, Memory> {
+    let mut top = none_of(alloc, order, limit)?;
+    add_rows(rt, &mut top)?;
+    top.finish()
+}
+
+fn check(rt: &impl Abort, alloc: Global, order: &[Order], limit: u32) -> Result<(), Fail> {
+    let found = by_blocks(rt, alloc, order, limit)?;
+    let wanted = by_rows(rt, alloc, order, limit)?;
     assert!(rt;
-        found.as_slice() == wanted.as_slice(),
+        wanted.as_slice().len() == limit.min(98) as usize && found.as_slice() == wanted.as_slice(),
         "{order:?} limit {limit}"
     );
     Ok(())

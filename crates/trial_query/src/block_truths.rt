@@ -47,26 +47,34 @@ const DRAWN: [(u64, u32, u32); 12] = [
     (22, 64, 100),
 ];
 
-// The truths of the condition over the block are those that a visit of each row gives, and no other bit is set.
-fn check(rt: &impl Abort, cond: &Cond, block: &Block) {
+// Whether the condition is true, or unknown, of the row as is said.
+fn agrees(cond: &Cond, row: &[Cell; 3], is_true: bool, is_unknown: bool) -> bool {
+    if !fits_row(cond, row) {
+        return false;
+    }
+    let truth = truth_of(cond, row);
+    is_true == (truth == Truth::True) && is_unknown == (truth == Truth::Unknown)
+}
+
+// The bits of the rows of which the condition is true, and of those of which it is unknown.
+fn bits(rt: &impl Abort, cond: &Cond, block: &Block) -> (u64, u64) {
     assert!(rt; fits_block(cond, block));
     let truths = truths_of(cond, block);
+    (truths.yes, truths.unknown)
+}
+
+// The truths of the condition over the block are those that a visit of each row gives, and no other bit is set.
+fn check(rt: &impl Abort, cond: &Cond, block: &Block) {
+    let (yes, unknown) = bits(rt, cond, block);
     assert!(rt;
-        (truths.yes | truths.unknown) & !block.every() == 0,
+        block.width() == 3 && (yes | unknown) & !block.every() == 0,
         "{cond:?}"
     );
     let mut row = [Cell::Null; 3];
-    assert!(rt; block.width() == 3);
     for i in 0..block.len() {
         block.row(i, &mut row);
-        assert!(rt; fits_row(cond, &row));
-        let wanted = truth_of(cond, &row);
         assert!(rt;
-            (truths.yes >> i & 1 == 1) == (wanted == Truth::True),
-            "{cond:?} {row:?}"
-        );
-        assert!(rt;
-            (truths.unknown >> i & 1 == 1) == (wanted == Truth::Unknown),
+            agrees(cond, &row, yes >> i & 1 == 1, unknown >> i & 1 == 1),
             "{cond:?} {row:?}"
         );
     }
@@ -90,48 +98,30 @@ fn compare(op: Op, place: usize) -> Cond {
     Cond::Compare { column, op, value }
 }
 
-// The comparison with a value, and some conditions that it is a part of.
-fn check_value(
-    rt: &impl Abort,
-    alloc: Global,
-    op: Op,
-    place: usize,
-    block: &Block,
-) -> Result<(), Fail> {
+// The comparison with a value, and three conditions that it is a part of.
+fn cond_with(alloc: Global, op: Op, place: usize, which: usize) -> Result<Cond, AllocError> {
+    let value = compare(op, place);
     let is_null = Cond::IsNull {
         column: 0,
         negated: place % 2 == 1,
     };
-    check(rt, &compare(op, place), block);
-    check(
-        rt,
-        &both(
+    match which {
+        0 => Ok(value),
+        1 => both(alloc, value, compare(Op::Ge, place % 16 * 5 + 3)),
+        2 => either(
             alloc,
-            compare(op, place),
-            compare(Op::Ge, place % 16 * 5 + 3),
-        )?,
-        block,
-    );
-    check(
-        rt,
-        &either(
-            alloc,
-            not(alloc, compare(op, place))?,
+            not(alloc, value)?,
             compare(Op::Lt, place % 16 * 3 + 9),
-        )?,
-        block,
-    );
-    check(
-        rt,
-        &not(alloc, either(alloc, is_null, compare(op, place))?)?,
-        block,
-    );
-    Ok(())
+        ),
+        _ => not(alloc, either(alloc, is_null, value)?),
+    }
 }
 
+// Each comparison with each value, and what it is a part of.
 fn check_block(rt: &impl Abort, alloc: Global, block: &Block) -> Result<(), Fail> {
-    for place in 0..96_usize {
-        check_value(rt, alloc, OPS[place / 16], place % 16, block)?;
+    for n in 0..384_usize {
+        let cond = cond_with(alloc, OPS[n / 64], n / 4 % 16, n % 4)?;
+        check(rt, &cond, block);
     }
     Ok(())
 }
@@ -164,19 +154,23 @@ fn drawn_leaf(state: u64) -> Cond {
     compare(OPS[(state >> 36) as usize % 6], (state >> 42) as usize)
 }
 
+// A condition with a leaf more.
+fn joined(alloc: Global, draw: u64, cond: Cond, leaf: Cond) -> Result<Cond, AllocError> {
+    match draw % 4 {
+        0 => both(alloc, cond, leaf),
+        1 => either(alloc, cond, leaf),
+        2 => both(alloc, leaf, not(alloc, cond)?),
+        _ => either(alloc, not(alloc, leaf)?, cond),
+    }
+}
+
 // So many leaves, joined by AND, OR and NOT.
 fn drawn_cond(alloc: Global, seed: u64, leaves: u32) -> Result<Cond, AllocError> {
     let mut state = next(seed);
     let mut cond = drawn_leaf(state);
     for _ in 1..leaves {
         state = next(state);
-        let leaf = drawn_leaf(state);
-        cond = match (state >> 48) % 4 {
-            0 => both(alloc, cond, leaf)?,
-            1 => either(alloc, cond, leaf)?,
-            2 => both(alloc, leaf, not(alloc, cond)?)?,
-            _ => either(alloc, not(alloc, leaf)?, cond)?,
-        };
+        cond = joined(alloc, state >> 48, cond, drawn_leaf(state))?;
     }
     Ok(cond)
 }
