@@ -23,19 +23,35 @@ fn lane(holds: Holds, words: [u64; 3], nulls: u64) -> Lane {
     lane
 }
 
-#[test]
-fn a_block_gives_its_rows_back(rt: HostRuntime) {
+// The block of those rows.
+fn block_of_three() -> Block {
     let mut block = Block::new();
     block.begin(3, 3);
     block.put(0, &lane(Holds::Numbers, NUMBERS, 4));
     block.put(1, &lane(Holds::Codes, [7, 8, 4294967295], 2));
+    block
+}
+
+// Whether the block gives just those rows.
+fn has_rows(block: &Block) -> bool {
+    if (block.len(), block.width()) != (3, 3) {
+        return false;
+    }
     let mut row = [Cell::Int(9); 3];
     for i in 0..3_u32 {
         block.row(i, &mut row);
-        assert!(rt; row == ROWS[i as usize], "{row:?}");
+        if row != ROWS[i as usize] {
+            return false;
+        }
     }
-    assert!(rt; block.lane(0).cell(2) == Cell::Null);
+    true
+}
+
+#[test]
+fn a_block_gives_its_rows_back(rt: HostRuntime) {
+    let block = block_of_three();
     assert!(rt; (block.len(), block.width(), block.every()) == (3, 3, 7));
+    assert!(rt; has_rows(&block) && block.lane(0).cell(2) == Cell::Null);
 }
 
 // The word of so many rows.

@@ -9,7 +9,7 @@ use piece_format::{Layout, Shape};
 use std::alloc::{AllocError, Global};
 use std::process::Abort;
 use std::test::Fail;
-use table_core::{Bytes, Cell, Cells, Codes, Column, Dict, Kind, Numbers, Schema, Table};
+use table_core::{Bytes, Cell, Cells, Codes, Column, Dict, Kind, Memory, Numbers, Schema, Table};
 use table_pieces::shape_of;
 
 pub(crate) const KINDS: [Kind; 3] = [Kind::Int, Kind::Text, Kind::Int];
@@ -109,13 +109,8 @@ fn columns_of(alloc: Global, kinds: &[Kind], cells: &[Cell]) -> Result<Vec<Cells
     Ok(columns)
 }
 
-// The table of these kinds, of cells that stand row by row.
-pub(crate) fn table_of(
-    rt: &impl Abort,
-    alloc: Global,
-    kinds: &[Kind],
-    cells: &[Cell],
-) -> Result<Table, AllocError> {
+// The columns of these kinds, without names.
+fn nameless(alloc: Global, kinds: &[Kind]) -> Result<Vec<Column>, AllocError> {
     let mut columns = Vec::new(alloc);
     for kind in kinds {
         columns.push(Column {
@@ -123,6 +118,17 @@ pub(crate) fn table_of(
             kind: *kind,
         })?;
     }
+    Ok(columns)
+}
+
+// The table of these kinds, of cells that stand row by row.
+pub(crate) fn table_of(
+    rt: &impl Abort,
+    alloc: Global,
+    kinds: &[Kind],
+    cells: &[Cell],
+) -> Result<Table, AllocError> {
+    let columns = nameless(alloc, kinds)?;
     let rows = cells.len().checked_div(kinds.len()).unwrap_or(0);
     let cells = columns_of(alloc, kinds, cells)?;
     assert!(rt; are_columns(columns.len(), rows, cells.as_slice()));
@@ -155,6 +161,23 @@ pub(crate) struct Example {
     pub shape: Shape,
 }
 
+// The shape of a table that has one.
+fn shaped(
+    rt: &impl Abort,
+    alloc: Global,
+    table: &Table,
+    dicts: &[Dict],
+    layout: Layout,
+    per: u32,
+) -> Result<Shape, Memory>
+    ensures shape { IfOk result (λ s. IsShape s) }
+    ensures table { IfOk result (λ s. IsTableOf s table.now) }
+{
+    assert!(rt; has_shape(table, dicts, layout, per));
+    assert!(rt; fits_dicts(table, dicts));
+    shape_of(alloc, table, dicts, layout, per)
+}
+
 // The table of these kinds, counts of texts and cells, cut.
 pub(crate) fn cut_of(
     rt: &impl Abort,
@@ -170,9 +193,7 @@ pub(crate) fn cut_of(
 {
     let table = table_of(rt, alloc, kinds, cells)?;
     let dicts = dicts_of(rt, alloc, counts)?;
-    assert!(rt; has_shape(&table, dicts.as_slice(), layout, per));
-    assert!(rt; fits_dicts(&table, dicts.as_slice()));
-    let shape = shape_of(alloc, &table, dicts.as_slice(), layout, per)?;
+    let shape = shaped(rt, alloc, &table, dicts.as_slice(), layout, per)?;
     Ok(Example { table, shape })
 }
 
@@ -188,4 +209,19 @@ pub(crate) fn cut(
     ensures table { IfOk result (λ c. IsTableOf c.shape c.table) }
 {
     cut_of(rt, alloc, &KINDS, &COUNTS, cells, layout, per)
+}
+
+// The table of a column of 70 numbers, cut.
+pub(crate) fn cut_seventy(
+    rt: &impl Abort,
+    alloc: Global,
+    kind: Kind,
+    layout: Layout,
+    per: u32,
+) -> Result<Example, Fail>
+    ensures shape { IfOk result (λ c. IsShape c.shape) }
+    ensures table { IfOk result (λ c. IsTableOf c.shape c.table) }
+{
+    let cells = seventy(alloc, false)?;
+    cut_of(rt, alloc, &[kind], &[0], cells.as_slice(), layout, per)
 }

@@ -4,7 +4,7 @@ ghost use Rattle.piece_format.specs.Cells.{IsTableOf};
 ghost use Rattle.piece_format.specs.Shape.{IsShape};
 
 use crate::asked::is_shape;
-use crate::example::{CELLS, Example, KINDS, MINUS_5, cut, cut_of, seventy};
+use crate::example::{CELLS, Example, KINDS, MINUS_5, cut, cut_seventy};
 use piece_format::{
     Damage, Layout, Shape, check, encode, frame_words, groups, piece_of, piece_words, word_at,
     words_to_bytes,
@@ -108,25 +108,28 @@ fn give_back(bytes: &[u8], words: &[u64]) -> bool {
     true
 }
 
-fn expect_bytes(rt: &impl Abort, alloc: Global, rows: &[Written<'_>]) -> Result<(), Fail> {
-    for (words, wanted) in rows {
-        let bytes = words_to_bytes(alloc, words)?;
-        let bytes = bytes.as_slice();
-        assert!(rt; bytes == *wanted && give_back(bytes, words), "{words:?}");
+// Whether the words have these bytes, which give them back.
+fn are_written(alloc: Global, (words, wanted): Written<'_>) -> bool {
+    match words_to_bytes(alloc, words) {
+        Ok(bytes) => bytes.as_slice() == wanted && give_back(wanted, words),
+        Err(_) => false,
     }
-    Ok(())
+}
+
+fn expect_bytes(rt: &impl Abort, alloc: Global, rows: &[Written<'_>]) {
+    for row in rows {
+        assert!(rt; are_written(alloc, *row), "{:?}", row.0);
+    }
 }
 
 #[test]
-fn words_as_bytes(rt: HostRuntime) -> Result<(), Fail> {
-    expect_bytes(&rt, rt.alloc(), BYTES)
+fn words_as_bytes(rt: HostRuntime) {
+    expect_bytes(&rt, rt.alloc(), BYTES);
 }
 
 // The words of a column of 70 rows.
 fn words_of_seventy(rt: &impl Abort, alloc: Global) -> Result<Vec<u64>, Fail> {
-    let cells = seventy(alloc, false)?;
-    let cells = cells.as_slice();
-    let cut = cut_of(rt, alloc, &[Kind::Int], &[0], cells, Layout::Column, 100)?;
+    let cut = cut_seventy(rt, alloc, Kind::Int, Layout::Column, 100)?;
     words_of(rt, alloc, &cut, 0)
 }
 

@@ -1,9 +1,12 @@
 // The pieces of a table in a depot.
-use crate::example::{CELLS, MINUS_5, cut, cut_of, seventy};
+ghost use Rattle.piece_format.specs.Cells.{IsTableOf};
+ghost use Rattle.piece_format.specs.Shape.{IsShape};
+
+use crate::example::{CELLS, Example, MINUS_5, cut, cut_seventy};
 use crate::full_depot::FullDepot;
 use coop_outside::{Depot, MemDepot};
 use piece_format::Layout;
-use std::alloc::Global;
+use std::alloc::{AllocError, Global};
 use std::process::Abort;
 use std::test::Fail;
 use std::thread::Threads;
@@ -81,19 +84,51 @@ fn is_left(depot: &MemDepot, case: &Case<'_>) -> bool {
         && holds_first(depot, pieces(case.layout), case.held)
 }
 
+// Puts the pieces of a table that is cut.
+fn put<R: Threads + Sync, D: Depot>(
+    rt: &R,
+    alloc: Global,
+    cut: &Example,
+    depot: &mut D,
+    most_threads: u32,
+) -> Result<(), BatchRefusal>
+    requires shape { IsShape cut.now.shape }
+    requires table { IsTableOf cut.now.shape cut.now.table }
+{
+    put_pieces(rt, alloc, &cut.shape, &cut.table, depot, most_threads)
+}
+
+// Puts the pieces of these cells, two rows in a chunk.
+fn put_cells<R: Abort + Threads + Sync, D: Depot>(
+    rt: &R,
+    alloc: Global,
+    cells: &[Cell],
+    layout: Layout,
+    depot: &mut D,
+    most_threads: u32,
+) -> Result<Result<(), BatchRefusal>, Fail> {
+    let cut = cut(rt, alloc, cells, layout, 2)?;
+    Ok(put(rt, alloc, &cut, depot, most_threads))
+}
+
+// A depot of which one put fails.
+fn depot_of(alloc: Global, fails: u64) -> Result<MemDepot, AllocError> {
+    let mut depot = MemDepot::new(alloc);
+    depot.fail_puts.push(fails)?;
+    Ok(depot)
+}
+
 // Whether the puts come to what the case says.
 fn puts<R: Abort + Threads + Sync>(rt: &R, alloc: Global, case: &Case<'_>) -> Result<bool, Fail> {
-    let cut = cut(rt, alloc, case.cells, case.layout, 2)?;
-    let mut depot = MemDepot::new(alloc);
-    depot.fail_puts.push(case.fails)?;
-    let answer = put_pieces(
+    let mut depot = depot_of(alloc, case.fails)?;
+    let answer = put_cells(
         rt,
         alloc,
-        &cut.shape,
-        &cut.table,
+        case.cells,
+        case.layout,
         &mut depot,
         case.most_threads,
-    );
+    )?;
     Ok(answer == case.answer && is_left(&depot, case))
 }
 
@@ -223,11 +258,9 @@ fn seventy_put<R: Abort + Threads + Sync>(
     layout: Layout,
     most_threads: u32,
 ) -> Result<MemDepot, Fail> {
-    let cells = seventy(alloc, false)?;
-    let cut = cut_of(rt, alloc, &[Kind::Int], &[0], cells.as_slice(), layout, 1)?;
+    let cut = cut_seventy(rt, alloc, Kind::Int, layout, 1)?;
     let mut depot = MemDepot::new(alloc);
-    let put = put_pieces(rt, alloc, &cut.shape, &cut.table, &mut depot, most_threads);
-    assert!(rt; put == Ok(()), "{most_threads}");
+    assert!(rt; put(rt, alloc, &cut, &mut depot, most_threads).is_ok());
     Ok(depot)
 }
 
@@ -283,13 +316,12 @@ fn put_in_room<R: Abort + Threads + Sync>(
     room: u32,
     most_threads: u32,
 ) -> Result<(Result<(), BatchRefusal>, u64), Fail> {
-    let cut = cut(rt, alloc, &CELLS, Layout::Column, 2)?;
     let mut depot = FullDepot {
         room,
         gets: 0,
         faults: 0,
     };
-    let put = put_pieces(rt, alloc, &cut.shape, &cut.table, &mut depot, most_threads);
+    let put = put_cells(rt, alloc, &CELLS, Layout::Column, &mut depot, most_threads)?;
     Ok((put, depot.faults()))
 }
 

@@ -5,7 +5,7 @@ ghost use Rattle.piece_format.specs.Cells.{IsTableOf};
 ghost use Rattle.piece_format.specs.Reading.{HasColumn};
 ghost use Rattle.piece_format.specs.Shape.{IsPieceOf, IsShape, words_in};
 
-use crate::example::{CELLS, Example, MINUS_5, cut, cut_of, seventy};
+use crate::example::{CELLS, Example, MINUS_5, cut, cut_seventy};
 use crate::pieces::{checked, words_of};
 use piece_format::{Layout, Piece, Shape, cell_of, groups, piece_words, word_at, words_to_bytes};
 use std::alloc::Global;
@@ -141,8 +141,7 @@ fn pieces_give_back_their_cells(rt: HostRuntime) -> Result<(), Fail> {
 const DEC: Kind = Kind::Dec { places: 2 };
 
 fn read_seventy_back(rt: &impl Abort, alloc: Global, layout: Layout) -> Result<(), Fail> {
-    let cells = seventy(alloc, false)?;
-    let cut = cut_of(rt, alloc, &[DEC], &[0], cells.as_slice(), layout, 70)?;
+    let cut = cut_seventy(rt, alloc, DEC, layout, 70)?;
     read_back(rt, alloc, &cut, 0)
 }
 

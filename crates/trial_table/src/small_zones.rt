@@ -1,7 +1,7 @@
 // Every row of small zones: the truths that are possible are those that some row has.
 use crate::conds::{NULLS, OPS, both, chunk_of, compare, either, expect, not, set_of, truth};
 use filter_zones::{Bound, Cond, Truth, TruthSet, Zone};
-use std::alloc::Global;
+use std::alloc::{AllocError, Global};
 use std::process::Abort;
 use std::test::Fail;
 use table_core::{Cell, Op};
@@ -118,12 +118,19 @@ fn expect_of_rows(rt: &impl Abort, cond: &Cond) {
     }
 }
 
-// Two parts joined by AND and by OR, of which one is negated.
+// Two parts joined by AND, of which the second is negated.
+fn and_of(alloc: Global, first: usize, second: usize) -> Result<Cond, AllocError> {
+    both(alloc, leaf(0, first), not(alloc, leaf(1, second))?)
+}
+
+// Two parts joined by OR, of which the first is negated.
+fn or_of(alloc: Global, first: usize, second: usize) -> Result<Cond, AllocError> {
+    either(alloc, not(alloc, leaf(0, first))?, leaf(1, second))
+}
+
 fn expect_parts(rt: &impl Abort, alloc: Global, first: usize, second: usize) -> Result<(), Fail> {
-    let and = both(alloc, leaf(0, first), not(alloc, leaf(1, second))?)?;
-    expect_of_rows(rt, &and);
-    let or = either(alloc, not(alloc, leaf(0, first))?, leaf(1, second))?;
-    expect_of_rows(rt, &or);
+    expect_of_rows(rt, &and_of(alloc, first, second)?);
+    expect_of_rows(rt, &or_of(alloc, first, second)?);
     Ok(())
 }
 

@@ -1,7 +1,6 @@
 // Three truths: AND gives the least of two, OR the greatest, and NOT the opposite.
 use crate::conds::{both, compare, either, not, truth};
 use filter_zones::{Cond, Truth};
-use std::alloc::Global;
 use std::process::Abort;
 use std::test::Fail;
 use table_core::{Cell, Op};
@@ -28,15 +27,12 @@ const JOINED: &[Joined] = &[
     (YES, YES, Truth::True, Truth::True),
 ];
 
-fn expect_joined(rt: &impl Abort, alloc: Global, rows: &[Joined]) -> Result<(), Fail> {
-    let and = both(alloc, compare(0, Op::Eq, 1), compare(1, Op::Eq, 1))?;
-    let or = either(alloc, compare(0, Op::Eq, 1), compare(1, Op::Eq, 1))?;
+fn expect_joined(rt: &impl Abort, and: &Cond, or: &Cond, rows: &[Joined]) {
     for (a, b, of_and, of_or) in rows {
         let row = [*a, *b];
-        assert!(rt; truth(rt, &and, &row) == *of_and, "{row:?}");
-        assert!(rt; truth(rt, &or, &row) == *of_or, "{row:?}");
+        let truths = (truth(rt, and, &row), truth(rt, or, &row));
+        assert!(rt; truths == (*of_and, *of_or), "{row:?}");
     }
-    Ok(())
 }
 
 // A cell, and how true the condition is of it.
@@ -55,10 +51,18 @@ const NOT_ONE: &[Judged] = &[
 ];
 
 #[test]
-fn and_or_and_not_have_three_truths(rt: HostRuntime) -> Result<(), Fail> {
+fn not_has_three_truths(rt: HostRuntime) -> Result<(), Fail> {
     let turned = not(rt.alloc(), compare(0, Op::Eq, 1))?;
     expect_truths(&rt, &turned, NOT_ONE);
-    expect_joined(&rt, rt.alloc(), JOINED)
+    Ok(())
+}
+
+#[test]
+fn and_and_or_have_three_truths(rt: HostRuntime) -> Result<(), Fail> {
+    let and = both(rt.alloc(), compare(0, Op::Eq, 1), compare(1, Op::Eq, 1))?;
+    let or = either(rt.alloc(), compare(0, Op::Eq, 1), compare(1, Op::Eq, 1))?;
+    expect_joined(&rt, &and, &or, JOINED);
+    Ok(())
 }
 
 const NOT_ABOVE_15: &[Judged] = &[

@@ -234,27 +234,39 @@ fn a_condition_skips_the_chunks_that_it_cannot_match(rt: HostRuntime) -> Result<
     Ok(())
 }
 
-// No truth of a comparison, of its negation and of an AND is possible in the chunk.
-fn expect_none(rt: &impl Abort, alloc: Global, chunk: &ChunkZones, op: Op) -> Result<(), Fail> {
-    let none = set_of(b'N', false);
+// A comparison of a column and a test of another for a value, joined by AND.
+fn with_there(alloc: Global, op: Op) -> Result<Cond, AllocError> {
     let there = Cond::IsNull {
         column: 1,
         negated: true,
     };
-    let turned = not(alloc, compare(0, op, 1))?;
-    let and = both(alloc, compare(0, op, 1), there)?;
+    both(alloc, compare(0, op, 1), there)
+}
+
+// No truth of a comparison, of its negation and of an AND is possible in the chunk.
+fn expect_none(rt: &impl Abort, alloc: Global, chunk: &ChunkZones, op: Op) -> Result<(), Fail> {
+    let none = set_of(b'N', false);
     expect(rt, &compare(0, op, 1), chunk, none);
-    expect(rt, &turned, chunk, none);
-    expect(rt, &and, chunk, none);
+    expect(rt, &not(alloc, compare(0, op, 1))?, chunk, none);
+    expect(rt, &with_there(alloc, op)?, chunk, none);
     Ok(())
+}
+
+// The zones of no rows, which are nothing in each column.
+fn empty_chunk(rt: &impl Abort, alloc: Global) -> Result<ChunkZones, AllocError> {
+    let table = table_of(rt, alloc, &KINDS, &CELLS)?;
+    Ok(zones_between(rt, &table, 2, 2))
+}
+
+fn is_empty(chunk: &ChunkZones) -> bool {
+    let zones = [NOTHING; 16];
+    *chunk == ChunkZones { zones }
 }
 
 #[test]
 fn an_empty_chunk_has_no_truth(rt: HostRuntime) -> Result<(), Fail> {
-    let table = table_of(&rt, rt.alloc(), &KINDS, &CELLS)?;
-    let chunk = zones_between(&rt, &table, 2, 2);
-    let zones = [NOTHING; 16];
-    assert!(rt; chunk == ChunkZones { zones });
+    let chunk = empty_chunk(&rt, rt.alloc())?;
+    assert!(rt; is_empty(&chunk));
     for op in OPS {
         expect_none(&rt, rt.alloc(), &chunk, op)?;
     }
