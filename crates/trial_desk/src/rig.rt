@@ -49,7 +49,7 @@ fn has_room(s: &Setting) -> bool
     requires groups { s.now.groups ≤ 16 }
     ensures { IsTrue result → HasRoom s.now }
 {
-    s.frames as u64 >= frames_needed(s.workers, s.groups)
+    frames_needed(s.workers, s.groups) <= s.frames as u64
 }
 
 impl<S: Origin, P: Policy> Rig<S, P> {
