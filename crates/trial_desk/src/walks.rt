@@ -25,21 +25,11 @@ pub struct Walked {
     pub depot: SpoiltDepot,
 }
 
-// The first query of the worker that wasn't registered yet.
-fn next_of<S: Origin, P: Policy>(s: &Setting, rig: &Rig<S, P>, w: u32) -> Option<u32> {
-    for n in s.needs.iter() {
-        if n.worker == w && rig.is_waiting(n.query) {
-            return Some(n.query);
-        }
-    }
-    None
-}
-
-// Registers it.
+// Registers the first query of the worker that wasn't yet.
 fn register_next<S: Origin, P: Policy>(s: &Setting, rig: &mut Rig<S, P>, w: u32) -> Option<Said>
     requires { s.now.needs ≡ S.origin.setting.needs }
 {
-    match next_of(s, rig, w) {
+    match rig.next_on(s, w) {
         Some(query) => rig.register(s, w, query),
         None => None,
     }
