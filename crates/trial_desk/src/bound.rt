@@ -1,38 +1,39 @@
 //! The Read bound, computed by the judge.
+ghost use Rattle.std.specs.Prelude.{◌<◌, length};
 ghost use Rattle.story_views.specs.Small.{IsSmall};
 
 use scan_story::{Entry, Setting};
-use std::alloc::Global;
-use std::process::Abort;
-use std::test::Fail;
+use std::alloc::{AllocError, Global};
 use story_views::underway;
 use trial_stories::paid_by;
 
-/// After each entry the loads so far are paid for.
-pub fn expect_bound<R: Abort>(
-    rt: &R,
-    alloc: Global,
-    s: &Setting,
-    story: &[Entry],
-) -> Result<(), Fail>
+/// Whether the last entry ends a load.
+fn ends_load(alloc: Global, s: &Setting, after: &[Entry]) -> Result<bool, AllocError>
+    requires { IsSmall s.now }
+{
+    match after {
+        [.., Entry::Filled { .. }] => Ok(underway(alloc, s, after)?.is_none()),
+        _ => Ok(false),
+    }
+}
+
+/// Whether after each entry the loads so far are paid for.
+pub fn is_paid(alloc: Global, s: &Setting, story: &[Entry]) -> Result<bool, AllocError>
     requires { IsSmall s.now }
 {
     let mut loads: u64 = 0;
     let mut deliveries: u64 = 0;
     for i in 0..story.len() {
         let after = &story[..=i];
-        match story[i] {
-            Entry::Deliver { .. } => deliveries = deliveries.saturating_add(1),
-            Entry::Filled { .. } => {
-                let load = underway(alloc, s, after)?;
-                if load.is_none() {
-                    loads = loads.saturating_add(1);
-                }
-            }
-            _ => {}
+        if matches!(story[i], Entry::Deliver { .. }) {
+            deliveries = deliveries.saturating_add(1);
         }
-        let paid = paid_by(s, after, deliveries);
-        assert!(rt; loads <= paid, "{loads} loads, paid {paid}");
+        if ends_load(alloc, s, after)? {
+            loads = loads.saturating_add(1);
+        }
+        if loads > paid_by(s, after, deliveries) {
+            return Ok(false);
+        }
     }
-    Ok(())
+    Ok(true)
 }

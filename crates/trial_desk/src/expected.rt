@@ -7,7 +7,7 @@ ghost use Rattle.story_views.specs.Small.{IsSmall};
 use crate::said::Said;
 use abm_policy::{Cause, Slots, Why};
 use scan_story::{Entry, Load, Setting};
-use std::alloc::Global;
+use std::alloc::{AllocError, Global};
 use std::process::Abort;
 use std::test::Fail;
 use story_views::{
@@ -16,7 +16,7 @@ use story_views::{
 };
 
 /// The rows of the table of turns.
-#[derive(Clone, Copy, Debug, PartialEq, Eq)]
+#[derive(Clone, Copy, PartialEq, Eq)]
 enum Row {
     Stopped,
     Finished,
@@ -37,7 +37,7 @@ fn has_ready(s: &Setting, before: &[Entry], q: u32) -> bool
 }
 
 /// The first row that fits.
-fn first_row(alloc: Global, s: &Setting, before: &[Entry], q: u32) -> Result<Row, Fail>
+fn first_row(alloc: Global, s: &Setting, before: &[Entry], q: u32) -> Result<Row, AllocError>
     requires { IsSmall s.now }
 {
     if is_stopped(before, q) {
@@ -91,219 +91,276 @@ fn first_free(s: &Setting, entries: &[Entry], load: &Option<Load>) -> Option<u32
     None
 }
 
-/// The entry stands at the place.
-fn expect_entry<R: Abort>(rt: &R, story: &[Entry], at: usize, entry: Entry) -> usize {
-    assert!(rt; at < story.len(), "{entry:?} is missing");
-    assert_eq!(rt; story[at], entry, "entry {at}");
-    at + 1
+/// The query that a turn was for, and the row of its answer; `None` where the call was no turn.
+fn row_of(said: &Said) -> Option<(u32, Row)> {
+    match said {
+        Said::Took { query, .. } => Some((*query, Row::Take)),
+        Said::Loads { query, .. } => Some((*query, Row::Load)),
+        Said::NotYet { query, .. } => Some((*query, Row::NotYet)),
+        Said::Finished { query, .. } => Some((*query, Row::Finished)),
+        Said::Stopped { query, .. } => Some((*query, Row::Stopped)),
+        _ => None,
+    }
 }
 
-/// The slots are the frames of the pieces that the query reads of the chunk, by rising piece.
-fn expect_slots<R: Abort>(rt: &R, s: &Setting, before: &[Entry], q: u32, c: u32, slots: &Slots)
+/// Whether a turn's answer is of the first row that fits.
+fn is_first_row(
+    alloc: Global,
+    s: &Setting,
+    before: &[Entry],
+    said: &Said,
+) -> Result<bool, AllocError>
+    requires { IsSmall s.now }
+{
+    match row_of(said) {
+        Some((query, row)) => Ok(first_row(alloc, s, before, query)? == row),
+        None => Ok(true),
+    }
+}
+
+/// Whether the slot at the place is the frame of this piece.
+fn is_slot(s: &Setting, before: &[Entry], slots: &Slots, i: u32, piece: u64) -> bool
+    requires { IsSmall s.now }
+{
+    if i >= slots.len() {
+        return false;
+    }
+    let (frame, found) = slots.at(i);
+    found as u64 == piece && piece_in(s, before, frame) == Some(found)
+}
+
+/// Whether the slots are the frames of the pieces that the query reads of the chunk, by rising piece.
+fn are_slots(s: &Setting, before: &[Entry], q: u32, c: u32, slots: &Slots) -> bool
     requires { IsSmall s.now }
 {
     let mut i: u32 = 0;
     for g in 0..s.groups {
         if reads_group(s, q, g) {
-            assert!(rt; i < slots.len(), "group {g} is missing");
-            let (frame, piece) = slots.at(i);
-            assert_eq!(rt; piece as u64, piece_at(s, c, g));
-            assert_eq!(rt; piece_in(s, before, frame), Some(piece), "frame {frame}");
-            i += 1;
+            if !is_slot(s, before, slots, i, piece_at(s, c, g)) {
+                return false;
+            }
+            i = i.saturating_add(1);
         }
     }
-    assert_eq!(rt; i, slots.len());
+    i == slots.len()
 }
 
-/// A Plan, then Evicts, then a Fill for each slot, by rising piece, into the free frame of least number.
-fn expect_load<R: Abort>(
-    rt: &R,
+/// Whether the slots and the cause of an answer are those that the story makes.
+fn is_made(s: &Setting, before: &[Entry], said: &Said) -> bool
+    requires { IsSmall s.now }
+{
+    match said {
+        Said::Took {
+            query,
+            chunk,
+            slots,
+            ..
+        } => are_slots(s, before, *query, *chunk, slots),
+        Said::Loads {
+            trigger,
+            chunk,
+            slots,
+            ..
+        } => missing_for(s, before, *trigger, *chunk) == slots.len() as usize,
+        Said::Stopped { query, cause, .. } => cause_of(before, *query) == Some(*cause),
+        _ => true,
+    }
+}
+
+/// Whether the entry stands at the place.
+fn is_entry(story: &[Entry], at: usize, entry: Entry) -> bool {
+    at < story.len() && story[at] == entry
+}
+
+/// The place behind the entry that stands there, if it is this one.
+fn after_entry(story: &[Entry], at: usize, entry: Entry) -> Option<usize> {
+    if is_entry(story, at, entry) {
+        Some(at.saturating_add(1))
+    } else {
+        None
+    }
+}
+
+/// The place behind the Evicts that stand there.
+fn after_evicts(story: &[Entry], at: usize) -> usize {
+    for i in at..story.len() {
+        if !matches!(story[i], Entry::Evict { .. }) {
+            return i;
+        }
+    }
+    at.max(story.len())
+}
+
+/// Whether the piece of the slot is greater than the one before.
+fn is_rising(slots: &Slots, i: u32) -> bool
+    requires { i < length slots.now }
+{
+    i == 0 || slots.at(i - 1).1 < slots.at(i).1
+}
+
+/// Whether the Fill of the slot stands at the place, into the free frame of least number.
+fn is_fill(
+    alloc: Global,
+    s: &Setting,
+    story: &[Entry],
+    at: usize,
+    worker: u32,
+    slot: (u32, u32),
+) -> Result<bool, AllocError>
+    requires { IsSmall s.now }
+{
+    let (frame, piece) = slot;
+    let before = &story[..at.min(story.len())];
+    let load = underway(alloc, s, before)?;
+    let fill = Entry::Fill {
+        worker,
+        frame,
+        piece,
+    };
+    Ok(first_free(s, before, &load) == Some(frame) && is_entry(story, at, fill))
+}
+
+/// The place behind a Fill for each slot, by rising piece.
+fn after_fills(
+    alloc: Global,
+    s: &Setting,
+    story: &[Entry],
+    at: usize,
+    worker: u32,
+    slots: &Slots,
+) -> Result<Option<usize>, AllocError>
+    requires { IsSmall s.now }
+{
+    let mut at = at;
+    for i in 0..slots.len() {
+        if !is_rising(slots, i) || !is_fill(alloc, s, story, at, worker, slots.at(i))? {
+            return Ok(None);
+        }
+        at = at.saturating_add(1);
+    }
+    Ok(Some(at))
+}
+
+/// The place behind a Plan, Evicts, and a Fill for each slot.
+fn after_load(
     alloc: Global,
     s: &Setting,
     story: &[Entry],
     at: usize,
     plan: Entry,
-    slots: &Slots,
-) -> Result<usize, Fail>
-    requires { IsSmall s.now }
-{
-    let mut at = expect_entry(rt, story, at, plan);
-    let Entry::Plan { worker, .. } = plan else {
-        return Ok(at);
-    };
-    for i in at..story.len() {
-        if i == at
-            && let Entry::Evict { .. } = story[i]
-        {
-            at = expect_entry(rt, story, at, story[i]);
-        }
-    }
-    for i in 0..slots.len() {
-        let (frame, piece) = slots.at(i);
-        assert!(rt; i == 0 || slots.at(i - 1).1 < piece, "piece {piece}");
-        let before = &story[..at.min(story.len())];
-        let load = underway(alloc, s, before)?;
-        assert_eq!(rt; first_free(s, before, &load), Some(frame), "piece {piece}");
-        at = expect_entry(
-            rt,
-            story,
-            at,
-            Entry::Fill {
-                worker,
-                frame,
-                piece,
-            },
-        );
-    }
-    Ok(at)
-}
-
-/// A Filled for each of the first slots.
-fn expect_filled<R: Abort>(
-    rt: &R,
-    story: &[Entry],
-    at: usize,
     worker: u32,
     slots: &Slots,
-    n: u32,
-) -> usize {
+) -> Result<Option<usize>, AllocError>
+    requires { IsSmall s.now }
+{
+    match after_entry(story, at, plan) {
+        Some(at) => after_fills(alloc, s, story, after_evicts(story, at), worker, slots),
+        None => Ok(None),
+    }
+}
+
+/// The place behind a Filled for each of the first slots.
+fn after_filled(story: &[Entry], at: usize, worker: u32, slots: &Slots, n: u32) -> Option<usize> {
     let mut at = at;
     for i in 0..n.min(slots.len()) {
         let (frame, piece) = slots.at(i);
-        at = expect_entry(
-            rt,
-            story,
-            at,
-            Entry::Filled {
-                worker,
-                frame,
-                piece,
-            },
-        );
+        let filled = Entry::Filled {
+            worker,
+            frame,
+            piece,
+        };
+        if !is_entry(story, at, filled) {
+            return None;
+        }
+        at = at.saturating_add(1);
     }
-    at
+    Some(at)
 }
 
-/// The turn's answer is of the first row that fits; the entries that it appended stand at the place. The place after
-/// them.
-fn expect_turn<R: Abort>(
-    rt: &R,
+/// The place behind a Filled for each of the first slots, and a Failed for the next one.
+fn after_failed(
+    story: &[Entry],
+    at: usize,
+    worker: u32,
+    query: u32,
+    slots: &Slots,
+    done: u32,
+    why: Why,
+) -> Option<usize> {
+    if done >= slots.len() {
+        return None;
+    }
+    let failed = Entry::Failed {
+        worker,
+        query,
+        piece: slots.at(done).1,
+        why,
+    };
+    match after_filled(story, at, worker, slots, done) {
+        Some(at) => after_entry(story, at, failed),
+        None => None,
+    }
+}
+
+/// The one entry of a call that begins no load and ends none, if it appends one.
+fn entry_of(said: &Said) -> Option<Entry> {
+    match *said {
+        Said::Registered { worker, query } => Some(Entry::Register { worker, query }),
+        Said::Took {
+            worker,
+            query,
+            chunk,
+            ..
+        } => Some(Entry::Deliver {
+            worker,
+            query,
+            chunk,
+        }),
+        Said::Finished { worker, query } => Some(Entry::End { worker, query }),
+        Said::Released {
+            worker,
+            query,
+            chunk,
+        } => Some(Entry::Release {
+            worker,
+            query,
+            chunk,
+        }),
+        Said::GaveUp { worker, query } => Some(Entry::Stop { worker, query }),
+        _ => None,
+    }
+}
+
+/// The place behind the entries that the call should append, where they stand.
+fn after_call(
     alloc: Global,
     s: &Setting,
     story: &[Entry],
     at: usize,
     said: &Said,
-) -> Result<usize, Fail>
+) -> Result<Option<usize>, AllocError>
     requires { IsSmall s.now }
 {
-    let before = &story[..at.min(story.len())];
+    if let Some(entry) = entry_of(said) {
+        return Ok(after_entry(story, at, entry));
+    }
     match said {
-        Said::Took {
-            worker,
-            query,
-            chunk,
-            slots,
-        } => {
-            assert_eq!(rt;
-                first_row(alloc, s, before, *query)?,
-                Row::Take,
-                "entry {at}"
-            );
-            expect_slots(rt, s, before, *query, *chunk, slots);
-            let deliver = Entry::Deliver {
-                worker: *worker,
-                query: *query,
-                chunk: *chunk,
-            };
-            return Ok(expect_entry(rt, story, at, deliver));
-        }
         Said::Loads {
             worker,
-            query,
             trigger,
             chunk,
             slots,
+            ..
         } => {
-            assert_eq!(rt;
-                first_row(alloc, s, before, *query)?,
-                Row::Load,
-                "entry {at}"
-            );
-            assert_eq!(rt;
-                missing_for(s, before, *trigger, *chunk),
-                slots.len() as usize
-            );
             let plan = Entry::Plan {
                 worker: *worker,
                 query: *trigger,
                 chunk: *chunk,
             };
-            return expect_load(rt, alloc, s, story, at, plan, slots);
-        }
-        Said::NotYet { query, .. } => {
-            assert_eq!(rt;
-                first_row(alloc, s, before, *query)?,
-                Row::NotYet,
-                "entry {at}"
-            );
-            return Ok(at);
-        }
-        Said::Finished { worker, query } => {
-            assert_eq!(rt;
-                first_row(alloc, s, before, *query)?,
-                Row::Finished,
-                "entry {at}"
-            );
-            let end = Entry::End {
-                worker: *worker,
-                query: *query,
-            };
-            return Ok(expect_entry(rt, story, at, end));
-        }
-        Said::Stopped { query, cause, .. } => {
-            assert_eq!(rt;
-                first_row(alloc, s, before, *query)?,
-                Row::Stopped,
-                "entry {at}"
-            );
-            assert_eq!(rt; cause_of(before, *query), Some(*cause));
-            return Ok(at);
-        }
-        _ => return Ok(expect_call(rt, story, at, said)),
-    }
-}
-
-/// The same of the other calls.
-fn expect_call<R: Abort>(rt: &R, story: &[Entry], at: usize, said: &Said) -> usize {
-    match said {
-        Said::Registered { worker, query } => {
-            let register = Entry::Register {
-                worker: *worker,
-                query: *query,
-            };
-            return expect_entry(rt, story, at, register);
-        }
-        Said::Released {
-            worker,
-            query,
-            chunk,
-        } => {
-            let release = Entry::Release {
-                worker: *worker,
-                query: *query,
-                chunk: *chunk,
-            };
-            return expect_entry(rt, story, at, release);
-        }
-        Said::GaveUp { worker, query } => {
-            let stop = Entry::Stop {
-                worker: *worker,
-                query: *query,
-            };
-            return expect_entry(rt, story, at, stop);
+            after_load(alloc, s, story, at, plan, *worker, slots)
         }
         Said::Filled { worker, slots } => {
-            return expect_filled(rt, story, at, *worker, slots, slots.len());
+            Ok(after_filled(story, at, *worker, slots, slots.len()))
         }
         Said::Failed {
             worker,
@@ -311,19 +368,26 @@ fn expect_call<R: Abort>(rt: &R, story: &[Entry], at: usize, said: &Said) -> usi
             slots,
             done,
             why,
-        } => {
-            let at = expect_filled(rt, story, at, *worker, slots, *done);
-            assert!(rt; *done < slots.len());
-            let failed = Entry::Failed {
-                worker: *worker,
-                query: *trigger,
-                piece: slots.at(*done).1,
-                why: *why,
-            };
-            return expect_entry(rt, story, at, failed);
-        }
-        _ => return at,
+        } => Ok(after_failed(story, at, *worker, *trigger, slots, *done, *why)),
+        _ => Ok(Some(at)),
     }
+}
+
+/// The place behind the entries of the call, where they stand and the answer is the right one.
+fn after_answer(
+    alloc: Global,
+    s: &Setting,
+    story: &[Entry],
+    at: usize,
+    said: &Said,
+) -> Result<Option<usize>, AllocError>
+    requires { IsSmall s.now }
+{
+    let before = &story[..at.min(story.len())];
+    if !is_first_row(alloc, s, before, said)? || !is_made(s, before, said) {
+        return Ok(None);
+    }
+    after_call(alloc, s, story, at, said)
 }
 
 /// Each call was answered as the table of turns says, and appended just the entries that it should.
@@ -338,7 +402,10 @@ pub fn expect_answers<R: Abort>(
 {
     let mut at: usize = 0;
     for one in said {
-        at = expect_turn(rt, alloc, s, story, at, one)?;
+        match after_answer(alloc, s, story, at, one)? {
+            Some(next) => at = next,
+            None => panic!(rt; "entry {at}"),
+        }
     }
     assert_eq!(rt; at, story.len(), "more entries than answers");
     Ok(())

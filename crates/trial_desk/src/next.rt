@@ -32,6 +32,16 @@ pub fn is_new(book: &Book, q: u32) -> bool
     }
 }
 
+/// The first query of the worker that was never registered.
+pub fn next_on(s: &Setting, book: &Book, w: u32) -> Option<u32> {
+    for n in s.needs.iter() {
+        if n.worker == w && n.query <= 256 && is_new(book, n.query) {
+            return Some(n.query);
+        }
+    }
+    None
+}
+
 // Whether no query is active on the worker.
 fn is_alone(s: &Setting, book: &Book, w: u32) -> bool
     ensures { (t : Setting) (h : History) → Stands book.now t h → IsTrue result

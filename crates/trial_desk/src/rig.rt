@@ -8,7 +8,7 @@ ghost use Rattle.abm_policy.specs.Depots.{depot_view};
 ghost use Rattle.abm_policy.specs.Sound.{start_of};
 ghost use Rattle.trial_desk.specs.Rigged.{under};
 
-use crate::next::{is_active, is_new, may_register};
+use crate::next::{is_active, may_register, next_on};
 use crate::out::Out;
 use crate::reading::read_slots;
 use crate::said::Said;
@@ -49,7 +49,7 @@ fn has_room(s: &Setting) -> bool
     requires groups { s.now.groups ≤ 16 }
     ensures { IsTrue result → HasRoom s.now }
 {
-    s.frames as u64 >= frames_needed(s.workers, s.groups)
+    frames_needed(s.workers, s.groups) <= s.frames as u64
 }
 
 impl<S: Origin, P: Policy> Rig<S, P> {
@@ -121,9 +121,9 @@ impl<S: Origin, P: Policy> Rig<S, P> {
         }
     }
 
-    /// Whether the query was never registered.
-    pub fn is_waiting(&self, q: u32) -> bool {
-        q <= 256 && is_new(self.desk.book(), q)
+    /// The first query of the worker that was never registered.
+    pub fn next_on(&self, s: &Setting, w: u32) -> Option<u32> {
+        next_on(s, self.desk.book(), w)
     }
 
     /// Registers the query on the worker.

@@ -1,7 +1,7 @@
 use abm_policy::{Cause, Slots, Why};
 
 /// A call of a desk, and what it answered.
-#[derive(Debug, Drop)]
+#[derive(Drop)]
 pub enum Said {
     Registered {
         worker: u32,

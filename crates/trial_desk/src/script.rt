@@ -48,7 +48,7 @@ fn play_in<S: Origin, P: Policy>(
     policy: P,
     depot: SpoiltDepot,
     entries: &[Entry],
-) -> Result<Option<(Vec<Entry>, P, SpoiltDepot)>, Memory>
+) -> Result<Option<(Vec<Entry>, SpoiltDepot)>, Memory>
     requires { S.origin ≡ start_of (under s.now (P.name policy) (P.cursor policy))
         (depot_view None depot.inner.gets depot.inner.faults) }
 {
@@ -59,11 +59,14 @@ fn play_in<S: Origin, P: Policy>(
         let _said = follow(s, &mut rig, entry);
     }
     let _said = rig.close();
-    Ok(rig.finish())
+    match rig.finish() {
+        Some((story, _policy, depot)) => Ok(Some((story, depot))),
+        None => Ok(None),
+    }
 }
 
-/// Makes the calls that the story asks for on a new desk, and gives what becomes of it: the desk's own story, the policy
-/// and the depot. A load that the story leaves underway is ended. `None` where there can be no desk for the setting;
+/// Makes the calls that the story asks for on a new desk, and gives what becomes of it: the desk's own story and
+/// the depot. A load that the story leaves underway is ended. `None` where there can be no desk for the setting;
 /// the error is out of memory.
 pub fn play<P: Policy>(
     alloc: Global,
@@ -71,6 +74,6 @@ pub fn play<P: Policy>(
     policy: P,
     depot: SpoiltDepot,
     entries: &[Entry],
-) -> Result<Option<(Vec<Entry>, P, SpoiltDepot)>, Memory> {
+) -> Result<Option<(Vec<Entry>, SpoiltDepot)>, Memory> {
     play_in::<Brand, P>(alloc, s, policy, depot, entries)
 }

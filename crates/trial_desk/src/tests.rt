@@ -1,17 +1,17 @@
 ghost use Rattle.std.specs.Prelude.{◌≡◌, ◌<◌, ◌≤◌};
 ghost use Rattle.story_views.specs.Small.{IsSmall};
 
-use crate::bound::expect_bound;
+use crate::bound::is_paid;
 use crate::expected::expect_answers;
 use crate::script::play;
-use crate::walks::walk;
+use crate::walks::{Walked, walk};
 use coop_outside::{Depot, MemDepot, SpoiltDepot};
 use policy_box::Elevator;
 use policy_plain::{Attach, Normal};
 use rand_pcg::Pcg32;
 use relevance::{Policy, Relevance};
 use scan_story::{Entry, PolicyName, Setting, Why};
-use std::alloc::Global;
+use std::alloc::{AllocError, Global};
 use std::process::Abort;
 use std::test::Fail;
 use story_judge::{first_illegal, is_licensed, is_undisturbed, is_whole};
@@ -56,6 +56,22 @@ fn reads(story: &[Entry]) -> u64 {
     sum
 }
 
+/// The story and the depot of the calls that the printed story asks for.
+fn made<R: Abort, P: Policy>(
+    rt: &R,
+    alloc: Global,
+    policy: P,
+    printed: &Printed,
+    entries: &[Entry],
+) -> Result<(Vec<Entry>, SpoiltDepot), Fail> {
+    let s = printed.setting(alloc)?;
+    let depot = depot(rt, alloc, &s, printed.fail_gets, NO_PIECE)?;
+    match play(alloc, &s, policy, depot, entries)? {
+        Some(made) => Ok(made),
+        None => panic!(rt; "no story"),
+    }
+}
+
 /// The calls of the printed story make just that story, and so many entries more, which end a load that it leaves
 /// underway.
 fn expect_story<R: Abort, P: Policy>(
@@ -65,22 +81,12 @@ fn expect_story<R: Abort, P: Policy>(
     printed: &Printed,
     more: usize,
 ) -> Result<(), Fail> {
-    let s = printed.setting(alloc)?;
     let entries = printed.entries(alloc)?;
-    let depot = depot(rt, alloc, &s, printed.fail_gets, NO_PIECE)?;
-    let Some((made, _policy, depot)) = play(alloc, &s, policy, depot, &entries)? else {
-        panic!(rt; "no story: {printed:?}")
-    };
-    assert_eq!(rt;
-        made.len(),
-        entries.len().saturating_add(more),
-        "{printed:?}"
-    );
-    for i in 0..entries.len() {
-        assert!(rt; i < made.len());
-        assert_eq!(rt; made[i], entries[i], "entry {i}: {printed:?}");
-    }
-    assert_eq!(rt; depot.inner.gets, reads(&made));
+    let (story, depot) = made(rt, alloc, policy, printed, &entries)?;
+    let is_made = story.len() == entries.len().saturating_add(more)
+        && story.starts_with(&entries)
+        && depot.inner.gets == reads(&story);
+    assert!(rt; is_made, "{printed:?}: {story:?}");
     Ok(())
 }
 
@@ -140,57 +146,57 @@ fn count(met: &mut Met, story: &[Entry]) {
     }
 }
 
-/// The story is legal and whole, what is held stays, its faults fit the depot's counts, and its loads are paid for.
-fn expect_good<R: Abort>(
-    rt: &R,
+/// Whether the story is legal and whole, what is held stays, its faults fit the depot's counts, and its loads are paid
+/// for.
+fn is_good(
     alloc: Global,
     s: &Setting,
     story: &[Entry],
     from: u64,
     to: u64,
-) -> Result<(), Fail>
+) -> Result<bool, AllocError>
     requires { IsSmall s.now }
 {
-    assert_eq!(rt; first_illegal(alloc, s, story)?, None);
-    assert!(rt; is_whole(alloc, s, story)?, "not whole");
-    assert!(rt; is_undisturbed(s, story));
-    assert!(rt; is_licensed(false, from, to, story));
-    expect_bound(rt, alloc, s, story)
+    let illegal = first_illegal(alloc, s, story)?;
+    let is_whole = is_whole(alloc, s, story)?;
+    let is_paid = is_paid(alloc, s, story)?;
+    Ok(
+        illegal.is_none()
+            && is_whole
+            && is_paid
+            && is_undisturbed(s, story)
+            && is_licensed(false, from, to, story),
+    )
 }
 
-/// One walk, over a depot that had 5 gets and 3 faults before. One in three walks meets a get that fails, and one in three
-/// a piece that is spoilt.
-fn expect_walk<R: Abort, P: Policy>(
-    rt: &R,
-    alloc: Global,
-    s: &Setting,
-    policy: P,
-    seed: u64,
-    met: &mut Met,
-) -> Result<(), Fail>
-    requires { IsSmall s.now }
-{
+/// A depot that had 5 gets and 3 faults before. For one seed in three a get fails, and for one in three a piece is
+/// spoilt.
+fn depot_for<R: Abort>(rt: &R, alloc: Global, s: &Setting, seed: u64) -> Result<SpoiltDepot, Fail> {
     let fail_gets: &[u64] = if seed % 3 == 1 { &[12, 16] } else { &[] };
     let spoilt = if seed % 3 == 2 { 3 } else { NO_PIECE };
     let mut depot = depot(rt, alloc, s, fail_gets, spoilt)?;
     depot.inner.gets = 5;
     depot.inner.faults = 3;
-    let Some(walked) = walk(alloc, s, policy, depot, seed, STEPS)? else {
-        panic!(rt; "a load is left, seed {seed}")
-    };
-    let story = walked.story.as_slice();
-    expect_good(rt, alloc, s, story, 3, walked.depot.inner.faults)?;
-    expect_answers(rt, alloc, s, story, walked.said.as_slice())?;
-    assert_eq!(rt; walked.depot.inner.gets, reads(story).saturating_add(5));
-    count(met, story);
-    Ok(())
+    Ok(depot)
 }
 
 /// Of how many steps a walk is.
 const STEPS: u32 = 600;
 
-/// The same under the policy of the setting.
-fn expect_walk_under<R: Abort>(
+/// One walk under the policy of the setting.
+fn walked<R: Abort>(rt: &R, alloc: Global, s: &Setting, seed: u64) -> Result<Option<Walked>, Fail> {
+    let depot = depot_for(rt, alloc, s, seed)?;
+    let walked = match s.policy {
+        PolicyName::Relevance => walk(alloc, s, Relevance, depot, seed, STEPS),
+        PolicyName::Elevator => walk(alloc, s, Elevator::new(), depot, seed, STEPS),
+        PolicyName::Normal => walk(alloc, s, Normal::new(), depot, seed, STEPS),
+        PolicyName::Attach => walk(alloc, s, Attach::new(), depot, seed, STEPS),
+    };
+    Ok(walked?)
+}
+
+/// One walk is as it should be; what it met is counted.
+fn expect_walk<R: Abort>(
     rt: &R,
     alloc: Global,
     s: &Setting,
@@ -199,16 +205,48 @@ fn expect_walk_under<R: Abort>(
 ) -> Result<(), Fail>
     requires { IsSmall s.now }
 {
-    match s.policy {
-        PolicyName::Relevance => expect_walk(rt, alloc, s, Relevance, seed, met),
-        PolicyName::Elevator => expect_walk(rt, alloc, s, Elevator::new(), seed, met),
-        PolicyName::Normal => expect_walk(rt, alloc, s, Normal::new(), seed, met),
-        PolicyName::Attach => expect_walk(rt, alloc, s, Attach::new(), seed, met),
-    }
+    let Some(walked) = walked(rt, alloc, s, seed)? else {
+        panic!(rt; "a load is left, seed {seed}")
+    };
+    expect_walked(rt, alloc, s, &walked)?;
+    count(met, &walked.story);
+    Ok(())
+}
+
+/// The story is good, each answer is the right one, and the depot counts the reads of the story.
+fn expect_walked<R: Abort>(rt: &R, alloc: Global, s: &Setting, walked: &Walked) -> Result<(), Fail>
+    requires { IsSmall s.now }
+{
+    let story = walked.story.as_slice();
+    let depot = &walked.depot.inner;
+    let is_good = is_good(alloc, s, story, 3, depot.faults)?;
+    assert!(rt;
+        is_good && depot.gets == reads(story).saturating_add(5),
+        "{story:?}"
+    );
+    expect_answers(rt, alloc, s, story, &walked.said)
 }
 
 /// Walks over so many chunks, by so many workers, with so many pieces a chunk, and how many.
 type Walks = (u32, u32, u32, u64);
+
+/// The walks of each seed; what they met is counted.
+fn expect_seeds<R: Abort>(
+    rt: &R,
+    alloc: Global,
+    policy: PolicyName,
+    walks: &Walks,
+    met: &mut Met,
+) -> Result<(), Fail> {
+    let (chunks, workers, groups, seeds) = *walks;
+    assert!(rt; workers > 0 && workers <= 32 && groups > 0 && groups <= 16);
+    for seed in 0..seeds {
+        let mut rng = Pcg32::new(seed, 7);
+        let s = some_setting(alloc, policy, chunks, workers, groups, &mut rng)?;
+        expect_walk(rt, alloc, &s, seed, met)?;
+    }
+    Ok(())
+}
 
 /// What the walks under the policy met: each way in which a query ends, at least.
 fn expect_ends<R: Abort>(
@@ -225,14 +263,8 @@ fn expect_ends<R: Abort>(
         damages: 0,
         ends: 0,
     };
-    for (chunks, workers, groups, seeds) in walks {
-        let (chunks, workers, groups) = (*chunks, *workers, *groups);
-        assert!(rt; workers > 0 && workers <= 32 && groups > 0 && groups <= 16);
-        for seed in 0..*seeds {
-            let mut rng = Pcg32::new(seed, 7);
-            let s = some_setting(alloc, policy, chunks, workers, groups, &mut rng)?;
-            expect_walk_under(rt, alloc, &s, seed, &mut met)?;
-        }
+    for one in walks {
+        expect_seeds(rt, alloc, policy, one, &mut met)?;
     }
     assert!(rt;
         met.faults > 0 && met.damages > 0 && met.stops > 0 && met.ends > 0,

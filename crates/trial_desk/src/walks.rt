@@ -17,12 +17,11 @@ use trial_walks::below;
 
 /// What becomes of a walk.
 #[derive(Drop)]
-pub struct Walked<P> {
+pub struct Walked {
     /// The desk's story.
     pub story: Vec<Entry>,
     /// Each call and its answer, the oldest first.
     pub said: Vec<Said>,
-    pub policy: P,
     pub depot: SpoiltDepot,
 }
 
@@ -30,12 +29,10 @@ pub struct Walked<P> {
 fn register_next<S: Origin, P: Policy>(s: &Setting, rig: &mut Rig<S, P>, w: u32) -> Option<Said>
     requires { s.now.needs ≡ S.origin.setting.needs }
 {
-    for n in s.needs.iter() {
-        if n.worker == w && rig.is_waiting(n.query) {
-            return rig.register(s, w, n.query);
-        }
+    match rig.next_on(s, w) {
+        Some(query) => rig.register(s, w, query),
+        None => None,
     }
-    None
 }
 
 // What the worker does next; at times it does nothing, and one time in 32 it gives up in place of a turn.
@@ -64,7 +61,7 @@ fn walk_in<S: Origin, P: Policy>(
     depot: SpoiltDepot,
     seed: u64,
     steps: u32,
-) -> Result<Option<Walked<P>>, Memory>
+) -> Result<Option<Walked>, Memory>
     requires { S.origin ≡ start_of (under s.now (P.name policy) (P.cursor policy))
         (depot_view None depot.inner.gets depot.inner.faults) }
 {
@@ -81,15 +78,8 @@ fn walk_in<S: Origin, P: Policy>(
         }
     }
     match rig.finish() {
-        Some((story, policy, depot)) => {
-            return Ok(Some(Walked {
-                story,
-                said,
-                policy,
-                depot,
-            }));
-        }
-        None => return Ok(None),
+        Some((story, _policy, depot)) => Ok(Some(Walked { story, said, depot })),
+        None => Ok(None),
     }
 }
 
@@ -102,6 +92,6 @@ pub fn walk<P: Policy>(
     depot: SpoiltDepot,
     seed: u64,
     steps: u32,
-) -> Result<Option<Walked<P>>, Memory> {
+) -> Result<Option<Walked>, Memory> {
     walk_in::<Brand, P>(alloc, s, policy, depot, seed, steps)
 }

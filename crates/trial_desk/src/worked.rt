@@ -11,7 +11,7 @@ use std::test::Fail;
 use trial_stories::Scene;
 
 // What is to be answered. A slot is a frame and a piece, and there is no other one.
-#[derive(Clone, Copy, Debug)]
+#[derive(Clone, Copy)]
 enum Wanted {
     Registered,
     Loads {
@@ -83,7 +83,7 @@ fn expect_turns<R: Abort>(
         panic!(rt; "a call may not come: {scene:?}")
     };
     for (one, (call, wanted)) in said.iter().zip(turns) {
-        assert!(rt; is_wanted(one, *wanted), "{scene:?}: {call:?}: {one:?}");
+        assert!(rt; is_wanted(one, *wanted), "{scene:?}: {call:?}");
     }
     Ok(())
 }

@@ -1,21 +1,19 @@
-ghost use Rattle.std.specs.Prelude.{IfOk};
 ghost use Rattle.scan_story.specs.Views.{past};
 ghost use Rattle.interest_book.specs.Stands.{Stands};
 ghost use Rattle.story_views.specs.Small.{IsSmall};
 
 use crate::counted::Counted;
 use crate::follow::{first_other, takes};
-use interest_book::Book;
+use interest_book::{Book, Memory};
 use policy_box::{Elevator, choose};
 use policy_plain::{Attach, Normal};
 use relevance::{Policy, Relevance};
 use scan_story::{Entry, PolicyName, Setting};
 use std::alloc::Global;
-use std::process::Abort;
 use std::test::Fail;
 use trial_book::played;
 use trial_stories::{
-    Printed, SIX_ATTACH, SIX_ELEVATOR, SIX_NORMAL, SIX_RELEVANCE, Scene, entries_of,
+    POLICIES, Printed, SIX_ATTACH, SIX_ELEVATOR, SIX_NORMAL, SIX_RELEVANCE, Scene, entries_of,
 };
 
 /// Where the policy first picks something else than the printed story takes.
@@ -26,14 +24,28 @@ fn parting<P: Policy>(alloc: Global, policy: P, printed: &Printed) -> Result<Opt
     Ok(first_other(alloc, &mut policy, &s, &entries)?)
 }
 
-/// Where relevance, elevator, normal and attach do so.
-fn partings(alloc: Global, printed: &Printed) -> Result<[Option<usize>; 4], Fail> {
-    Ok([
-        parting(alloc, Relevance, printed)?,
-        parting(alloc, Elevator::new(), printed)?,
-        parting(alloc, Normal::new(), printed)?,
-        parting(alloc, Attach::new(), printed)?,
-    ])
+/// Where the policy of this name does so.
+fn parting_of(alloc: Global, name: PolicyName, printed: &Printed) -> Result<Option<usize>, Fail> {
+    match name {
+        PolicyName::Relevance => parting(alloc, Relevance, printed),
+        PolicyName::Elevator => parting(alloc, Elevator::new(), printed),
+        PolicyName::Normal => parting(alloc, Normal::new(), printed),
+        PolicyName::Attach => parting(alloc, Attach::new(), printed),
+    }
+}
+
+/// Whether relevance, elevator, normal and attach do so at these places.
+fn are_partings(
+    alloc: Global,
+    printed: &Printed,
+    wanted: &[Option<usize>; 4],
+) -> Result<bool, Fail> {
+    for place in 0..4 {
+        if parting_of(alloc, POLICIES[place], printed)? != wanted[place] {
+            return Ok(false);
+        }
+    }
+    Ok(true)
 }
 
 // Attach begins the second query elsewhere than the others, and relevance has another last victim.
@@ -48,7 +60,7 @@ const PARTINGS: [(Printed, [Option<usize>; 4]); 4] = [
 fn each_policy_takes_its_own_story_and_parts_from_another_s(rt: HostRuntime) -> Result<(), Fail> {
     for (printed, wanted) in PARTINGS {
         assert!(rt;
-            partings(rt.alloc(), &printed)? == wanted,
+            are_partings(rt.alloc(), &printed, &wanted)?,
             "{:?}",
             printed.policy
         );
@@ -79,15 +91,6 @@ fn a_box_is_taken_by_its_name(rt: HostRuntime) -> Result<(), Fail> {
     Ok(())
 }
 
-/// The book of the story, in which it may come.
-fn book<R: Abort>(rt: &R, alloc: Global, s: &Setting, entries: &[Entry]) -> Result<Book, Fail>
-    requires { IsSmall s.now }
-    ensures { IfOk result (λ b. Stands b s.now (past entries.now)) }
-{
-    let book = played(alloc, s, entries)?;
-    Ok(book.expect(rt, "a book"))
-}
-
 fn plan(chunk: u32) -> Entry {
     Entry::Plan {
         worker: 0,
@@ -96,18 +99,38 @@ fn plan(chunk: u32) -> Entry {
     }
 }
 
+/// Chunks of query 1, and whether the elevator picks each for a load, one after the other. Chunk 2 is as near for both
+/// queries: the least number triggers.
+const PICKED: [(u32, bool); 4] = [(0, true), (1, true), (2, true), (2, false)];
+
+fn picks_so(alloc: Global, s: &Setting, entries: &[Entry], book: &Book) -> Result<bool, Memory>
+    requires small { IsSmall s.now }
+    requires stands { Stands book.now s.now (past entries.now) }
+{
+    let mut elevator = Elevator::new();
+    for (chunk, is_picked) in PICKED {
+        if takes(alloc, &mut elevator, s, entries, book, &plan(chunk))? != is_picked {
+            return Ok(false);
+        }
+    }
+    Ok(true)
+}
+
+/// Whether it picks so after the story.
+fn goes_up(alloc: Global, s: &Setting, entries: &[Entry]) -> Result<bool, Memory>
+    requires { IsSmall s.now }
+{
+    match played(alloc, s, entries)? {
+        Some(book) => picks_so(alloc, s, entries, &book),
+        None => Ok(false),
+    }
+}
+
 #[test]
 fn the_elevator_s_cursor(rt: HostRuntime) -> Result<(), Fail> {
     let alloc = rt.alloc();
     let s = Scene::Shorter.setting(alloc, PolicyName::Elevator)?;
     let entries = entries_of(alloc, "register 0 1\nregister 1 2\n")?;
-    let entries = entries.as_slice();
-    let b = book(&rt, alloc, &s, entries)?;
-    let mut elevator = Elevator::new();
-    assert!(rt; takes(alloc, &mut elevator, &s, entries, &b, &plan(0))?);
-    assert!(rt; takes(alloc, &mut elevator, &s, entries, &b, &plan(1))?);
-    // chunk 2 is as near for both queries: the least number triggers
-    assert!(rt; takes(alloc, &mut elevator, &s, entries, &b, &plan(2))?);
-    assert!(rt; !takes(alloc, &mut elevator, &s, entries, &b, &plan(2))?);
+    assert!(rt; goes_up(alloc, &s, &entries)?);
     Ok(())
 }

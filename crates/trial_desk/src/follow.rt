@@ -9,6 +9,22 @@ use scan_story::{Entry, Setting};
 use std::alloc::Global;
 use trial_book::{book_of, delivery, load, note_next, victim};
 
+/// Whether the policy, asked after the entries, picks this query and this chunk for a load.
+fn picks_load<P: Policy>(
+    policy: &mut P,
+    s: &Setting,
+    entries: &[Entry],
+    book: &Book,
+    query: u32,
+    chunk: u32,
+) -> bool
+    requires { Stands book.now s.now (past entries.now) }
+{
+    let trigger = policy.pick_query(book);
+    let target = load(policy, s, entries, book, query);
+    trigger == Some(query) && target == Some(chunk)
+}
+
 /// Whether the policy, asked after the entries, picks what the entry takes. Its cursor moves on.
 pub fn takes<P: Policy>(
     alloc: Global,
@@ -23,14 +39,15 @@ pub fn takes<P: Policy>(
 {
     match *entry {
         Entry::Plan { query, chunk, .. } => {
-            let trigger = policy.pick_query(book);
-            let target = load(policy, s, entries, book, query);
-            Ok(trigger == Some(query) && target == Some(chunk))
+            Ok(picks_load(policy, s, entries, book, query, chunk))
         }
         Entry::Deliver { query, chunk, .. } => {
             Ok(delivery(policy, s, entries, book, query) == Some(chunk))
         }
-        Entry::Evict { chunk, .. } => Ok(victim(alloc, policy, s, entries, book)? == Some(chunk)),
+        Entry::Evict { chunk, .. } => {
+            let picked = victim(alloc, policy, s, entries, book)?;
+            Ok(picked == Some(chunk))
+        }
         _ => Ok(true),
     }
 }
