@@ -23,17 +23,28 @@ fn plainly(
     Ok((None, whole))
 }
 
+/// What the referee says of the story; `None` where no manager may be made for the setting.
+pub(crate) fn ruling_on(
+    alloc: Global,
+    s: &Setting,
+    entries: &[Entry],
+) -> Result<Option<Ruling>, Memory> {
+    let Some(terms) = terms_of(alloc, s)? else {
+        return Ok(None);
+    };
+    let ruling = judge(alloc, &terms, entries)?;
+    Ok(Some(ruling))
+}
+
 /// Whether both judges say the same of the story. The setting begins with the policy's first cursor.
 pub(crate) fn agree(alloc: Global, s: &Setting, entries: &[Entry]) -> Result<bool, Memory>
     requires { IsSmall s.now }
 {
-    let Some(terms) = terms_of(alloc, s)? else {
-        return Ok(false);
-    };
-    let found = match judge(alloc, &terms, entries)? {
-        Ruling::Legal { whole, .. } => (None, whole),
-        Ruling::Illegal { place, .. } => (Some(place), false),
-    };
     let plain = plainly(alloc, s, entries)?;
+    let found = match ruling_on(alloc, s, entries)? {
+        Some(Ruling::Legal { whole, .. }) => (None, whole),
+        Some(Ruling::Illegal { place, .. }) => (Some(place), false),
+        None => return Ok(false),
+    };
     Ok(found == plain)
 }

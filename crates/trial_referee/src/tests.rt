@@ -1,84 +1,110 @@
-ghost use Rattle.std.specs.Prelude.{◌<◌};
+ghost use Rattle.std.specs.Prelude.{◌<◌, ◌≤◌};
 ghost use Rattle.story_views.specs.Small.{IsSmall};
 
 use crate::changes::{CHANGES, changed};
-use crate::settings::terms_of;
-use crate::sides::agree;
+use crate::sides::{agree, ruling_on};
 use rand_pcg::Pcg32;
 use scan_story::{Entry, PolicyName, Ratio, Setting};
 use std::alloc::Global;
 use std::process::Abort;
 use std::test::Fail;
-use story_referee::{Better, Choice, Rank, Reason, Rule, Ruling, judge};
+use story_referee::{Better, Choice, Memory, Rank, Reason, Rule, Ruling};
 use trial_stories::{
     COUNTS, POLICIES, Printed, SIX, Scene, TO_EVICT, TURNS, TWO_TO_DELIVER, entries_of,
 };
 use trial_walks::{some_setting, walk};
 
-/// Both judges say the same of the story, and of each change of one entry out of so many.
-fn expect_agreement<R: Abort>(
-    rt: &R,
+/// Whether both judges say the same of the story with the entry at the place changed in each way.
+fn agree_changed(
+    alloc: Global,
+    s: &Setting,
+    entries: &[Entry],
+    place: usize,
+) -> Result<bool, Memory>
+    requires { IsSmall s.now }
+{
+    for change in CHANGES {
+        let other = changed(alloc, entries, place, change)?;
+        if !agree(alloc, s, &other)? {
+            return Ok(false);
+        }
+    }
+    Ok(true)
+}
+
+/// Whether both judges say the same of the story, and of each change of one entry out of so many.
+fn agree_throughout(
     alloc: Global,
     s: &Setting,
     entries: &[Entry],
     step: usize,
-) -> Result<(), Fail>
+) -> Result<bool, Memory>
     requires small { IsSmall s.now }
     requires some { 0 < step }
 {
-    assert!(rt; agree(alloc, s, entries)?, "{entries:?}");
     for place in 0..entries.len() {
-        if place % step == step - 1 {
-            for change in CHANGES {
-                let other = changed(alloc, entries, place, change)?;
-                assert!(rt; agree(alloc, s, &other)?, "{change:?} at {place}");
-            }
+        if place % step == step - 1 && !agree_changed(alloc, s, entries, place)? {
+            return Ok(false);
         }
     }
-    Ok(())
+    agree(alloc, s, entries)
 }
 
+/// The judges agree on each of the printed stories, and on each change of one entry out of so many.
 fn expect_printed<R: Abort>(
     rt: &R,
     alloc: Global,
-    printed: &Printed,
+    stories: &[Printed],
     step: usize,
 ) -> Result<(), Fail>
     requires { 0 < step }
 {
-    let s = printed.setting(alloc)?;
-    let entries = printed.entries(alloc)?;
-    expect_agreement(rt, alloc, &s, &entries, step)
+    for printed in stories {
+        let s = printed.setting(alloc)?;
+        let entries = printed.entries(alloc)?;
+        assert!(rt; agree_throughout(alloc, &s, &entries, step)?, "{printed:?}");
+    }
+    Ok(())
 }
 
 #[test]
 fn the_judges_agree_on_printed_stories(rt: HostRuntime) -> Result<(), Fail> {
     let alloc = rt.alloc();
-    for printed in TURNS {
-        expect_printed(&rt, alloc, &printed, 8)?;
-    }
-    for printed in COUNTS {
-        expect_printed(&rt, alloc, &printed, 13)?;
-    }
-    for printed in SIX {
-        expect_printed(&rt, alloc, &printed, 60)?;
-    }
-    for printed in [TWO_TO_DELIVER, TO_EVICT] {
-        expect_printed(&rt, alloc, &printed, 60)?;
-    }
-    Ok(())
+    expect_printed(&rt, alloc, &TURNS, 8)?;
+    expect_printed(&rt, alloc, &COUNTS, 13)?;
+    expect_printed(&rt, alloc, &SIX, 60)?;
+    expect_printed(&rt, alloc, &[TWO_TO_DELIVER, TO_EVICT], 60)
+}
+
+/// Whether the judges agree on a walk, by so many workers and with so many pieces a chunk.
+fn agree_on_walk(
+    alloc: Global,
+    policy: PolicyName,
+    seed: u64,
+    workers: u32,
+    groups: u32,
+) -> Result<bool, Fail>
+    requires workers { (0 < workers) × (workers ≤ 32) }
+    requires groups { (0 < groups) × (groups ≤ 16) }
+{
+    let mut rng = Pcg32::new(seed, 13);
+    let s = some_setting(alloc, policy, 5, workers, groups, &mut rng)?;
+    let story = walk(alloc, &s, seed, 20)?;
+    Ok(agree_throughout(alloc, &s, &story, 12)?)
 }
 
 #[test]
 fn the_judges_agree_on_walks(rt: HostRuntime) -> Result<(), Fail> {
     let alloc = rt.alloc();
     for policy in POLICIES {
-        for (seed, workers, groups) in [(1, 1, 1), (2, 2, 2)] {
-            let mut rng = Pcg32::new(seed, 13);
-            let s = some_setting(alloc, policy, 5, workers, groups, &mut rng)?;
-            let story = walk(alloc, &s, seed, 20)?;
-            expect_agreement(&rt, alloc, &s, &story, 12)?;
-        }
+        assert!(rt;
+            agree_on_walk(alloc, policy, 1, 1, 1)?,
+            "{policy:?} over rows"
+        );
+        assert!(rt;
+            agree_on_walk(alloc, policy, 2, 2, 2)?,
+            "{policy:?} over columns"
+        );
     }
     Ok(())
 }
@@ -86,21 +112,19 @@ fn the_judges_agree_on_walks(rt: HostRuntime) -> Result<(), Fail> {
 /// A story, of which the last entry may not come, and why.
 type Refused = (Scene, PolicyName, &'static str, Reason);
 
-fn expect_refused<R: Abort>(rt: &R, alloc: Global, refused: &Refused) -> Result<(), Fail> {
+/// Whether the referee says so.
+fn is_refused(alloc: Global, refused: &Refused) -> Result<bool, Fail> {
     let (scene, policy, text, reason) = *refused;
     let s = scene.setting(alloc, policy)?;
     let entries = entries_of(alloc, text)?;
-    let terms = terms_of(alloc, &s)?.expect(rt, "terms");
-    let last = entries.len().saturating_sub(1);
-    let ruling = judge(alloc, &terms, &entries)?;
-    assert_eq!(rt;
-        ruling,
-        Ruling::Illegal {
-            place: last,
-            reason
-        },
-        "{text}"
-    );
+    let place = entries.len().saturating_sub(1);
+    Ok(ruling_on(alloc, &s, &entries)? == Some(Ruling::Illegal { place, reason }))
+}
+
+fn expect_refused<R: Abort>(rt: &R, alloc: Global, rows: &[Refused]) -> Result<(), Fail> {
+    for refused in rows {
+        assert!(rt; is_refused(alloc, refused)?, "{refused:?}");
+    }
     Ok(())
 }
 
@@ -165,85 +189,105 @@ fn the_rule_that_an_entry_breaks(rt: HostRuntime) -> Result<(), Fail> {
             text,
             Reason::Broken(rule),
         );
-        expect_refused(&rt, alloc, &refused)?;
+        assert!(rt; is_refused(alloc, &refused)?, "{text}");
     }
     Ok(())
-}
-
-fn outdone(choice: Choice, number: u32, rank: Rank, taken: Rank) -> Reason {
-    Reason::Outdone(Better {
-        choice,
-        number,
-        rank,
-        taken,
-    })
-}
-
-fn gain(num: u32, den: u32) -> Rank {
-    Rank::Gain(Ratio { num, den })
 }
 
 /// The ranks are those of the worked examples of the book.
+const OUTDONE: &[Refused] = &[
+    (
+        Scene::Shorter,
+        PolicyName::Relevance,
+        "register 0 1\nregister 1 2\nplan 0 1 0\n",
+        Reason::Outdone(Better {
+            choice: Choice::Trigger,
+            number: 2,
+            rank: Rank::Urgency(-2),
+            taken: Rank::Urgency(-5),
+        }),
+    ),
+    (
+        Scene::Shorter,
+        PolicyName::Elevator,
+        "register 0 1\nregister 1 2\nplan 0 2 2\n",
+        Reason::Outdone(Better {
+            choice: Choice::Trigger,
+            number: 1,
+            rank: Rank::Steps(0),
+            taken: Rank::Steps(2),
+        }),
+    ),
+    (
+        Scene::Shorter,
+        PolicyName::Normal,
+        "register 0 1\nregister 1 2\nplan 0 2 2\n",
+        Reason::Outdone(Better {
+            choice: Choice::Trigger,
+            number: 1,
+            rank: Rank::Waited(1),
+            taken: Rank::Waited(0),
+        }),
+    ),
+    (
+        Scene::Shorter,
+        PolicyName::Attach,
+        "register 0 1\nregister 1 2\nplan 0 1 1\n",
+        Reason::Outdone(Better {
+            choice: Choice::Load,
+            number: 0,
+            rank: Rank::Steps(0),
+            taken: Rank::Steps(1),
+        }),
+    ),
+    (
+        Scene::Shorter,
+        PolicyName::Normal,
+        "register 0 1\nplan 0 1 0\nfill 0 0 0\nfilled 0 0 0\nplan 0 1 1\nfill 0 1 1\nfilled 0 1 1\ndeliver 0 1 1\n",
+        Reason::Outdone(Better {
+            choice: Choice::Delivery,
+            number: 0,
+            rank: Rank::Steps(0),
+            taken: Rank::Steps(1),
+        }),
+    ),
+    (
+        Scene::Shorter,
+        PolicyName::Relevance,
+        "register 0 1\nplan 0 1 0\nfill 0 0 0\nfilled 0 0 0\nregister 1 2\nplan 0 2 2\nfill 0 1 2\nfilled 0 1 2\ndeliver 0 1 2\n",
+        Reason::Outdone(Better {
+            choice: Choice::Delivery,
+            number: 0,
+            rank: Rank::Gain(Ratio { num: 1, den: 1 }),
+            taken: Rank::Gain(Ratio { num: 1, den: 2 }),
+        }),
+    ),
+];
+
 #[test]
 fn the_better_choice_with_both_ranks(rt: HostRuntime) -> Result<(), Fail> {
-    let alloc = rt.alloc();
-    let cases = [
-        (
-            PolicyName::Relevance,
-            "register 0 1\nregister 1 2\nplan 0 1 0\n",
-            outdone(Choice::Trigger, 2, Rank::Urgency(-2), Rank::Urgency(-5)),
-        ),
-        (
-            PolicyName::Elevator,
-            "register 0 1\nregister 1 2\nplan 0 2 2\n",
-            outdone(Choice::Trigger, 1, Rank::Steps(0), Rank::Steps(2)),
-        ),
-        (
-            PolicyName::Normal,
-            "register 0 1\nregister 1 2\nplan 0 2 2\n",
-            outdone(Choice::Trigger, 1, Rank::Waited(1), Rank::Waited(0)),
-        ),
-        (
-            PolicyName::Attach,
-            "register 0 1\nregister 1 2\nplan 0 1 1\n",
-            outdone(Choice::Load, 0, Rank::Steps(0), Rank::Steps(1)),
-        ),
-        (
-            PolicyName::Normal,
-            "register 0 1\nplan 0 1 0\nfill 0 0 0\nfilled 0 0 0\nplan 0 1 1\nfill 0 1 1\nfilled 0 1 1\ndeliver 0 1 1\n",
-            outdone(Choice::Delivery, 0, Rank::Steps(0), Rank::Steps(1)),
-        ),
-        (
-            PolicyName::Relevance,
-            "register 0 1\nplan 0 1 0\nfill 0 0 0\nfilled 0 0 0\nregister 1 2\nplan 0 2 2\nfill 0 1 2\nfilled 0 1 2\ndeliver 0 1 2\n",
-            outdone(Choice::Delivery, 0, gain(1, 1), gain(1, 2)),
-        ),
-    ];
-    for (policy, text, reason) in cases {
-        expect_refused(&rt, alloc, &(Scene::Shorter, policy, text, reason))?;
-    }
-    Ok(())
+    expect_refused(&rt, rt.alloc(), OUTDONE)
 }
+
+/// The elevator stands at chunk 0, and chunk 3 is nearer than chunk 4, neither close to a query.
+const NEARER: Reason = Reason::Outdone(Better {
+    choice: Choice::Victim,
+    number: 0,
+    rank: Rank::Fitness { close: 0, key: 0 },
+    taken: Rank::Fitness { close: 0, key: 4 },
+});
 
 #[test]
 fn a_victim_that_is_outdone(rt: HostRuntime) -> Result<(), Fail> {
     let alloc = rt.alloc();
     let s = TO_EVICT.setting(alloc)?;
     let mut entries = TO_EVICT.entries(alloc)?;
+    let place = entries.len();
     entries.push(Entry::Evict {
         worker: 0,
         chunk: 4,
     })?;
-    let terms = terms_of(alloc, &s)?.expect(&rt, "terms");
-    let ruling = judge(alloc, &terms, &entries)?;
-    let place = entries.len() - 1;
-    // the elevator stands at chunk 0, and chunk 3 is nearer than chunk 4, neither close to a query
-    let reason = outdone(
-        Choice::Victim,
-        0,
-        Rank::Fitness { close: 0, key: 0 },
-        Rank::Fitness { close: 0, key: 4 },
-    );
-    assert_eq!(rt; ruling, Ruling::Illegal { place, reason });
+    let reason = NEARER;
+    assert!(rt; ruling_on(alloc, &s, &entries)? == Some(Ruling::Illegal { place, reason }));
     Ok(())
 }
