@@ -105,28 +105,12 @@ fn end_with<R: Abort + RandomSource + Threads + Wait + Sync>(
     }
 }
 
-// Each query is answered, each scan ends, and no more workers are at work at once than there are threads.
-fn expect_end<R: Abort + RandomSource + Threads + Wait + Sync>(
-    rt: &R,
-    alloc: Global,
-    most_threads: u32,
-) -> Result<(), Fail> {
-    let end = end_with(rt, alloc, most_threads)?;
-    let story = &end.ran.story;
-    assert!(rt;
-        are_wanted(&end.answers, ANSWERS),
-        "{most_threads}: the answers"
-    );
-    assert!(rt;
-        ends(story) == STATEMENTS.len(),
-        "{most_threads}: a scan didn't end"
-    );
-    let most = most_at_once(story);
-    assert!(rt;
-        most <= most_threads.saturating_add(1),
-        "{most_threads}: {most} at once"
-    );
-    Ok(())
+// Whether each query is answered, each scan ends, and no more workers are at work at once than there are threads.
+fn is_right_end(end: &BatchEnd<MemDepot>, most_threads: u32) -> bool {
+    let story = end.ran.story.as_slice();
+    are_wanted(&end.answers, ANSWERS)
+        && ends(story) == STATEMENTS.len()
+        && most_at_once(story) <= most_threads.saturating_add(1)
 }
 
 #[test]
@@ -134,7 +118,8 @@ fn workers_without_a_thread_of_their_own_run_one_after_another(
     rt: HostRuntime,
 ) -> Result<(), Fail> {
     for most_threads in 0..WORKERS {
-        expect_end(&rt, rt.alloc(), most_threads)?;
+        let end = end_with(&rt, rt.alloc(), most_threads)?;
+        assert!(rt; is_right_end(&end, most_threads), "{most_threads}");
     }
     Ok(())
 }

@@ -1,17 +1,20 @@
 // What the gate is told: each delivery once, while its worker holds the chunk.
 use crate::batches::{COUNT, run};
 use crate::wanted::{Wanted, are_wanted};
-use batch_run::Options;
+use batch_run::{BatchEnd, Options};
 use coop_outside::MemDepot;
 use cscan::Gate;
 use piece_format::Layout;
 use scan_story::Entry;
 use std::alloc::Global;
 use std::hash::RandomState;
+use std::process::Abort;
+use std::random::RandomSource;
 use std::sync::atomic::{AtomicU64, Ordering};
 use std::sync::{Mutex, Wait};
 use std::test::Fail;
 use std::thread;
+use std::thread::Threads;
 use table_core::Cell::Int;
 use trial_stories::tables::SIX_ROWS;
 
@@ -20,6 +23,16 @@ const CHUNKS: u64 = 6;
 
 // How often a wait looks before it gives up.
 const LOOKS: u32 = 10000000;
+
+const OPTIONS: Options = Options {
+    workers: 2,
+    frames: 7,
+    per: 1,
+    layout: Layout::Row,
+    parts: 1,
+};
+
+const BOTH_SIX: &[Wanted] = &[Wanted::Rows(&[&[Int(6)]]), Wanted::Rows(&[&[Int(6)]])];
 
 // A worker, a query and a chunk.
 type Call = (u32, u32, u32);
@@ -117,55 +130,49 @@ fn goes_hand_over_hand(story: &[Entry]) -> bool {
     true
 }
 
-#[test]
-fn the_gate_is_called_once_for_each_delivery_before_its_release(
-    rt: HostRuntime,
-) -> Result<(), Fail> {
-    let keys = RandomState::new(&rt)?;
-    let gate = HandOverHand {
-        first: Told::new(rt.alloc()),
-        second: Told::new(rt.alloc()),
-        late: AtomicU64::new(0),
-    };
-    let options = Options {
-        workers: 2,
-        frames: 7,
-        per: 1,
-        layout: Layout::Row,
-        parts: 1,
-    };
-    let text = SIX_ROWS.as_bytes();
-    let depot = MemDepot::new(rt.alloc());
-    let ended = run(
-        &rt,
-        rt.alloc(),
-        keys,
-        text,
-        &[COUNT, COUNT],
-        options,
-        depot,
-        &gate,
-    )?;
-    let Ok(end) = ended else {
-        panic!(rt; "refused");
-    };
-    let six = Wanted::Rows(&[&[Int(6)]]);
-    assert!(rt; are_wanted(&end.answers, &[six, six]));
-    let story = &end.ran.story;
+// Two counts over six chunks, on two workers beside the gate.
+fn end_beside<R: Abort + RandomSource + Threads + Wait + Sync>(
+    rt: &R,
+    alloc: Global,
+    gate: &HandOverHand,
+) -> Result<BatchEnd<MemDepot>, Fail> {
+    let keys = RandomState::new(rt)?;
+    let (text, depot) = (SIX_ROWS.as_bytes(), MemDepot::new(alloc));
+    match run(rt, alloc, keys, text, &[COUNT, COUNT], OPTIONS, depot, gate)? {
+        Ok(end) => Ok(end),
+        Err(_) => panic!(rt; "refused"),
+    }
+}
+
+// Whether the calls are the deliveries to a worker.
+fn are_deliveries(alloc: Global, told: Told, story: &[Entry], to: u32) -> Result<bool, Fail> {
+    Ok(told.calls.into_inner() == deliveries_to(alloc, story, to)?)
+}
+
+// Whether the gate was told each delivery, and each worker held its chunk meanwhile.
+fn is_told(alloc: Global, gate: HandOverHand, story: &[Entry]) -> Result<bool, Fail> {
     let HandOverHand {
         first,
         second,
         late,
     } = gate;
-    assert!(rt;
-        first.calls.into_inner() == deliveries_to(rt.alloc(), story, 0)?,
-        "worker 0"
-    );
-    assert!(rt;
-        second.calls.into_inner() == deliveries_to(rt.alloc(), story, 1)?,
-        "worker 1"
-    );
-    assert!(rt; goes_hand_over_hand(story), "nobody held a chunk");
-    assert!(rt; late.load(Ordering::SeqCst) == 0, "a wait gave up");
+    let to_first = are_deliveries(alloc, first, story, 0)?;
+    let to_second = are_deliveries(alloc, second, story, 1)?;
+    let in_time = late.load(Ordering::SeqCst) == 0;
+    Ok(to_first && to_second && in_time && goes_hand_over_hand(story))
+}
+
+#[test]
+fn the_gate_is_called_once_for_each_delivery_before_its_release(
+    rt: HostRuntime,
+) -> Result<(), Fail> {
+    let gate = HandOverHand {
+        first: Told::new(rt.alloc()),
+        second: Told::new(rt.alloc()),
+        late: AtomicU64::new(0),
+    };
+    let end = end_beside(&rt, rt.alloc(), &gate)?;
+    assert!(rt; are_wanted(&end.answers, BOTH_SIX));
+    assert!(rt; is_told(rt.alloc(), gate, &end.ran.story)?);
     Ok(())
 }

@@ -8,7 +8,7 @@ use cscan::NoGate;
 use piece_format::Layout;
 use policy_box::Elevator;
 use policy_plain::{Attach, Normal};
-use relevance::Relevance;
+use relevance::{Policy, Relevance};
 use scan_story::{Entry, Need, PolicyName, Setting};
 use std::alloc::Global;
 use std::collections::LinkedList;
@@ -180,6 +180,25 @@ fn setting_of(alloc: Global, name: PolicyName, batch: &Batch) -> Result<Setting,
     })
 }
 
+// Runs statements over a table under a policy.
+fn end_under<R: Abort + RandomSource + Threads + Wait + Sync, P: Policy>(
+    rt: &R,
+    alloc: Global,
+    text: &[u8],
+    statements: &[&[u8]],
+    options: Options,
+    policy: P,
+) -> Result<BatchEnd<MemDepot>, Fail> {
+    let keys = RandomState::new(rt)?;
+    let depot = MemDepot::new(alloc);
+    match run_under(
+        rt, alloc, keys, text, statements, options, depot, policy, &NoGate,
+    )? {
+        Ok(end) => Ok(end),
+        Err(_) => panic!(rt; "refused"),
+    }
+}
+
 // Runs statements over a table under a new policy of this name.
 fn run_by<R: Abort + RandomSource + Threads + Wait + Sync>(
     rt: &R,
@@ -189,35 +208,11 @@ fn run_by<R: Abort + RandomSource + Threads + Wait + Sync>(
     statements: &[&[u8]],
     options: Options,
 ) -> Result<BatchEnd<MemDepot>, Fail> {
-    let keys = RandomState::new(rt)?;
-    let depot = MemDepot::new(alloc);
-    let gate = &NoGate;
-    let end = match name {
-        PolicyName::Relevance => run_under(
-            rt, alloc, keys, text, statements, options, depot, Relevance, gate,
-        ),
-        PolicyName::Elevator => {
-            let policy = Elevator::new();
-            run_under(
-                rt, alloc, keys, text, statements, options, depot, policy, gate,
-            )
-        }
-        PolicyName::Normal => {
-            let policy = Normal::new();
-            run_under(
-                rt, alloc, keys, text, statements, options, depot, policy, gate,
-            )
-        }
-        PolicyName::Attach => {
-            let policy = Attach::new();
-            run_under(
-                rt, alloc, keys, text, statements, options, depot, policy, gate,
-            )
-        }
-    };
-    match end? {
-        Ok(end) => Ok(end),
-        Err(_) => panic!(rt; "refused"),
+    match name {
+        PolicyName::Relevance => end_under(rt, alloc, text, statements, options, Relevance),
+        PolicyName::Elevator => end_under(rt, alloc, text, statements, options, Elevator::new()),
+        PolicyName::Normal => end_under(rt, alloc, text, statements, options, Normal::new()),
+        PolicyName::Attach => end_under(rt, alloc, text, statements, options, Attach::new()),
     }
 }
 
