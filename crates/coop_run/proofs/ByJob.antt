@@ -18,16 +18,16 @@ use Rattle.run_decision.specs.Devices.{DepotAt, OverShelf, OverSink}
 use Rattle.run_decision.specs.Running.{Text}
 use Rattle.run_decision.specs.Work.{Work}
 use Rattle.run_decision.proofs.Stopping.{first-before}
-use Rattle.run_policies.specs.Comparing.{Compares, DoesNothing}
-use Rattle.run_policies.specs.Comparing as comparing
-use Rattle.run_policies.specs.Lines.{lines_of}
-use Rattle.run_policies.specs.Policies.{PolicyAt, policy_at}
-use Rattle.run_policies.specs.Joined.{joined_story}
-use Rattle.run_policies.proofs.Ends.{compared_tells, compared_writes}
-use Rattle.run_policies.proofs.Joining as joining
-use Rattle.run_policies.proofs.Unanswered.{one-cause}
-use Rattle.run_policies.specs.Unanswered.{HasCause}
-use Rattle.run_policies.specs.declared.policy_run.PolicyRun.{PolicyRun}
+use Rattle.coop_run.specs.Compared.{Compares, DoesNothing}
+use Rattle.coop_run.specs.Compared as comparison
+use Rattle.coop_run.specs.Lines.{lines_of}
+use Rattle.coop_run.specs.Policies.{PolicyAt, policy_at}
+use Rattle.coop_run.specs.Joined.{joined_story}
+use Rattle.coop_run.proofs.Decided.{compared_tells, compared_writes}
+use Rattle.coop_run.proofs.Joining as joining
+use Rattle.coop_run.proofs.Unanswered.{one-cause}
+use Rattle.coop_run.specs.Unanswered.{HasCause}
+use Rattle.coop_run.specs.declared.policy_run.PolicyRun.{PolicyRun}
 use Rattle.coop_run.specs.Boxed.{ComparesNothing, DecidesAndPrintsOn, DecidesOn, HasCauseOn, IsCompleteOn, IsForAllPartsOn, IsUndone, KeepsHeadlineCutOn, KeepsHeadlineOn, KeepsPromisesOn, LacksMemoryAtFirst, LeavesItsWorkOn, LeavesRuns, WritesLines}
 use Rattle.coop_run.specs.Comparing.{AllHaveWorked, AreComplete, AreForAllParts, AreLines, Headlines, KeepsHeadlines, KeepsHeadlinesCut, Remark, for_any_parts, lost_for_memory, nothing_more}
 use Rattle.coop_run.specs.Devices.{Devices}
@@ -35,7 +35,7 @@ use Rattle.coop_run.specs.Ending.{ComesExactly, FailsAtEither, FailsAtTable, Has
 use Rattle.coop_run.specs.Jobs.{Job, refused, alone, compared, asked_in, asked_to_read}
 use Rattle.coop_run.specs.Promises.{FailsToRead, IsUsageExactly, MissesFile, StopsExactly}
 use Rattle.coop_run.specs.Runs.{AreOfEach, DidRuns, did_runs, did_under, work_under}
-use Rattle.coop_run.proofs.Comparing.{any-headlines, memory-headlines, parts-headlines, policy_name, run_name, runs-names, runs-small, runs-stop, runs-worked}
+use Rattle.coop_run.proofs.Comparisons.{any-headlines, memory-headlines, parts-headlines, policy_name, run_name, runs-names, runs-small, runs-stop, runs-worked}
 use Rattle.coop_run.proofs.Endings as ends
 use Rattle.coop_run.proofs.Failing.{EndsFirst, Faulty, IsEarly, excused-early, excused-late, fails-at-batch, fails-at-table, fault-status, misses, stops-behind, stops-first}
 use Rattle.coop_run.proofs.Endings.{IsRefused, early-refused, is-fault, is-memory, is-usage, late-status, memory-writes, no-change, refused-others, stopped-by, stops-late, text-told, write-fault-by}
@@ -102,20 +102,20 @@ compares-of r shelf p ps old new runs d (inr is) = is
 
 -- where the shelf tells what it holds, the texts are those that it tells
 compares-told : (r : Request) (files : List ℕ → Option (List ℕ)) (shelf : OverShelf) (ps : List PolicyAt) (old new : DepotAt) (runs : List PolicyRun) (d : Result Text Stop) → shelf.held ≡ Some files
-    → Compares r shelf ps old new runs d → comparing.ComesTo r (text_in (table_source r.table) files) (text_in (batch_source r.batch) files) shelf ps old new runs d
+    → Compares r shelf ps old new runs d → comparison.ComesTo r (text_in (table_source r.table) files) (text_in (batch_source r.batch) files) shelf ps old new runs d
 compares-told r files shelf ps old new runs d held is =
     let table = text-told shelf.held files (table_source r.table) is.table held is.table_is in
     let batch = text-told shelf.held files (batch_source r.batch) is.batch held is.batch_is in
-    subst (λ (t : Option (List ℕ)). comparing.ComesTo r t (text_in (batch_source r.batch) files) shelf ps old new runs d) table
-    (subst (λ (b : Option (List ℕ)). comparing.ComesTo r is.table b shelf ps old new runs d) batch is.comes)
+    subst (λ (t : Option (List ℕ)). comparison.ComesTo r t (text_in (batch_source r.batch) files) shelf ps old new runs d) table
+    (subst (λ (b : Option (List ℕ)). comparison.ComesTo r is.table b shelf ps old new runs d) batch is.comes)
 
 module _ (r : Request) (table batch : Option (List ℕ)) (shelf : OverShelf) (ps : List PolicyAt) (old new : DepotAt) (runs : List PolicyRun) where
-  comes-small : (o : Text) → comparing.ComesTo r table batch shelf ps old new runs (Ok o) → o.0 ≤ 1
+  comes-small : (o : Text) → comparison.ComesTo r table batch shelf ps old new runs (Ok o) → o.0 ≤ 1
   comes-small o (inl (accepted, are)) = runs-small r table batch ps old new runs o are
   comes-small o (inr before) = absurd before.stops
 
   -- a status of a refusal comes of the first stop
-  comes-only : (s : Stop) (due : ℕ) → IsRefused due → due ≡ status_of s → comparing.ComesTo r table batch shelf ps old new runs (Err s) → HasStatus due (first_stop r table batch)
+  comes-only : (s : Stop) (due : ℕ) → IsRefused due → due ≡ status_of s → comparison.ComesTo r table batch shelf ps old new runs (Err s) → HasStatus due (first_stop r table batch)
   comes-only s due is_due by (inl (accepted, are)) = elim (runs-stop r table batch ps old new runs s are) [
     | inl memory ↦ absurd ((refused-others due is_due).0 (by ∙ ap status_of memory))
     | inr (piece, is, rose) ↦ absurd ((refused-others due is_due).1 (by ∙ ap status_of is))
@@ -127,14 +127,14 @@ module _ (r : Request) (table batch : Option (List ℕ)) (shelf : OverShelf) (ps
   ]
 
   -- where there is a first stop the work ends with its status, out of memory, or since the shelf failed
-  comes-always : (d : Result Text Stop) (status : ℕ) (sink : OverSink) (due : ℕ) → comparing.ComesTo r table batch shelf ps old new runs d → Prints d status sink → HasStatus due (first_stop r table batch)
+  comes-always : (d : Result Text Stop) (status : ℕ) (sink : OverSink) (due : ℕ) → comparison.ComesTo r table batch shelf ps old new runs d → Prints d status sink → HasStatus due (first_stop r table batch)
       → EndsFirst r table shelf d due status
   comes-always d status sink due (inl (accepted, are)) prints (t, first, by) = cc (accepted, first)
   comes-always (Ok o) status sink due (inr before) prints h = absurd before.stops
   comes-always (Err s) status sink due (inr before) prints h = stops-first r table batch shelf s status sink due before.stops prints h
 
   -- a fault of the batch comes behind a table that is accepted
-  comes-behind : comparing.ComesTo r table batch shelf ps old new runs (Err stop.BatchFault) → AcceptsTable r table
+  comes-behind : comparison.ComesTo r table batch shelf ps old new runs (Err stop.BatchFault) → AcceptsTable r table
   comes-behind (inl (accepted, are)) = elim (runs-stop r table batch ps old new runs stop.BatchFault are) [
     | inl memory ↦ cc memory
     | inr (piece, is, rose) ↦ cc is
@@ -142,7 +142,7 @@ module _ (r : Request) (table batch : Option (List ℕ)) (shelf : OverShelf) (ps
   comes-behind (inr before) = stops-behind r table batch shelf before.stops
 
   -- where nothing refuses the runs and no device counts a fault, memory ran out
-  comes-excused : (s : Stop) → first_stop r table batch ≡ None → (Rose shelf.before shelf.now → ⊥) → (Rose old.faults new.faults → ⊥) → comparing.ComesTo r table batch shelf ps old new runs (Err s) → s ≡ stop.Memory
+  comes-excused : (s : Stop) → first_stop r table batch ≡ None → (Rose shelf.before shelf.now → ⊥) → (Rose old.faults new.faults → ⊥) → comparison.ComesTo r table batch shelf ps old new runs (Err s) → s ≡ stop.Memory
   comes-excused s none no_read no_put (inl (accepted, are)) = elim (runs-stop r table batch ps old new runs s are) [
     | inl memory ↦ memory
     | inr (piece, is, rose) ↦ absurd (no_put rose)
@@ -153,7 +153,7 @@ module _ (r : Request) (table batch : Option (List ℕ)) (shelf : OverShelf) (ps
     | inr (inr (fault, rose)) ↦ absurd (no_read rose)
   ]
 
-  comes-rose : (s : Stop) → status_of s ≡ 5 → comparing.ComesTo r table batch shelf ps old new runs (Err s) → Rose old.faults new.faults
+  comes-rose : (s : Stop) → status_of s ≡ 5 → comparison.ComesTo r table batch shelf ps old new runs (Err s) → Rose old.faults new.faults
   comes-rose s five (inl (accepted, are)) = elim (runs-stop r table batch ps old new runs s are) [
     | inl memory ↦ cc (five, ap status_of memory)
     | inr (piece, is, rose) ↦ rose
@@ -171,7 +171,7 @@ compares-faulty r shelf ps old new runs d is = record {
   behind = λ e. record {
     table = is.table;
     table_is = is.table_is;
-    accepted = comes-behind r is.table is.batch shelf ps old new runs (subst (λ (x : Result Text Stop). comparing.ComesTo r is.table is.batch shelf ps old new runs x) e is.comes);
+    accepted = comes-behind r is.table is.batch shelf ps old new runs (subst (λ (x : Result Text Stop). comparison.ComesTo r is.table is.batch shelf ps old new runs x) e is.comes);
   };
 }
 
@@ -188,7 +188,7 @@ compared-small : (r : Request) (shelf : OverShelf) (ps : List PolicyAt) (old new
 compared-small r shelf [] old new runs d is o e = nothing-small r shelf old new runs o (subst (λ (x : Result Text Stop). DecidesOn (compared r []) shelf old new runs x) e is)
 compared-small r shelf (p ∷ ps) old new runs d is o e =
     let compares = compares-of r shelf p ps old new runs d is in
-    comes-small r compares.table compares.batch shelf (p ∷ ps) old new runs o (subst (λ (x : Result Text Stop). comparing.ComesTo r compares.table compares.batch shelf (p ∷ ps) old new runs x) e compares.comes)
+    comes-small r compares.table compares.batch shelf (p ∷ ps) old new runs o (subst (λ (x : Result Text Stop). comparison.ComesTo r compares.table compares.batch shelf (p ∷ ps) old new runs x) e compares.comes)
 
 -- what the workers did
 none-worked : (r : Request) (shelf : OverShelf) (ps : List PolicyAt) (old : DepotAt) (runs : List PolicyRun) → runs ≡ [] → AllHaveWorked r ps shelf old runs
@@ -313,7 +313,7 @@ module _ (r : Request) (ps : List PolicyAt) (shelf : OverShelf) (old new : Depot
       inl (e ∙ ap status_of (excused r files shelf ps old new runs s is honest.shelf_tells none faultless.shelf_is faultless.depot_is))
 
 -- the runs that are left
-named-in : (r : Request) (ps : List PolicyAt) (shelf : OverShelf) (old new : DepotAt) (runs : List PolicyRun) (d : Result Text Stop) → comparing.IsCompared r shelf ps old new runs d
+named-in : (r : Request) (ps : List PolicyAt) (shelf : OverShelf) (old new : DepotAt) (runs : List PolicyRun) (d : Result Text Stop) → comparison.IsCompared r shelf ps old new runs d
     → (without : List PolicyName) × (map policy_name ps ≡ map run_name runs ++ without) × ((o : Text) → d ≡ Ok o → without ≡ [])
 named-in r [] shelf old new runs d is = ([], rw is.none refl, λ o e. refl)
 named-in r (p ∷ ps) shelf old new runs d is = elim is.comes [
@@ -321,7 +321,7 @@ named-in r (p ∷ ps) shelf old new runs d is = elim is.comes [
   | inr before ↦ (map policy_name (p ∷ ps), rw before.none refl, λ o e. absurd (subst (λ (x : Result Text Stop). StopsBefore r is.table is.batch shelf x) e before.stops))
 ]
 
-pub are-of-each : (r : Request) (ps : List PolicyAt) (shelf : OverShelf) (old new : DepotAt) (runs : List PolicyRun) (d : Result Text Stop) (status : ℕ) (sink : OverSink) → comparing.IsCompared r shelf ps old new runs d → Prints d status sink
+pub are-of-each : (r : Request) (ps : List PolicyAt) (shelf : OverShelf) (old new : DepotAt) (runs : List PolicyRun) (d : Result Text Stop) (status : ℕ) (sink : OverSink) → comparison.IsCompared r shelf ps old new runs d → Prints d status sink
     → AreOfEach ps status runs
 are-of-each r ps shelf old new runs (Ok o) status sink is prints = let (without, named, all) = named-in r ps shelf old new runs (Ok o) is in record { without = without; named = named; ran = λ ran. all o refl }
 are-of-each r ps shelf old new runs (Err s) status sink is prints = let (without, named, all) = named-in r ps shelf old new runs (Err s) is in record { without = without; named = named; ran = λ ran. absurd (never-stops s status sink prints ran) }
@@ -421,7 +421,7 @@ module _ (shelf : OverShelf) (old new : DepotAt) (runs : List PolicyRun) (d : Re
   }
 
   comes-for : (r : Request) (files : List ℕ → Option (List ℕ)) (p : PolicyAt) (ps : List PolicyAt) → Decides (compared r (p ∷ ps)) → shelf.held ≡ Some files
-      → comparing.ComesTo r (text_in (table_source r.table) files) (text_in (batch_source r.batch) files) shelf (p ∷ ps) old new runs d
+      → comparison.ComesTo r (text_in (table_source r.table) files) (text_in (batch_source r.batch) files) shelf (p ∷ ps) old new runs d
   comes-for r files p ps is held = compares-told r files shelf (p ∷ ps) old new runs d held (compares-of r shelf p ps old new runs d is)
 
   faulty-for : (r : Request) (p : PolicyAt) (ps : List PolicyAt) → Decides (compared r (p ∷ ps)) → Faulty r shelf d
@@ -437,7 +437,7 @@ module _ (shelf : OverShelf) (old new : DepotAt) (runs : List PolicyRun) (d : Re
       let late = late-status due is_due in
       record {
         only = λ e. let (s, d_is, by) = stopped-compared r (p ∷ ps) is prints (omega (arith, e, late.0)) (λ h. late.1 (sym e ∙ h)) in
-            comes-only r table batch shelf (p ∷ ps) old new runs s due is_due (sym e ∙ by) (subst (λ (x : Result Text Stop). comparing.ComesTo r table batch shelf (p ∷ ps) old new runs x) d_is comes);
+            comes-only r table batch shelf (p ∷ ps) old new runs s due is_due (sym e ∙ by) (subst (λ (x : Result Text Stop). comparison.ComesTo r table batch shelf (p ∷ ps) old new runs x) d_is comes);
         always = λ h. excuse h (comes-always r table batch shelf (p ∷ ps) old new runs d status sink due comes prints h);
       }
 
@@ -504,7 +504,7 @@ module _ (shelf : OverShelf) (old new : DepotAt) (runs : List PolicyRun) (d : Re
   put-fault-of (compared r (p ∷ ps)) is prints five =
       let (s, e, by) = stopped-compared r (p ∷ ps) is prints (omega (arith, five)) (λ h. cc (h, five)) in
       let compares = compares-of r shelf p ps old new runs d is in
-      comes-rose r compares.table compares.batch shelf (p ∷ ps) old new runs s (sym by ∙ five) (subst (λ (x : Result Text Stop). comparing.ComesTo r compares.table compares.batch shelf (p ∷ ps) old new runs x) e compares.comes)
+      comes-rose r compares.table compares.batch shelf (p ∷ ps) old new runs s (sym by ∙ five) (subst (λ (x : Result Text Stop). comparison.ComesTo r compares.table compares.batch shelf (p ∷ ps) old new runs x) e compares.comes)
 
   write-fault-of : (job : Job) → Decides job → Prints d status sink → status ≡ 6 → Rose sink.before sink.now
   write-fault-of refused is prints = ends.write-fault-of None shelf nobodys d status sink (usage-of is) prints

@@ -5,7 +5,7 @@ use Rattle.command_words.specs.Options.{Request}
 use Rattle.policy_box.specs.First.{IsFirstOf}
 use Rattle.scan_story.specs.declared.setting.PolicyName.{PolicyName}
 use Rattle.scan_story.specs.declared.setting.PolicyName.TheVariants.{Relevance, Elevator, Normal, Attach}
-use Rattle.run_policies.specs.Policies.{PolicyAt, policy_at}
+use Rattle.coop_run.specs.Policies.{PolicyAt, policy_at}
 use Rattle.coop_run.specs.Jobs.{first_named, is_named, job_of, alone, compared, refused}
 
 -- a name is the wanted one, or the test says no

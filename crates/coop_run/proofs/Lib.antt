@@ -1,3 +1,11 @@
+pub mod Small
+pub mod Counting
+pub mod Stopped
+pub mod Joining
+pub mod Chain
+pub mod Meaning
+pub mod Decided
+pub mod Unanswered
 pub mod Losses
 pub mod Parts
 pub mod Failing
@@ -5,5 +13,5 @@ pub mod Endings
 pub mod Words
 pub mod Jobs
 pub mod Runs
-pub mod Comparing
+pub mod Comparisons
 pub mod ByJob

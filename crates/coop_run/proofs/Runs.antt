@@ -6,9 +6,9 @@ use Rattle.run_output.specs.declared.stop.Stop.{Stop}
 use Rattle.run_decision.specs.Deciding.{IsUntouched}
 use Rattle.run_decision.specs.Devices.{DepotAt, OverSink}
 use Rattle.coop_run.specs.Ending.{Prints}
-use Rattle.run_policies.specs.Joined.{joined_story}
-use Rattle.run_policies.specs.Policies.{PolicyAt}
-use Rattle.run_policies.specs.declared.policy_run.PolicyRun.{PolicyRun}
+use Rattle.coop_run.specs.Joined.{joined_story}
+use Rattle.coop_run.specs.Policies.{PolicyAt}
+use Rattle.coop_run.specs.declared.policy_run.PolicyRun.{PolicyRun}
 use Rattle.coop_run.specs.Runs.{AreOfOne, joined_taken, work_under}
 use Rattle.coop_run.proofs.Endings.{stops-late}
 

@@ -10,11 +10,11 @@ use Rattle.run_output.specs.declared.stop.Stop.TheVariants as stop
 use Rattle.run_decision.specs.Deciding.{IsDecided}
 use Rattle.run_decision.specs.Devices.{DepotAt, OverShelf}
 use Rattle.run_decision.specs.Running.{Text}
-use Rattle.run_policies.specs.Comparing.{IsCompared}
-use Rattle.run_policies.specs.Joined.{joined_story}
-use Rattle.run_policies.specs.Policies.{PolicyAt}
-use Rattle.run_policies.specs.Unanswered.{HasCause}
-use Rattle.run_policies.specs.declared.policy_run.PolicyRun.{PolicyRun}
+use Rattle.coop_run.specs.Compared.{IsCompared}
+use Rattle.coop_run.specs.Joined.{joined_story}
+use Rattle.coop_run.specs.Policies.{PolicyAt}
+use Rattle.coop_run.specs.Unanswered.{HasCause}
+use Rattle.coop_run.specs.declared.policy_run.PolicyRun.{PolicyRun}
 use Rattle.coop_run.specs.Comparing.{AllHaveWorked, AreComplete, AreForAllParts, AreLines, KeepsHeadlines, KeepsHeadlinesCut, LeavesAll}
 use Rattle.coop_run.specs.Devices.{Devices}
 use Rattle.coop_run.specs.Ending.{FailsAtEither, FailsAtTable, Prints}

@@ -8,11 +8,11 @@ use Rattle.run_decision.specs.Devices.{DepotAt, OverShelf, OverSink}
 use Rattle.run_decision.specs.Losses.{OnlyForMemory, SomeForMemory}
 use Rattle.run_decision.specs.Running.{IsWorked}
 use Rattle.run_decision.specs.Work.{Work}
-use Rattle.run_policies.specs.Comparing.{Over}
-use Rattle.run_policies.specs.Lines.{lines_of}
-use Rattle.run_policies.specs.Policies.{PolicyAt}
-use Rattle.run_policies.specs.Runs.{work_in}
-use Rattle.run_policies.specs.declared.policy_run.PolicyRun.{PolicyRun}
+use Rattle.coop_run.specs.Compared.{Over}
+use Rattle.coop_run.specs.Lines.{lines_of}
+use Rattle.coop_run.specs.Policies.{PolicyAt}
+use Rattle.coop_run.specs.PolicyRuns.{work_in}
+use Rattle.coop_run.specs.declared.policy_run.PolicyRun.{PolicyRun}
 use Rattle.coop_run.specs.Devices.{AreFaultless, AreHonest, Devices}
 use Rattle.coop_run.specs.Runs.{DidRuns}
 use Rattle.coop_run.specs.Ending.{Headline, IsCutShort, IsForAnyParts, IsWritten, stop_over}

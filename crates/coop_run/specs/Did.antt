@@ -4,7 +4,7 @@ use Rattle.scan_story.specs.declared.entry.Entry.{Entry}
 use Rattle.relevance.specs.declared.policy.Policy.{Ghosts as Policy}
 use Rattle.batch_run.specs.declared.taken.Taken.{Taken}
 use Rattle.run_decision.specs.Work.{Work, work}
-use Rattle.run_policies.specs.Policies.{PolicyAt, policy_at}
+use Rattle.coop_run.specs.Policies.{PolicyAt, policy_at}
 use Rattle.coop_run.specs.Devices.{Devices}
 
 -- WHAT A RUN DID under a policy: how it ended, what its workers recorded, the oldest entry first, and the chunks that its scans took;

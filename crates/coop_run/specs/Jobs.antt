@@ -1,7 +1,7 @@
 -- What a run is to do that is handed policies in boxes.
 use Rattle.std.specs.Prelude.{Bool, true, false, List, [], ◌∷◌, Option, Some, None, if◌then◌else◌}
 use Rattle.command_words.specs.Options.{Request}
-use Rattle.run_policies.specs.Policies.{PolicyAt}
+use Rattle.coop_run.specs.Policies.{PolicyAt}
 use Rattle.scan_story.specs.declared.setting.PolicyName.{PolicyName}
 use Rattle.scan_story.specs.declared.setting.PolicyName.TheVariants.{Relevance, Elevator, Normal, Attach}
 

@@ -1,9 +1,16 @@
 pub mod Boxed
+pub mod Compared
 pub mod Comparing
 pub mod Devices
 pub mod Did
 pub mod Ending
 pub mod Jobs
+pub mod Joined
+pub mod Lines
+pub mod Next
+pub mod Policies
+pub mod PolicyRuns
 pub mod Promises
 pub mod Runs
 pub mod Settings
+pub mod Unanswered

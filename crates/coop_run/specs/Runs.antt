@@ -4,9 +4,9 @@ use Rattle.scan_story.specs.declared.setting.PolicyName.{PolicyName}
 use Rattle.batch_run.specs.declared.taken.Taken.{Taken}
 use Rattle.run_decision.specs.Devices.{DepotAt}
 use Rattle.run_decision.specs.Work.{Work, work}
-use Rattle.run_policies.specs.Joined.{joined_story}
-use Rattle.run_policies.specs.Policies.{PolicyAt}
-use Rattle.run_policies.specs.declared.policy_run.PolicyRun.{PolicyRun}
+use Rattle.coop_run.specs.Joined.{joined_story}
+use Rattle.coop_run.specs.Policies.{PolicyAt}
+use Rattle.coop_run.specs.declared.policy_run.PolicyRun.{PolicyRun}
 use Rattle.coop_run.specs.Did.{Did, did_with}
 
 -- the chunks that the scans of runs took

@@ -1,6 +1,6 @@
 // What a run with boxed policies leaves.
 
-use run_policies::PolicyRun;
+use crate::policy_run::PolicyRun;
 
 /// What a run with boxed policies leaves.
 #[derive(Drop)]

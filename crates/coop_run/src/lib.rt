@@ -9,22 +9,32 @@
 //!
 //! `run` takes the words of the command line and carries the theorem; `run_settings` takes `Settings` in their place;
 //! `run_boxed` takes a list of policies in boxes, of which the words name one, or compares all. docs/COMMAND_LINE.md
-//! is the manual.
+//! is the manual, and docs/POLICIES.md tells the rules of a comparison.
 #![tactic(auto)]
 
 mod boxed;
 mod boxed_end;
+mod compared;
+mod comparing;
 mod ended;
+mod ending;
+mod handed;
+mod laws;
+mod lines;
+mod made;
 mod one_policy;
+mod policy_run;
 mod print;
 mod settings;
 mod settle;
+mod single;
 mod taken_policy;
 
 pub use boxed::run_boxed;
 pub use boxed_end::BoxedEnd;
 pub use ended::Ended;
+pub use laws::stops_are_stopped_queries;
 pub use one_policy::{run, run_settings};
 pub use piece_format::Layout;
-pub use run_policies::PolicyRun;
+pub use policy_run::PolicyRun;
 pub use settings::Settings;

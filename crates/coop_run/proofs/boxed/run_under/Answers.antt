@@ -1,7 +1,7 @@
 use Rattle.std.proofs.Common.{◌≡◌, Err, All, refl, subst}
 use Rattle.run_output.specs.declared.stop.Stop.TheVariants as stop
 use Rattle.scan_story.specs.declared.setting.PolicyName.{PolicyName}
-use Rattle.run_policies.specs.declared.policy_run.PolicyRun.{PolicyRun}
+use Rattle.coop_run.specs.declared.policy_run.PolicyRun.{PolicyRun}
 use Rattle.coop_run.specs.Did.{policy_of}
 use Rattle.coop_run.proofs.Runs.{none-of-one, untouched-under}
 use Rattle.coop_run.proofs.Words.{memory-ends}
