@@ -18,7 +18,6 @@ mod compared;
 mod comparing;
 mod ended;
 mod ending;
-mod handed;
 mod laws;
 mod lines;
 mod made;

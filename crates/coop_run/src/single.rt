@@ -6,8 +6,8 @@ ghost use Rattle.coop_run.specs.Policies.{policy_at};
 ghost use Rattle.coop_run.specs.PolicyRuns.{RunComesTo};
 
 use crate::ending::Ending;
-use crate::handed::Handed;
 use crate::policy_run::PolicyRun;
+use crate::taken_policy::TakenPolicy;
 use batch_run::Ran;
 use coop_outside::Depot;
 use cscan::Gate;
@@ -53,7 +53,7 @@ pub(crate) fn run_single<D: Depot + Send, T: Gate + Sync, R: Threads + Wait + Sy
         (depot_at (D.held result.1) (D.gets result.1) (D.faults result.1)) result.0 }
 {
     let name = name_of(&policy);
-    match answer(rt, alloc, inputs, depot, Handed { policy }, gate) {
+    match answer(rt, alloc, inputs, depot, TakenPolicy { policy }, gate) {
         Ok(answered) => {
             let Answered {
                 outcomes,

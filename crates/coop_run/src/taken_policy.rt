@@ -1,11 +1,12 @@
-// The policy that a run takes out of a list of boxes.
+// A policy out of a list of boxes.
 
 use interest_book::Book;
 use relevance::Policy;
 use scan_story::PolicyName;
 
-/// The policy that a run takes. Its name, its cursor and its picks are those of the policy in the box. It is a type of this
-/// crate's own, since a box of another crate's isn't handed on to calls that are generic in the policy.
+/// The policy that a run takes out of the list, or one of those that are compared. Its name, its cursor and its picks are
+/// those of the policy in the box. `policy_box::Boxed` is a type of another crate, at which a call that takes any policy
+/// isn't proved.
 #[derive(Drop)]
 pub struct TakenPolicy {
     pub policy: Box<dyn Policy + Send>,
