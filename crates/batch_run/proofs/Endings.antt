@@ -26,7 +26,7 @@ use Rattle.abm_policy.proofs.Meanwhile.{idle_stays}
 use Rattle.baton.specs.Passes.{AgreesWith, PassView, new_pass, new_passes}
 use Rattle.batch_run.specs.Crews.{up_to, workers_of}
 use Rattle.batch_run.specs.Workers.{Rests}
-use Rattle.multi_scan.proofs.Delivered.{by-past}
+use Rattle.batch_run.proofs.Delivered.{by-past}
 
 -- Each worker has a pass
 

@@ -32,7 +32,7 @@ use Rattle.frame_pool.specs.Frames.{Told}
 use Rattle.piece_format.specs.Shape.{TableShape}
 use Rattle.query_gather.specs.declared.partial.Partial.{Partial}
 use Rattle.cscan.specs.Stations.{Waits}
-use Rattle.multi_scan.specs.Parts.{registered}
+use Rattle.batch_run.specs.Parts.{registered}
 use Rattle.batch_run.specs.declared.job.Job.{Job}
 use Rattle.batch_run.specs.declared.worker.Worker.{Worker}
 use Rattle.batch_run.specs.declared.crew.Crew.{Crew}
@@ -48,7 +48,7 @@ use Rattle.batch_run.specs.Registering.{numbers_on}
 use Rattle.batch_run.specs.Whole.{LoadsAreBounded}
 use Rattle.batch_run.specs.Workers.{HasRun, Rests}
 use Rattle.batch_run.proofs.Coming.{came_later, came_over, over_inactive}
-use Rattle.multi_scan.proofs.Delivered.{reverse-first}
+use Rattle.batch_run.proofs.Delivered.{reverse-first}
 use Rattle.batch_run.proofs.Endings.{idle_at_end, none_underway}
 use Rattle.baton.proofs.Zips.{zip_length}
 use Rattle.batch_run.proofs.Registered.{registered_by, registered_once}

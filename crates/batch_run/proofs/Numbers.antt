@@ -9,7 +9,7 @@ use Rattle.table_core.specs.declared.cell.Cell.{Cell}
 use Rattle.piece_format.specs.Shape.{TableShape, rows_in}
 use Rattle.top_rows.specs.Rows.{Numbered, has_number}
 use Rattle.story_laws.proofs.Bools.{equal_number, or_left, or_right}
-use Rattle.multi_scan.specs.Rows.{chunk_numbers, numbers_of_chunks}
+use Rattle.batch_run.specs.Rows.{chunk_numbers, numbers_of_chunks}
 
 -- ---- how many
 

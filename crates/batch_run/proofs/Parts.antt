@@ -38,7 +38,7 @@ use Rattle.batch_plan.specs.Deal as dealing
 use Rattle.batch_plan.specs.Deal.{deal, dealt_to, is_dealt}
 use Rattle.batch_plan.proofs.Dealt.{all_dealt}
 use Rattle.cscan.specs.Tables.{HoldsTable}
-use Rattle.multi_scan.specs.Rows.{AreOfShape, FitsShape, chunk_numbers, chunk_rows, numbers_of_chunks, rows_of_chunks}
+use Rattle.batch_run.specs.Rows.{AreOfShape, FitsShape, chunk_numbers, chunk_rows, numbers_of_chunks, rows_of_chunks}
 use Rattle.batch_plan.specs.declared.task.Task.{Task}
 use Rattle.batch_plan.specs.Scans.{scan_number, scans_from_part}
 use Rattle.batch_plan.proofs.Rises.{rises_to}

@@ -12,7 +12,7 @@ use Rattle.chunk_interest.specs.declared.need.Need as asked
 use Rattle.chunk_interest.specs.Fresh.{as_need}
 use Rattle.piece_format.specs.Shape.{TableShape, IsShape}
 use Rattle.sql_bind.specs.declared.plan.Plan.{Plan}
-use Rattle.multi_scan.specs.Rows.{IsPlanOfShape}
+use Rattle.batch_run.specs.Rows.{IsPlanOfShape}
 use Rattle.batch_plan.specs.declared.task.Task.{Task}
 use Rattle.batch_plan.specs.Scans.{Scan, scans, scans_from, scans_from_part}
 use Rattle.batch_run.specs.declared.job.Job.{Job}

@@ -17,8 +17,8 @@ use Rattle.story_laws.proofs.Active.{active_parts}
 use Rattle.story_laws.proofs.Bools.{either, if_here, if_not, not_both, or_false, same_number}
 use Rattle.story_laws.proofs.Sums.{among_none}
 use Rattle.abm_policy.proofs.Meanwhile.{not_mine}
-use Rattle.multi_scan.specs.Parts.{registered}
-use Rattle.multi_scan.proofs.Delivered.{by-past, delivered-past}
+use Rattle.batch_run.specs.Parts.{registered}
+use Rattle.batch_run.proofs.Delivered.{by-past, delivered-past}
 
 -- By the entries of its worker
 

@@ -30,14 +30,14 @@ use Rattle.cscan.specs.Scans.{IsOver}
 use Rattle.cscan.specs.Stations.{Waits}
 use Rattle.atomic_table.specs.Seated.{TableId}
 use Rattle.frame_pool.specs.Berths.{PoolView}
-use Rattle.multi_scan.specs.Gathered.{Gathered}
+use Rattle.batch_run.specs.Gathered.{Gathered}
 use Rattle.sql_bind.specs.declared.plan.Plan.{Plan}
 use Rattle.batch_run.specs.Came.{CameFor}
-use Rattle.multi_scan.proofs.Delivered.{delivered_by}
+use Rattle.batch_run.proofs.Delivered.{delivered_by}
 use Rattle.cscan.proofs.Stories.{delivered_append}
-use Rattle.multi_scan.specs.declared.part.Unfinished.{Unfinished}
-use Rattle.multi_scan.specs.declared.part.Unfinished.TheVariants as unfinished
-use Rattle.multi_scan.specs.Parts.{CameTo, WentFor, registered}
+use Rattle.batch_run.specs.declared.part.Unfinished.{Unfinished}
+use Rattle.batch_run.specs.declared.part.Unfinished.TheVariants as unfinished
+use Rattle.batch_run.specs.Parts.{CameTo, WentFor, registered}
 use Rattle.cscan.specs.declared.scan.CScan.{CScan}
 use Rattle.batch_run.specs.declared.job.Job.{Job}
 use Rattle.batch_run.specs.Jobs.{numbers_of}

@@ -19,7 +19,7 @@ use Rattle.scan_story.specs.Views.{History, is_ended, is_stopped, past}
 use Rattle.story_laws.specs.Queries.{chunks_delivered}
 use Rattle.story_laws.proofs.Bools.{or_false}
 use Rattle.chunk_interest.specs.Fresh.{as_need}
-use Rattle.multi_scan.proofs.Delivered.{story_all, story_once}
+use Rattle.batch_run.proofs.Delivered.{story_all, story_once}
 use Rattle.batch_plan.specs.Deal.{deal, is_dealt}
 use Rattle.batch_plan.specs.Scans.{Scan, need_of, needs}
 use Rattle.batch_run.specs.Taken.{TookNeed}

@@ -11,7 +11,7 @@ use Rattle.frame_pool.specs.Frames.{Told}
 use Rattle.piece_format.specs.Shape.{TableShape}
 use Rattle.sql_bind.specs.declared.plan.Plan.{Plan}
 use Rattle.query_gather.specs.declared.partial.Partial.{Partial}
-use Rattle.multi_scan.specs.Gathered.{Gathered}
+use Rattle.batch_run.specs.Gathered.{Gathered}
 use Rattle.batch_plan.specs.Scans.{Scan}
 
 -- what came of the scan with this number and plan by the story: it has its End and what is gathered is of the chunks that were

@@ -6,7 +6,7 @@ ghost use Rattle.scan_story.specs.Views.{past};
 ghost use Rattle.abm_policy.specs.Depots.{Agrees, depot_view};
 ghost use Rattle.abm_policy.specs.Sound.{setting_of, start_of};
 ghost use Rattle.piece_format.specs.Shape.{IsShape, chunks, frame_words, groups};
-ghost use Rattle.multi_scan.specs.Rows.{IsPlanOfShape};
+ghost use Rattle.batch_run.specs.Rows.{IsPlanOfShape};
 ghost use Rattle.batch_plan.specs.Scans.{scans};
 ghost use Rattle.batch_plan.specs.Setting.{AreOptions};
 ghost use Rattle.batch_run.specs.Came.{CameOf, IsNeedOf};

@@ -7,7 +7,7 @@ ghost use Rattle.abm_policy.specs.Depots.{Agrees, depot_view};
 ghost use Rattle.abm_policy.specs.Sound.{setting_of, start_of};
 ghost use Rattle.piece_format.specs.Shape.{IsShape, chunks, frame_words, groups};
 ghost use Rattle.cscan.specs.Tables.{TellAlike};
-ghost use Rattle.multi_scan.specs.Rows.{IsPlanOfShape};
+ghost use Rattle.batch_run.specs.Rows.{IsPlanOfShape};
 ghost use Rattle.batch_plan.specs.Scans.{scans};
 ghost use Rattle.batch_plan.specs.Setting.{AreOptions};
 ghost use Rattle.batch_run.specs.Came.{CameOf, IsNeedOf};
