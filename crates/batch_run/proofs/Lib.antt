@@ -13,7 +13,6 @@ pub mod Noted
 pub mod Batches
 pub mod Written
 pub mod Ending
-mod ChunkNumbers
 mod Gathering
 mod Reading
 mod Taking

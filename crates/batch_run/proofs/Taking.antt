@@ -28,7 +28,7 @@ use Rattle.batch_run.specs.Gathered.{Gathered}
 use Rattle.batch_run.specs.Parts.{AreAllOnce, WentFor, registered}
 use Rattle.batch_run.proofs.Delivered.{delivered_by, once_push, story_all, story_once}
 use Rattle.batch_run.proofs.Gathering.{count_of}
-use Rattle.batch_run.proofs.ChunkNumbers.{few_numbers, length_more}
+use Rattle.batch_run.proofs.Numbers.{few_numbers, length_more}
 
 -- For one query alone
 

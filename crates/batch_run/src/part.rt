@@ -19,7 +19,7 @@ use sql_bind::Plan;
 use std::sync::Wait;
 
 /// Why a part has no rows to give.
-#[derive(Clone, Copy, Debug, PartialEq, Eq)]
+#[derive(Clone, Copy)]
 pub(crate) enum Unfinished {
     /// The scan was stopped, and is over.
     Stopped(Cause),
