@@ -6,7 +6,6 @@ use Rattle.scan_story.specs.declared.cause.Cause.TheVariants as causes
 use Rattle.scan_story.specs.declared.entry.Entry.{Entry}
 use Rattle.scan_story.specs.declared.entry.Entry.TheVariants.{Deliver, End, Evict, Failed, Fill, Filled, Plan, Register, Release, Stop}
 use Rattle.scan_story.specs.declared.origin.Start.{Start}
-use Rattle.scan_story.specs.declared.setting.Setting.{Setting}
 use Rattle.scan_story.specs.Causes.{cause_by, cause_of, or_else}
 use Rattle.scan_story.specs.Legal.{Legal}
 use Rattle.scan_story.specs.Makers.{StartsWith, entries_by}
@@ -20,9 +19,9 @@ use Rattle.frame_pool.specs.Frames.{Told}
 use Rattle.piece_format.specs.Shape.{TableShape}
 use Rattle.sql_bind.specs.declared.plan.Plan.{Plan as Query}
 use Rattle.query_gather.specs.declared.partial.Partial.{Partial}
-use Rattle.multi_scan.specs.Gathered.{Gathered}
+use Rattle.batch_run.specs.Gathered.{Gathered}
+use Rattle.batch_run.proofs.Delivered.{delivered_by}
 use Rattle.batch_run.specs.Came.{CameFor}
-use Rattle.multi_scan.proofs.Delivered.{delivered_by}
 
 -- As the history grows
 

@@ -38,12 +38,12 @@ use Rattle.top_rows.specs.Rows.{Numbered}
 use Rattle.table_pieces.specs.Putting.{AreLong, ArePut, AreSound, GiveBack, ReadBack}
 use Rattle.table_pieces.specs.Shaping.{shape_of}
 use Rattle.table_pieces.specs.Zoning.{NoMatchOutside, chunk_zones, zones_in}
-use Rattle.multi_scan.specs.Rows.{AreOfShape, FitsShape, IsPlanOfShape}
 use Rattle.batch_plan.specs.declared.options.Options.{Options}
 use Rattle.batch_plan.specs.declared.task.Task.{Task}
 use Rattle.batch_plan.specs.Scans.{Scan, needs, scans}
 use Rattle.batch_plan.specs.Setting.{AreOptions, batch_setting}
 use Rattle.batch_plan.proofs.Planned.{some_queries}
+use Rattle.batch_run.specs.Rows.{AreOfShape, FitsShape, IsPlanOfShape}
 use Rattle.batch_run.specs.Came.{CameOf, IsNeedOf}
 use Rattle.batch_run.specs.Whole.{IsWholeStory}
 use Rattle.batch_run.specs.Answering.{AnswersSome, AreAllJoinable, Came}

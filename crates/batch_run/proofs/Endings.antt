@@ -1,10 +1,8 @@
 -- The end of a batch: each worker rests, by what it saw last.
-use Rattle.std.proofs.Common.{◌≡◌, ◌≢◌, ◌==◌, ◌||◌, ◌<◌, ◌≤◌, ◌+◌, ◌*◌, ◌++◌, ◌∷◌, [], ℕ, zero, suc, Bool, true, false, List, Option, None, Some, All, length, map, reverse, min, filter, if◌then◌else◌, arith, refl, sym, ap, ◌∙◌, subst, ⊎_elim}
+use Rattle.std.proofs.Common.{◌≡◌, ◌==◌, ◌||◌, ◌<◌, ◌≤◌, ◌++◌, ◌∷◌, [], ℕ, zero, suc, Bool, true, false, List, Option, None, Some, All, if◌then◌else◌, arith, refl, sym, ap, ◌∙◌, subst, ⊎_elim}
 use Rattle.std.specs.List.{AllByRecursion}
 use Rattle.std.proofs.lemmas.Bool.{cases_lt}
-use Rattle.std.proofs.lemmas.List.{append-nil, map-append, reverse-reverse}
-use Rattle.std.proofs.lemmas.List.Elements.{All-append, All-head, All-tail, All-pop, recursion_from_All}
-use Rattle.atomic_table.specs.Seated.{TableId}
+use Rattle.std.proofs.lemmas.List.Elements.{All-head, All-tail}
 use Rattle.scan_story.specs.declared.entry.Entry.{Entry}
 use Rattle.scan_story.specs.declared.entry.Entry.TheVariants.{Deliver, End, Evict, Failed, Fill, Filled, Plan, Register, Release, Stop}
 use Rattle.scan_story.specs.declared.origin.Start.{Start}
@@ -17,16 +15,14 @@ use Rattle.scan_story.specs.Makers.{entries_by, maker_of}
 use Rattle.scan_story.specs.MayFollow.{Allowed, IsIdle}
 use Rattle.scan_story.specs.Setting.{HasRoom, IsSetting, IsStart}
 use Rattle.scan_story.specs.Views.{History, past}
-use Rattle.scan_story.proofs.Prefixes.{past_next}
-use Rattle.story_laws.proofs.Bools.{either, equal_number, if_not, not_both, or_left, or_right, same_number}
+use Rattle.story_laws.proofs.Bools.{either, equal_number, not_both, or_left, or_right, same_number}
 use Rattle.story_laws.proofs.Grouped.{worker_below}
 use Rattle.story_laws.proofs.Laws.{holders_are_workers, loads_are_proper}
-use Rattle.abm_policy.specs.Waiting.{WentOn}
 use Rattle.abm_policy.proofs.Meanwhile.{idle_stays}
-use Rattle.baton.specs.Passes.{AgreesWith, PassView, new_pass, new_passes}
+use Rattle.baton.specs.Passes.{AgreesWith, PassView}
+use Rattle.batch_run.proofs.Delivered.{by-past}
 use Rattle.batch_run.specs.Crews.{up_to, workers_of}
 use Rattle.batch_run.specs.Workers.{Rests}
-use Rattle.multi_scan.proofs.Delivered.{by-past}
 
 -- Each worker has a pass
 

@@ -1,5 +1,5 @@
 -- The end of a batch: what each worker leaves is what came of all jobs, and the story is whole.
-use Rattle.std.proofs.Common.{◌≡◌, ◌≢◌, ◌==◌, ◌||◌, ◌&&◌, not, ◌<◌, ◌≤◌, ◌+◌, ◌*◌, ◌++◌, ◌∷◌, [], ℕ, zero, suc, Bool, true, false, List, Some, Result, All, map, filter, reverse, get_or, length, min, if◌then◌else◌, add-one, arith, length-append, refl, sym, ap, ◌∙◌, subst, ⊎_elim}
+use Rattle.std.proofs.Common.{◌≡◌, ◌==◌, ◌||◌, ◌<◌, ◌≤◌, ◌+◌, ◌++◌, ◌∷◌, [], ℕ, zero, suc, Bool, true, false, List, Result, All, map, filter, reverse, get_or, length, min, if◌then◌else◌, add-one, arith, length-append, refl, sym, ap, ◌∙◌, subst, ⊎_elim}
 use Rattle.std.specs.List.{AllByRecursion, AllZip}
 use Rattle.std.proofs.lemmas.Bool.{cases_lt}
 use Rattle.std.proofs.lemmas.List.{get_or_append_left, get_or_push, length-map, map-append}
@@ -11,45 +11,42 @@ use Rattle.scan_story.specs.declared.cause.Cause.{Cause}
 use Rattle.scan_story.specs.declared.entry.Entry.{Entry}
 use Rattle.scan_story.specs.declared.origin.Start.{Start}
 use Rattle.scan_story.specs.declared.setting.Need.{Need}
-use Rattle.scan_story.specs.declared.setting.Setting.{Setting}
 use Rattle.scan_story.specs.Counting.{count_among, has}
 use Rattle.scan_story.specs.Legal.{Legal}
 use Rattle.scan_story.specs.Makers.{StartsWith, entries_by}
 use Rattle.scan_story.specs.MayFollow.{IsIdle}
 use Rattle.scan_story.specs.Numbers.{available}
-use Rattle.scan_story.specs.Setting.{IsStart, worker_of}
-use Rattle.scan_story.specs.Spent.{deliveries, loads, stopped_queries}
-use Rattle.scan_story.specs.Views.{History, is_active, is_ended, is_registered, is_stopped, past, registers}
+use Rattle.scan_story.specs.Setting.{IsStart}
+use Rattle.scan_story.specs.Views.{History, is_active, is_ended, is_stopped, past, registers}
 use Rattle.scan_story.specs.Whole.{IsWhole}
 use Rattle.story_laws.specs.Bounds.{LoadsArePaid, two_of_each}
 use Rattle.story_laws.specs.Lists.{sum_among}
 use Rattle.story_laws.specs.Queries.{chunks_delivered}
 use Rattle.story_laws.proofs.Grouped.{worker_below}
-use Rattle.story_laws.proofs.Bools.{equal_number, if_other, or_left, or_right, same_number}
+use Rattle.story_laws.proofs.Bools.{equal_number, if_other, or_left, or_right}
 use Rattle.baton.specs.Passes.{AgreesWith, PassView, new_pass, new_passes}
 use Rattle.frame_pool.specs.Berths.{PoolView}
 use Rattle.frame_pool.specs.Frames.{Told}
 use Rattle.piece_format.specs.Shape.{TableShape}
 use Rattle.query_gather.specs.declared.partial.Partial.{Partial}
-use Rattle.cscan.specs.Stations.{Waits}
-use Rattle.multi_scan.specs.Parts.{registered}
+use Rattle.batch_run.specs.Parts.{registered}
+use Rattle.batch_run.proofs.Delivered.{reverse-first}
 use Rattle.batch_run.specs.declared.job.Job.{Job}
 use Rattle.batch_run.specs.declared.worker.Worker.{Worker}
 use Rattle.batch_run.specs.declared.crew.Crew.{Crew}
 use Rattle.batch_run.specs.declared.seating.Works.{Works}
 use Rattle.batch_run.specs.Came.{CameFor, CameOf}
-use Rattle.batch_run.specs.Crews.{AreFresh, IsFresh, passes_of, up_to, workers_of}
+use Rattle.batch_run.specs.Crews.{AreFresh, passes_of, up_to, workers_of}
 use Rattle.batch_run.specs.Works.{HasWorked}
 use Rattle.sql_bind.specs.declared.plan.Plan.{Plan}
 use Rattle.batch_plan.specs.Scans.{Scan}
 use Rattle.batch_run.specs.Jobs.{AreJobs, IsJob, IsJobOf, jobs_on, numbers_of}
-use Rattle.batch_run.specs.Lists.{AreCounted, AreSorted, CameOfAll, CameOfJob, list_of}
+use Rattle.batch_run.specs.Lists.{AreCounted, AreSorted, CameOfAll, CameOfJob}
 use Rattle.batch_run.specs.Registering.{numbers_on}
 use Rattle.batch_run.specs.Whole.{LoadsAreBounded}
 use Rattle.batch_run.specs.Workers.{HasRun, Rests}
 use Rattle.batch_run.proofs.Coming.{came_later, came_over, over_inactive}
-use Rattle.multi_scan.proofs.Delivered.{reverse-first}
-use Rattle.batch_run.proofs.Endings.{idle_at_end, none_underway}
+use Rattle.batch_run.proofs.Endings.{none_underway}
 use Rattle.baton.proofs.Zips.{zip_length}
 use Rattle.batch_run.proofs.Registered.{registered_by, registered_once}
 use Rattle.batch_run.proofs.Serving.{AreOn, all_on}

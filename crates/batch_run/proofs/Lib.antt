@@ -1,3 +1,4 @@
+pub mod Delivered
 pub mod Orders
 pub mod Stories
 pub mod Numbers
@@ -12,6 +13,9 @@ pub mod Noted
 pub mod Batches
 pub mod Written
 pub mod Ending
+mod Gathering
+mod Reading
+mod Taking
 mod Registered
 mod Coming
 mod Resting

@@ -7,7 +7,7 @@ use Rattle.std.proofs.lemmas.List.Sorted.{IsPermutation-append_comm, IsPermutati
 use Rattle.table_core.specs.Sets.{has, numbers_below}
 use Rattle.table_core.specs.declared.cell.Cell.{Cell}
 use Rattle.story_laws.specs.Lists.{NoneTwice}
-use Rattle.story_laws.proofs.Bools.{flipped, or_false, or_off, or_right}
+use Rattle.story_laws.proofs.Bools.{or_right}
 use Rattle.top_rows.specs.Rows.{Numbered}
 use Rattle.top_rows.proofs.Exchange.{rearranged}
 use Rattle.query_gather.specs.Agree.{Agree}

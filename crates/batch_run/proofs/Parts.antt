@@ -20,6 +20,7 @@ use Rattle.scan_story.specs.Causes.{cause_of}
 use Rattle.scan_story.specs.Views.{is_ended, past}
 use Rattle.story_laws.specs.Queries.{chunks_delivered}
 use Rattle.story_laws.proofs.Bools.{if_not}
+use Rattle.story_laws.proofs.Lists.{rising_once}
 use Rattle.frame_pool.specs.Frames.{Told}
 use Rattle.piece_format.specs.Shape.{TableShape}
 use Rattle.top_rows.specs.Rows.{Numbered, has_number}
@@ -38,15 +39,15 @@ use Rattle.batch_plan.specs.Deal as dealing
 use Rattle.batch_plan.specs.Deal.{deal, dealt_to, is_dealt}
 use Rattle.batch_plan.proofs.Dealt.{all_dealt}
 use Rattle.cscan.specs.Tables.{HoldsTable}
-use Rattle.multi_scan.specs.Rows.{AreOfShape, FitsShape, chunk_numbers, chunk_rows, numbers_of_chunks, rows_of_chunks}
 use Rattle.batch_plan.specs.declared.task.Task.{Task}
 use Rattle.batch_plan.specs.Scans.{scan_number, scans_from_part}
-use Rattle.batch_plan.proofs.Rises.{rises_to}
+use Rattle.batch_plan.proofs.Rises.{is_rising, rises_to}
+use Rattle.batch_run.specs.Rows.{AreOfShape, FitsShape, chunk_numbers, chunk_rows, numbers_of_chunks, rows_of_chunks}
 use Rattle.batch_run.specs.Came.{CameOf}
 use Rattle.batch_run.specs.Answering.{AreApart, AreJoinable, Came, IsAnswerOf, first_cause}
 use Rattle.batch_run.specs.Lost.{cause_from, or_first, stop_of}
 use Rattle.batch_run.specs.Taken.{TookNeed}
-use Rattle.batch_run.proofs.Numbers.{chunk_taken, few_numbers, in_numbers}
+use Rattle.batch_run.proofs.Numbers.{few_numbers, in_chunks, in_numbers}
 use Rattle.batch_run.proofs.Orders.{agree_in_order, mapped_in_order, passing_in_order}
 use Rattle.batch_run.proofs.Stories.{took_dealt}
 
@@ -183,7 +184,7 @@ module _ (o : Start) (told : Told) (z : TableShape) (zones : List ChunkZones) (w
     tag_is part cs rows same asked k is =
         let c = k / z.per in
         let there : has (numbers_of_chunks z cs) k ≡ true = sym (ap (λ ns. has ns k) same) ∙ in_numbers rows k is in
-        let dealt = sym (has-numbers (is_dealt members parts part) 1024 c) ∙ asked c (chunk_taken z some cs k there) in
+        let dealt = sym (has-numbers (is_dealt members parts part) 1024 c) ∙ asked c (in_chunks z some cs k there).0 in
         eqb-true (tag k) part (and_parts (has members c) (dealing.place members c % parts == part) (and_parts (nat_lt c 1024) (is_dealt members parts part c) dealt).1).1
 
     pub gathered : (place part left : ℕ) (all : List Partial) → AreCame place part left (map Ok all) → Took place part left → AreGathered part left all
@@ -257,7 +258,7 @@ module _ (o : Start) (told : Told) (z : TableShape) (zones : List ChunkZones) (w
           let cs = chunks_from 0 parts in
           let long = sym (length-map (joined g.lists) Number) ∙ ap length g.numbers in
           let same = length_permutation (numbers_of_chunks z cs) (numbers_of_chunks z members) (mapped_in_order (chunk_numbers z) cs members (all_needed place all came took)) in
-          let few = few_numbers z 0 members 1024 rise in
+          let few = few_numbers z some members (rising_once members (is_rising 0 members 1024 rise)) in
           record {
             some = let n = long_enough place 0 parts all came in omega (arith, n, one_part);
             plan = t.plan;

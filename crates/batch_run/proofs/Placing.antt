@@ -1,5 +1,5 @@
 -- The scans of a batch by their places: each task has as many of them as there are parts.
-use Rattle.std.proofs.Common.{◌≡◌, ◌<◌, ◌≤◌, ◌+◌, ◌-◌, ◌*◌, ◌/◌, ◌++◌, ◌∷◌, [], ℕ, zero, suc, List, get_or, length, add-one, arith, length-append, refl, sym, ap, ◌∙◌, subst, ⊎_elim}
+use Rattle.std.proofs.Common.{◌≡◌, ◌<◌, ◌≤◌, ◌+◌, ◌-◌, ◌*◌, ◌/◌, ◌∷◌, [], ℕ, zero, suc, List, get_or, length, add-one, arith, length-append, refl, sym, ap, ◌∙◌, ⊎_elim}
 use Rattle.std.proofs.Math.Nat.{add-mul, div-eq-sub-div, div-eq_of_lt, div-lt_iff_lt-mul}
 use Rattle.std.proofs.lemmas.Bool.{cases_lt}
 use Rattle.std.proofs.lemmas.List.{get_or-append_right, get_or_append_left}

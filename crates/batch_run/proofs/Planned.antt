@@ -1,5 +1,5 @@
 -- The jobs of a batch, over the setting that its needs make.
-use Rattle.std.proofs.Common.{◌≡◌, ◌≢◌, ◌==◌, ◌<◌, ◌+◌, ◌++◌, ◌∷◌, [], ℕ, zero, suc, Bool, true, false, List, Some, All, find, map, length, if◌then◌else◌, arith, refl, sym, ap, ◌∙◌, subst}
+use Rattle.std.proofs.Common.{◌≡◌, ◌≢◌, ◌==◌, ◌<◌, ◌+◌, ◌++◌, ◌∷◌, [], ℕ, zero, suc, true, false, List, Some, All, find, map, length, refl, sym, ap, ◌∙◌, subst}
 use Rattle.std.specs.List.{AllByRecursion, AllZip}
 use Rattle.std.proofs.lemmas.List.Elements.{All-from_recursion, recursion_from_All}
 use Rattle.scan_story.specs.declared.setting.Need.{Need}
@@ -7,14 +7,14 @@ use Rattle.scan_story.specs.declared.setting.Setting.{Setting}
 use Rattle.scan_story.specs.Counting.{has}
 use Rattle.scan_story.specs.Setting.{AreDistinct, IsSetting, columns_in, need_of, worker_in}
 use Rattle.story_laws.specs.Lists.{NoneTwice}
-use Rattle.story_laws.proofs.Bools.{either, equal_number, if_here, if_not, if_other, not_both, or_off, same_number}
+use Rattle.story_laws.proofs.Bools.{either, equal_number, if_here, if_not, if_other, or_off, same_number}
 use Rattle.chunk_interest.specs.declared.need.Need as asked
 use Rattle.chunk_interest.specs.Fresh.{as_need}
 use Rattle.piece_format.specs.Shape.{TableShape, IsShape}
 use Rattle.sql_bind.specs.declared.plan.Plan.{Plan}
-use Rattle.multi_scan.specs.Rows.{IsPlanOfShape}
 use Rattle.batch_plan.specs.declared.task.Task.{Task}
 use Rattle.batch_plan.specs.Scans.{Scan, scans, scans_from, scans_from_part}
+use Rattle.batch_run.specs.Rows.{IsPlanOfShape}
 use Rattle.batch_run.specs.declared.job.Job.{Job}
 use Rattle.batch_run.specs.Came.{IsNeedOf}
 use Rattle.batch_run.specs.Jobs.{AreJobs, IsJob, IsJobOf, numbers_of}

@@ -14,11 +14,11 @@ use Rattle.scan_story.specs.Setting.{worker_of}
 use Rattle.scan_story.specs.Views.{History, is_registered, past, registers}
 use Rattle.story_laws.specs.Queries.{chunks_delivered}
 use Rattle.story_laws.proofs.Active.{active_parts}
-use Rattle.story_laws.proofs.Bools.{either, if_here, if_not, not_both, or_false, same_number}
+use Rattle.story_laws.proofs.Bools.{if_not, not_both, or_false, same_number}
 use Rattle.story_laws.proofs.Sums.{among_none}
 use Rattle.abm_policy.proofs.Meanwhile.{not_mine}
-use Rattle.multi_scan.specs.Parts.{registered}
-use Rattle.multi_scan.proofs.Delivered.{by-past, delivered-past}
+use Rattle.batch_run.specs.Parts.{registered}
+use Rattle.batch_run.proofs.Delivered.{by-past, delivered-past}
 
 -- By the entries of its worker
 

@@ -1,19 +1,16 @@
 -- A worker between two scans: which queries it may register, and what its next scan leaves.
-use Rattle.std.proofs.Common.{◌≡◌, ◌≢◌, ◌==◌, ◌&&◌, ◌||◌, ◌++◌, ◌∷◌, [], ℕ, Bool, true, false, List, Some, Result, Ok, Err, map, refl, sym, ap, ◌∙◌, subst, ⊎_elim}
-use Rattle.std.specs.List.{AllZip, list_any}
-use Rattle.std.proofs.lemmas.Bool.{cases_Bool}
+use Rattle.std.proofs.Common.{◌≡◌, ◌==◌, ◌&&◌, ◌||◌, ◌++◌, ◌∷◌, [], ℕ, true, false, List, Some, Result, Ok, Err, refl, sym, ap, ◌∙◌, subst, ⊎_elim}
+use Rattle.std.specs.List.{list_any}
 use Rattle.std.proofs.lemmas.List.{append-nil}
 use Rattle.scan_story.specs.declared.cause.Cause.{Cause}
 use Rattle.scan_story.specs.declared.cause.Cause.TheVariants as causes
 use Rattle.scan_story.specs.declared.entry.Entry.{Entry}
 use Rattle.scan_story.specs.declared.entry.Entry.TheVariants.{Register, Stop}
 use Rattle.scan_story.specs.declared.origin.Start.{Start}
-use Rattle.scan_story.specs.declared.setting.Setting.{Setting}
 use Rattle.scan_story.specs.Counting.{has}
 use Rattle.scan_story.specs.Legal.{Legal}
-use Rattle.scan_story.specs.Makers.{entries_by}
 use Rattle.scan_story.specs.MayFollow.{IsIdle, MayRegister}
-use Rattle.scan_story.specs.Setting.{IsSetting, IsStart, worker_of}
+use Rattle.scan_story.specs.Setting.{IsStart, worker_of}
 use Rattle.scan_story.specs.Views.{is_active, is_ended, is_registered, is_stopped, past}
 use Rattle.story_laws.specs.Queries.{chunks_delivered}
 use Rattle.story_laws.proofs.Active.{active_parts}
@@ -30,20 +27,20 @@ use Rattle.cscan.specs.Scans.{IsOver}
 use Rattle.cscan.specs.Stations.{Waits}
 use Rattle.atomic_table.specs.Seated.{TableId}
 use Rattle.frame_pool.specs.Berths.{PoolView}
-use Rattle.multi_scan.specs.Gathered.{Gathered}
 use Rattle.sql_bind.specs.declared.plan.Plan.{Plan}
+use Rattle.batch_run.specs.Gathered.{Gathered}
+use Rattle.batch_run.proofs.Delivered.{delivered_by}
+use Rattle.batch_run.specs.declared.part.Unfinished.{Unfinished}
+use Rattle.batch_run.specs.declared.part.Unfinished.TheVariants as unfinished
+use Rattle.batch_run.specs.Parts.{CameTo, WentFor, registered}
 use Rattle.batch_run.specs.Came.{CameFor}
-use Rattle.multi_scan.proofs.Delivered.{delivered_by}
 use Rattle.cscan.proofs.Stories.{delivered_append}
-use Rattle.multi_scan.specs.declared.part.Unfinished.{Unfinished}
-use Rattle.multi_scan.specs.declared.part.Unfinished.TheVariants as unfinished
-use Rattle.multi_scan.specs.Parts.{CameTo, WentFor, registered}
 use Rattle.cscan.specs.declared.scan.CScan.{CScan}
 use Rattle.batch_run.specs.declared.job.Job.{Job}
 use Rattle.batch_run.specs.Jobs.{numbers_of}
 use Rattle.batch_run.specs.Lists.{CameOfAll}
 use Rattle.batch_run.specs.Workers.{Ran}
-use Rattle.batch_run.proofs.Coming.{came_later, came_over, over_inactive}
+use Rattle.batch_run.proofs.Coming.{came_over, over_inactive}
 use Rattle.batch_run.proofs.Registered.{delivered_none, registered-append, registered_by}
 
 -- One scan

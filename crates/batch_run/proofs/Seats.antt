@@ -1,9 +1,8 @@
 -- Workers that take their stations, and leave them.
-use Rattle.std.proofs.Common.{◌≡◌, ◌≤◌, ◌+◌, ◌*◌, ◌++◌, ◌∷◌, [], ℕ, zero, suc, List, All, Some, map, reverse, vec_len, vec_capacity, add-one, arith, append_assoc, refl, sym, ap, ◌∙◌, subst}
+use Rattle.std.proofs.Common.{◌≡◌, ◌+◌, ◌*◌, ◌++◌, ◌∷◌, [], ℕ, zero, suc, List, All, Some, map, reverse, vec_len, vec_capacity, add-one, arith, append_assoc, refl, sym, ap, ◌∙◌, subst}
 use Rattle.std.proofs.lemmas.List.{append-nil, map-append, reverse-append, same_from_push}
 use Rattle.std.proofs.lemmas.List.Elements.{All-nil, All-pop, All-push, All-same}
 use Rattle.atomic_table.specs.Seated.{TableId}
-use Rattle.scan_story.specs.declared.entry.Entry.{Entry}
 use Rattle.scan_story.specs.declared.origin.Start.{Start}
 use Rattle.baton.specs.Passes.{IsFree, PassView, new_pass, new_passes}
 use Rattle.frame_pool.specs.Berths.{BerthView, IsBlank, IsOf, PoolView}

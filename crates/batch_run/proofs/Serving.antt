@@ -1,8 +1,7 @@
 -- A worker's scans, one after another.
-use Rattle.std.proofs.Common.{◌≡◌, ◌≢◌, ◌==◌, ◌<◌, ◌≤◌, ◌+◌, ◌++◌, ◌∷◌, [], ℕ, Bool, true, false, List, Some, Result, All, map, filter, take, drop, get_or, length, if◌then◌else◌, refl, sym, ap, ◌∙◌, subst}
-use Rattle.std.specs.List.{AllByRecursion, AllZip}
+use Rattle.std.proofs.Common.{◌≡◌, ◌≢◌, ◌==◌, ◌<◌, ◌≤◌, ◌+◌, ◌++◌, ◌∷◌, [], ℕ, Bool, true, false, List, Some, Result, take, drop, get_or, length, if◌then◌else◌, refl, sym, ap, ◌∙◌, subst}
+use Rattle.std.specs.List.{AllByRecursion}
 use Rattle.std.specs.VecDeque.{deque_capacity, deque_len}
-use Rattle.std.proofs.lemmas.Bool.{cases_Bool}
 use Rattle.std.proofs.lemmas.List.{append-nil, drop_more, map-append, take-append-drop, take_more}
 use Rattle.std.proofs.lemmas.List.Elements.{All-take, filter-append, recursion_from_All}
 use Rattle.atomic_table.specs.Seated.{TableId}
@@ -18,7 +17,7 @@ use Rattle.scan_story.specs.Setting.{IsStart, worker_of}
 use Rattle.scan_story.specs.Views.{past}
 use Rattle.story_laws.specs.Lists.{NoneTwice}
 use Rattle.story_laws.specs.Queries.{chunks_delivered}
-use Rattle.story_laws.proofs.Bools.{either, equal_number, if_not, not_both, or_false, or_off, same_number}
+use Rattle.story_laws.proofs.Bools.{equal_number, if_not, not_both, or_false, or_off, same_number}
 use Rattle.baton.specs.Passes.{PassView}
 use Rattle.baton.proofs.Zips.{zip_push}
 use Rattle.frame_pool.specs.Berths.{PoolView}
@@ -28,7 +27,7 @@ use Rattle.query_gather.specs.declared.partial.Partial.{Partial}
 use Rattle.cscan.specs.declared.station.Station.{Station}
 use Rattle.cscan.specs.Scans.{IsOver}
 use Rattle.cscan.specs.Stations.{Waits}
-use Rattle.multi_scan.specs.Parts.{registered}
+use Rattle.batch_run.specs.Parts.{registered}
 use Rattle.batch_run.specs.declared.job.Job.{Job}
 use Rattle.batch_run.specs.Came.{CameFor}
 use Rattle.batch_run.specs.Jobs.{AreJobs, IsJob, jobs_on, numbers_of}

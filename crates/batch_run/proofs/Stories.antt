@@ -1,5 +1,5 @@
 -- What a whole story delivered to the scans of a batch, in its order.
-use Rattle.std.proofs.Common.{◌≡◌, ◌∙◌, ◌<◌, ◌++◌, ◌∷◌, ◌==◌, ◌&&◌, ℕ, Bool, true, false, List, [], map, refl, sym, ap, subst}
+use Rattle.std.proofs.Common.{◌≡◌, ◌∙◌, ◌<◌, ◌∷◌, ◌==◌, ◌&&◌, ℕ, Bool, true, false, List, [], map, refl, sym, ap, subst}
 use Rattle.std.specs.Prelude.{None, Some, IsPermutation, find, nat_lt}
 use Rattle.std.specs.List.{AllByRecursion}
 use Rattle.std.proofs.lemmas.Bool.{lt-ltb, ltb-true, and_parts}
@@ -19,9 +19,9 @@ use Rattle.scan_story.specs.Views.{History, is_ended, is_stopped, past}
 use Rattle.story_laws.specs.Queries.{chunks_delivered}
 use Rattle.story_laws.proofs.Bools.{or_false}
 use Rattle.chunk_interest.specs.Fresh.{as_need}
-use Rattle.multi_scan.proofs.Delivered.{story_all, story_once}
 use Rattle.batch_plan.specs.Deal.{deal, is_dealt}
 use Rattle.batch_plan.specs.Scans.{Scan, need_of, needs}
+use Rattle.batch_run.proofs.Delivered.{story_all, story_once}
 use Rattle.batch_run.specs.Taken.{TookNeed}
 use Rattle.batch_run.proofs.Orders.{alike_below, rising_order}
 use Rattle.batch_run.proofs.Planned.{find_themselves}

@@ -27,7 +27,7 @@ use Rattle.sql_bind.specs.Reads.{ReadsItsColumns}
 use Rattle.sql_bind.specs.declared.plan.Plan.{Plan}
 use Rattle.query_gather.specs.Partial.{FitsCond}
 use Rattle.table_pieces.specs.Shaping.{FitsDicts, shape_of}
-use Rattle.multi_scan.specs.Rows.{FitsShape, IsPlanOfShape}
+use Rattle.batch_run.specs.Rows.{FitsShape, IsPlanOfShape}
 use Rattle.batch_run.specs.Tasks.{FitsWhere, IsPlanOfTable}
 
 -- a cell that fits a column by the length of its dictionary fits it

@@ -1,7 +1,7 @@
 -- Workers before and after they run their jobs.
-use Rattle.std.proofs.Common.{◌≡◌, ◌≤◌, ◌∷◌, [], ℕ, List, Result, All, length, map, refl, sym, ap, ◌∙◌, subst}
-use Rattle.std.specs.List.{AllByRecursion, AllZip}
-use Rattle.std.proofs.lemmas.List.Elements.{All-cons, All-from_recursion, All-head, All-nil, All-tail, recursion_from_All}
+use Rattle.std.proofs.Common.{◌≡◌, ◌∷◌, [], ℕ, List, Result, All, length, map, refl, sym, ap, ◌∙◌, subst}
+use Rattle.std.specs.List.{AllZip}
+use Rattle.std.proofs.lemmas.List.Elements.{All-cons, All-head, All-nil, All-tail}
 use Rattle.atomic_table.specs.Seated.{TableId}
 use Rattle.scan_story.specs.declared.cause.Cause.{Cause}
 use Rattle.scan_story.specs.declared.origin.Start.{Start}
@@ -13,7 +13,7 @@ use Rattle.piece_format.specs.Shape.{TableShape}
 use Rattle.query_gather.specs.declared.partial.Partial.{Partial}
 use Rattle.cscan.specs.Scans.{Fits}
 use Rattle.cscan.specs.Stations.{IsSeated}
-use Rattle.multi_scan.specs.Parts.{registered}
+use Rattle.batch_run.specs.Parts.{registered}
 use Rattle.batch_run.specs.declared.job.Job.{Job}
 use Rattle.batch_run.specs.declared.shop.Shop.{Shop}
 use Rattle.batch_run.specs.declared.worker.Worker.{Worker}

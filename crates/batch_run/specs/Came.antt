@@ -1,5 +1,5 @@
 -- What came of the scans of a batch.
-use Rattle.std.specs.Prelude.{◌≡◌, true, ℕ, List, map, Some, Result, Ok, Err}
+use Rattle.std.specs.Prelude.{◌≡◌, true, ℕ, List, Some, Result, Ok, Err}
 use Rattle.scan_story.specs.declared.cause.Cause.{Cause}
 use Rattle.scan_story.specs.declared.entry.Entry.{Entry}
 use Rattle.scan_story.specs.declared.origin.Start.{Start}
@@ -11,8 +11,8 @@ use Rattle.frame_pool.specs.Frames.{Told}
 use Rattle.piece_format.specs.Shape.{TableShape}
 use Rattle.sql_bind.specs.declared.plan.Plan.{Plan}
 use Rattle.query_gather.specs.declared.partial.Partial.{Partial}
-use Rattle.multi_scan.specs.Gathered.{Gathered}
 use Rattle.batch_plan.specs.Scans.{Scan}
+use Rattle.batch_run.specs.Gathered.{Gathered}
 
 -- what came of the scan with this number and plan by the story: it has its End and what is gathered is of the chunks that were
 -- delivered to it, in their order; or the story stopped it, first for this cause

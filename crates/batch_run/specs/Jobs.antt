@@ -5,9 +5,9 @@ use Rattle.scan_story.specs.Setting.{worker_of}
 use Rattle.story_laws.specs.Lists.{NoneTwice}
 use Rattle.piece_format.specs.Shape.{TableShape}
 use Rattle.cscan.specs.Scans.{HasColumns}
-use Rattle.multi_scan.specs.Parts.{ReadsPlan}
-use Rattle.multi_scan.specs.Rows.{IsPlanOfShape}
 use Rattle.batch_plan.specs.Scans.{Scan}
+use Rattle.batch_run.specs.Parts.{ReadsPlan}
+use Rattle.batch_run.specs.Rows.{IsPlanOfShape}
 use Rattle.batch_run.specs.declared.job.Job.{Job}
 
 -- the job is to run the scan

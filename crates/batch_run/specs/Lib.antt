@@ -1,3 +1,6 @@
+pub mod Rows
+pub mod Gathered
+pub mod Parts
 pub mod Tasks
 pub mod Lost
 pub mod Story

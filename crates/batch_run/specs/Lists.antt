@@ -1,7 +1,6 @@
 -- What came of the jobs, in a list for each worker.
-use Rattle.std.specs.Prelude.{◌≡◌, ◌<◌, ℕ, List, [], Result, length, map, slice_index_or}
+use Rattle.std.specs.Prelude.{◌≡◌, ◌<◌, ℕ, List, [], Result, length, slice_index_or}
 use Rattle.std.specs.List.{AllZip}
-use Rattle.std.specs.declared.collections.VecDeque.{VecDeque}
 use Rattle.scan_story.specs.declared.cause.Cause.{Cause}
 use Rattle.scan_story.specs.declared.entry.Entry.{Entry}
 use Rattle.scan_story.specs.declared.origin.Start.{Start}

@@ -2,8 +2,8 @@
 use Rattle.std.specs.Prelude.{◌≡◌, ◌==◌, ℕ, List, filter, map}
 use Rattle.scan_story.specs.declared.entry.Entry.{Entry}
 use Rattle.scan_story.specs.Makers.{entries_by}
-use Rattle.multi_scan.specs.Parts.{registered}
 use Rattle.batch_plan.specs.Scans.{Scan}
+use Rattle.batch_run.specs.Parts.{registered}
 
 -- the scans of a worker by their numbers, in their order
 abbrev pub numbers_on : ℕ → List Scan → List ℕ

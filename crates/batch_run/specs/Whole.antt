@@ -1,7 +1,6 @@
 -- The story that the scans of a batch make.
-use Rattle.std.specs.Prelude.{◌≡◌, ◌≤◌, ◌+◌, ◌*◌, ℕ, List}
+use Rattle.std.specs.Prelude.{◌≤◌, ◌+◌, ◌*◌, List}
 use Rattle.scan_story.specs.declared.entry.Entry.{Entry}
-use Rattle.scan_story.specs.declared.origin.Start.{Start}
 use Rattle.scan_story.specs.declared.setting.Setting.{Setting}
 use Rattle.scan_story.specs.Views.{History, past}
 use Rattle.scan_story.specs.Legal.{Legal}
@@ -9,7 +8,6 @@ use Rattle.scan_story.specs.Whole.{IsWhole, Undisturbed}
 use Rattle.scan_story.specs.Spent.{deliveries, loads, stopped_queries}
 use Rattle.story_laws.specs.Bounds.{IsShort, WholeLoadLittle}
 use Rattle.story_laws.specs.Victims.{VictimsWereFar}
-use Rattle.abm_policy.specs.Depots.{Agrees, DepotView}
 
 -- loads are at most the deliveries, and two for each stopped query
 abbrev pub LoadsAreBounded : Setting → History → Type 0

@@ -1,5 +1,6 @@
 //! A batch of queries over one table: the table is put into a depot piece by piece, workers run the scans of the
-//! queries at once over shared frames, and what the parts of a query gathered is joined to its answer.
+//! queries at once over shared frames, each scan gathers the rows of the chunks that it takes as they come, and what the
+//! parts of a query gathered is joined to its answer.
 //!
 //!     let tasks = [Task { query: 1, plan: &plan }];
 //!     let options = Options { workers: 4, frames: 13, per: 1024, layout: Layout::Row, parts: 1 };
@@ -8,7 +9,7 @@
 //!         Err((depot, refusal)) => refuse(depot, refusal),
 //!     }
 //!
-//! docs/BATCH.md has the rules.
+//! docs/BATCH.md has the rules, and docs/PARTS.md those of a part.
 #![tactic(auto)]
 
 mod answering;
@@ -18,8 +19,10 @@ mod crew;
 mod job;
 mod laws;
 mod ordering;
+mod part;
 mod picking;
 mod ran;
+mod rows;
 mod running;
 mod scanning;
 mod seating;

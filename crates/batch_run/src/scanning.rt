@@ -13,6 +13,7 @@ ghost use Rattle.batch_run.specs.Jobs.{IsJob};
 ghost use Rattle.batch_run.specs.Workers.{HasDone, IsReady, Ran};
 
 use crate::job::Job;
+use crate::part::{Unfinished, scan_part};
 use crate::shop::Shop;
 use crate::worker::Worker;
 use abm_policy::Desk;
@@ -20,7 +21,6 @@ use baton::Baton;
 use coop_outside::Depot;
 use cscan::{CScan, Gate, Station};
 use frame_pool::{Content, Pool};
-use multi_scan::{Unfinished, scan_part};
 use piece_format::Shape;
 use query_gather::Partial;
 use relevance::Policy;

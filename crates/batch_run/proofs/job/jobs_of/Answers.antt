@@ -1,10 +1,9 @@
-use Rattle.std.proofs.Common.{◌≡◌, ◌<◌, ◌≤◌, ◌+◌, ◌/◌, ◌++◌, ◌∷◌, [], List, length, take, get_or, arith, refl, sym, ap, ◌∙◌, subst}
+use Rattle.std.proofs.Common.{◌<◌, ◌≤◌, ◌+◌, List, length, take, get_or, arith, sym, ap, ◌∙◌, subst}
 use Rattle.std.specs.List.{AllZip}
 use Rattle.std.proofs.lemmas.List.{take_all, take_more}
 use Rattle.chunk_interest.specs.declared.need.Need.{Need}
 use Rattle.batch_plan.specs.declared.task.Task.{Task}
 use Rattle.batch_plan.specs.Scans.{Scan, scan_of, scans}
-use Rattle.batch_run.specs.declared.job.Job.{Job}
 use Rattle.batch_run.specs.Came.{IsNeedOf}
 use Rattle.batch_run.specs.Jobs.{IsJobOf}
 use Rattle.baton.proofs.Zips.{zip_at, zip_length, zip_pushed}

@@ -1,12 +1,11 @@
-use Rattle.std.proofs.Common.{rules, ◌≡◌, ◌≤◌, ◌<◌, ◌+◌, ◌++◌, ◌∷◌, [], ℕ, List, Result, length, map, take, drop, set, get_or, vec_len, vec_capacity, arith, refl, sym, ap, ◌∙◌, subst}
+use Rattle.std.proofs.Common.{rules, ◌≡◌, ◌<◌, ◌+◌, ◌++◌, ◌∷◌, [], List, Result, length, map, take, drop, set, vec_len, arith, sym, ap, ◌∙◌, subst}
 use Rattle.std.specs.Global.{Global}
 use Rattle.std.specs.declared.collections.VecDeque.{VecDeque}
 use Rattle.std.proofs.lemmas.List.{drop_more, length-map, map-set, take_more}
 use Rattle.scan_story.specs.declared.cause.Cause.{Cause}
 use Rattle.query_gather.specs.declared.partial.Partial.{Partial}
 use Rattle.batch_run.specs.declared.job.Job.{Job}
-use Rattle.batch_run.specs.Jobs.{jobs_on}
-use Rattle.batch_run.specs.Lists.{AreCounted, AreSorted, CameOfAll, CameOfJob, list_of}
+use Rattle.batch_run.specs.Lists.{AreCounted, AreSorted, CameOfJob, list_of}
 use Rattle.baton.proofs.Zips.{zip_pushed}
 use Rattle.batch_run.proofs.Sorting.{came_next, counted_next, map_at, not_empty, sorted_next}
 use Rattle.batch_run.proofs.ordering.in_order.Goals as goal

@@ -1,11 +1,10 @@
-use Rattle.std.proofs.Common.{rules, ◌≡◌, ◌||◌, ◌≤◌, ◌<◌, ◌+◌, ◌++◌, [], ℕ, zero, List, Result, All, length, map, reverse, vec_len, arith, true, refl, sym, ap, ◌∙◌, subst}
-use Rattle.std.specs.List.{AllZip, AllByRecursion}
+use Rattle.std.proofs.Common.{rules, ◌≡◌, ◌||◌, ◌≤◌, ◌<◌, ◌++◌, [], ℕ, List, All, length, map, reverse, vec_len, arith, true, refl, sym, ap, ◌∙◌, subst}
+use Rattle.std.specs.List.{AllByRecursion}
 use Rattle.scan_story.specs.declared.entry.Entry.{Entry}
 use Rattle.scan_story.specs.declared.setting.Setting.{Setting}
 use Rattle.scan_story.specs.declared.origin.Start.{Start}
 use Rattle.std.proofs.lemmas.List.{length-map}
 use Rattle.baton.specs.Passes.{AgreesWith, PassView, new_passes}
-use Rattle.chunk_interest.specs.Fresh.{as_need}
 use Rattle.batch_plan.specs.Scans.{scans}
 use Rattle.batch_run.specs.declared.job.Job.{Job}
 use Rattle.batch_run.specs.Crews.{passes_of, up_to, workers_of}

@@ -1,4 +1,4 @@
-use Rattle.std.proofs.Common.{rules, ◌≡◌, ◌<◌, [], ℕ, List, All, length, map, vec_len, arith, refl, sym, ap, ◌∙◌, subst}
+use Rattle.std.proofs.Common.{rules, ◌≡◌, [], All, length, map, vec_len, arith, refl, sym, ap, ◌∙◌, subst}
 use Rattle.std.proofs.lemmas.List.{with_items_is}
 use Rattle.cscan.specs.Stations.{IsSeated}
 use Rattle.batch_run.specs.declared.worker.Worker.{Worker}

@@ -1,11 +1,7 @@
-use Rattle.std.proofs.Common.{rules, ◌≡◌, ◌<◌, ◌≤◌, ◌+◌, [], ℕ, length, take, arith, refl, sym, ap, ◌∙◌, subst}
-use Rattle.std.proofs.lemmas.List.{take_all}
-use Rattle.batch_run.specs.declared.job.Job.{Job}
+use Rattle.std.proofs.Common.{◌+◌, arith, refl, sym, subst}
 use Rattle.piece_format.specs.Shape.{TableShape}
 use Rattle.batch_run.specs.Came.{CameFor}
-use Rattle.batch_run.specs.Jobs.{jobs_on}
 use Rattle.batch_run.specs.declared.worker.Worker.{Worker}
-use Rattle.batch_run.specs.Workers.{HasRun}
 use Rattle.batch_run.proofs.Serving.{IsSoFar, may_next, run_next, run_same}
 use Rattle.batch_run.proofs.scanning.run_all.Goals as goal
 use Rattle.batch_run.proofs.scanning.run_all.Goals.{then-job-worker, else-job-worker}

@@ -1,4 +1,4 @@
-use Rattle.std.proofs.Common.{rules, ◌≡◌, ◌<◌, ℕ, List, length, get_or, arith, refl, sym, ap, ◌∙◌, subst}
+use Rattle.std.proofs.Common.{rules, ◌≡◌, length, get_or, arith, ◌∙◌, subst}
 use Rattle.std.proofs.lemmas.List.{get_or_default}
 use mir.Syntax.{named}
 use denote.Ref.{NamedLft}

@@ -1,8 +1,5 @@
-use Rattle.std.proofs.Common.{rules, ◌≡◌, [], ℕ, refl, sym, ap, ◌∙◌}
-use Rattle.cscan.specs.Scans.{IsOver}
-use Rattle.batch_run.specs.Came.{CameFor}
-use Rattle.batch_run.specs.Workers.{Ran}
-use Rattle.batch_run.proofs.Resting.{came_by, delivers_same, none_yet, over_same, ran_begun, ran_on, ran_stopped, scan_came, stopped_over}
+use Rattle.std.proofs.Common.{rules, refl, ◌∙◌}
+use Rattle.batch_run.proofs.Resting.{delivers_same, none_yet, over_same, ran_begun, ran_on, ran_stopped, scan_came, stopped_over}
 use Rattle.batch_run.proofs.scanning.run_scan.Goals as goal
 
 pub returns-in_default-clause-over : goal.returns-in_default-clause-over

@@ -1,6 +1,5 @@
-use Rattle.std.proofs.Common.{◌≡◌, ◌<◌, [], ℕ, List, All, refl, sym, ap, ◌∙◌, subst}
-use Rattle.scan_story.specs.declared.entry.Entry.{Entry}
-use Rattle.baton.specs.Passes.{AgreesWith, PassView}
+use Rattle.std.proofs.Common.{All, subst}
+use Rattle.baton.specs.Passes.{AgreesWith}
 use Rattle.batch_run.specs.Crews.{passes_of}
 use Rattle.batch_run.proofs.Endings.{idle_at_end, none_underway}
 use Rattle.batch_run.proofs.Seats.{all_passes}

@@ -1,4 +1,4 @@
-use Rattle.std.proofs.Common.{rules, ◌≡◌, ◌≤◌, [], ℕ, List, All, vec_len, vec_capacity, arith, refl, sym, ap, ◌∙◌, subst}
+use Rattle.std.proofs.Common.{rules, ◌≡◌, ◌≤◌, [], vec_len, vec_capacity, arith}
 use Rattle.std.proofs.lemmas.List.Elements.{All-nil, All-same}
 use Rattle.baton.specs.Passes.{IsFree}
 use Rattle.cscan.specs.Stations.{IsSeated}

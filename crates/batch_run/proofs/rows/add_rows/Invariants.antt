@@ -1,9 +1,9 @@
 use Rattle.std.proofs.Common.{◌≡◌, ◌≤◌, ◌+◌, ◌*◌, ℕ, List, false, min}
 use Rattle.scan_story.specs.Counting.{has}
 use Rattle.query_gather.specs.Partial.{FitsPlan, row_count}
-use Rattle.multi_scan.specs.Gathered.{Gathered}
-use Rattle.multi_scan.proofs.Gathering.{GatheredFirst}
-use Rattle.multi_scan.proofs.rows.add_rows.Given as goal
+use Rattle.batch_run.specs.Gathered.{Gathered}
+use Rattle.batch_run.proofs.Gathering.{GatheredFirst}
+use Rattle.batch_run.proofs.rows.add_rows.Given as goal
 
 -- the first rows of the chunk are gathered
 abbrev pub invariant-loop-turn : goal.invariant-loop-turn

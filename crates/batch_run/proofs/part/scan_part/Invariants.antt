@@ -1,9 +1,9 @@
 use Rattle.std.proofs.Common.{◌≡◌, None}
 use Rattle.story_laws.specs.Queries.{chunks_delivered}
 use Rattle.cscan.specs.Scans.{IsSameScan, IsScan}
-use Rattle.multi_scan.specs.Gathered.{Gathered}
-use Rattle.multi_scan.specs.Parts.{WentFor}
-use Rattle.multi_scan.proofs.part.scan_part.Given as goal
+use Rattle.batch_run.specs.Gathered.{Gathered}
+use Rattle.batch_run.specs.Parts.{WentFor}
+use Rattle.batch_run.proofs.part.scan_part.Given as goal
 
 -- the chunks that were taken are gathered
 abbrev pub invariant-loop : goal.invariant-loop

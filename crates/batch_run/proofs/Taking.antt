@@ -24,11 +24,11 @@ use Rattle.cscan.specs.declared.scan.CScan.{CScan}
 use Rattle.cscan.specs.Answers.{AreOfLoads, Ends, FindsStopped, Releases, TakesChunk}
 use Rattle.cscan.specs.Scans.{IsOver, IsSameScan, IsScan}
 use Rattle.cscan.proofs.Stories.{delivered_append, loads_deliver_none}
-use Rattle.multi_scan.specs.Gathered.{Gathered}
-use Rattle.multi_scan.specs.Parts.{AreAllOnce, WentFor, registered}
-use Rattle.multi_scan.proofs.Delivered.{delivered_by, once_push, story_all, story_once}
-use Rattle.multi_scan.proofs.Gathering.{count_of}
-use Rattle.multi_scan.proofs.Numbers.{few_numbers, length_more}
+use Rattle.batch_run.specs.Gathered.{Gathered}
+use Rattle.batch_run.specs.Parts.{AreAllOnce, WentFor, registered}
+use Rattle.batch_run.proofs.Delivered.{delivered_by, once_push, story_all, story_once}
+use Rattle.batch_run.proofs.Gathering.{count_of}
+use Rattle.batch_run.proofs.Numbers.{few_numbers, length_more}
 
 -- For one query alone
 

@@ -4,8 +4,8 @@ ghost use Rattle.scan_story.specs.Setting.{IsStart};
 ghost use Rattle.story_laws.specs.Queries.{chunks_delivered};
 ghost use Rattle.query_gather.specs.Partial.{FitsPlan, Stands, row_count};
 ghost use Rattle.cscan.specs.Scans.{IsSameScan, IsScan};
-ghost use Rattle.multi_scan.specs.Parts.{CameTo, ReadsPlan, WentFor};
-ghost use Rattle.multi_scan.specs.Rows.{IsPlanOfShape};
+ghost use Rattle.batch_run.specs.Parts.{CameTo, ReadsPlan, WentFor};
+ghost use Rattle.batch_run.specs.Rows.{IsPlanOfShape};
 
 use crate::rows::add_rows;
 use coop_outside::Depot;
@@ -19,8 +19,8 @@ use sql_bind::Plan;
 use std::sync::Wait;
 
 /// Why a part has no rows to give.
-#[derive(Clone, Copy, Debug, PartialEq, Eq)]
-pub enum Unfinished {
+#[derive(Clone, Copy)]
+pub(crate) enum Unfinished {
     /// The scan was stopped, and is over.
     Stopped(Cause),
     /// Memory ran out for a row. The scan is still under way and has no chunk out: `CScan::stop` ends it.
@@ -32,7 +32,7 @@ pub enum Unfinished {
 /// `worker` and `query` are the scan's own numbers, the shape is that of the scan, and the plan names the columns that the
 /// scan's query reads. The origin is one for a desk. `into` has gathered nothing yet. The gate is called once for each chunk,
 /// while its frames are pinned and the baton lies free. What is gathered comes back where each chunk of the need was taken.
-pub fn scan_part<S: Origin, C: Content, P: Policy, D: Depot, T: Gate, R: Wait>(
+pub(crate) fn scan_part<S: Origin, C: Content, P: Policy, D: Depot, T: Gate, R: Wait>(
     rt: &R,
     scan: &mut CScan<'_, S, C, P, D>,
     worker: u32,

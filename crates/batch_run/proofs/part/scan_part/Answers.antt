@@ -5,10 +5,10 @@ use Rattle.story_laws.specs.Queries.{chunks_delivered}
 use Rattle.piece_format.specs.Shape.{IsShape, TableShape}
 use Rattle.cscan.specs.Answers.{FindsStopped, TakesChunk}
 use Rattle.cscan.specs.Scans.{IsSameScan, reads_column}
-use Rattle.multi_scan.specs.Gathered.{Gathered}
-use Rattle.multi_scan.proofs.Gathering.{gathered_none}
-use Rattle.multi_scan.proofs.Taking.{after_chunk, after_end, all_taken, few_more, once_each, same_on, went_none, went_stopped}
-use Rattle.multi_scan.proofs.part.scan_part.Goals as goal
+use Rattle.batch_run.specs.Gathered.{Gathered}
+use Rattle.batch_run.proofs.Gathering.{gathered_none}
+use Rattle.batch_run.proofs.Taking.{after_chunk, after_end, all_taken, few_more, once_each, same_on, went_none, went_stopped}
+use Rattle.batch_run.proofs.part.scan_part.Goals as goal
 
 pub loop-init : goal.loop-init
 loop-init g c =

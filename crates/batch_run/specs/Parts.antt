@@ -17,9 +17,9 @@ use Rattle.sql_bind.specs.declared.plan.Plan.{Plan}
 use Rattle.query_gather.specs.declared.partial.Partial.{Partial}
 use Rattle.cscan.specs.declared.scan.CScan.{CScan}
 use Rattle.cscan.specs.Scans.{IsOver, IsScan, reads_column}
-use Rattle.multi_scan.specs.declared.part.Unfinished.{Unfinished}
-use Rattle.multi_scan.specs.declared.part.Unfinished.TheVariants as unfinished
-use Rattle.multi_scan.specs.Gathered.{Gathered}
+use Rattle.batch_run.specs.declared.part.Unfinished.{Unfinished}
+use Rattle.batch_run.specs.declared.part.Unfinished.TheVariants as unfinished
+use Rattle.batch_run.specs.Gathered.{Gathered}
 
 -- the query reads just the columns that the plan names
 abbrev pub ReadsPlan : Setting → ℕ → Plan → Type 0

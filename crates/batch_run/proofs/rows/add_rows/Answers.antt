@@ -13,10 +13,10 @@ use Rattle.cscan.specs.declared.given.Given.{Given}
 use Rattle.cscan.specs.Rows.{FitColumns, HasCellsOf}
 use Rattle.cscan.specs.Scans.{IsOut}
 use Rattle.cscan.specs.Tables.{HoldsTable}
-use Rattle.multi_scan.proofs.Gathering.{GatheredFirst, gathered_block, gathered_chunk}
-use Rattle.multi_scan.proofs.Reading.{chunk_long, read_agrees, read_fits}
-use Rattle.multi_scan.proofs.rows.add_rows.Goals as goal
-use Rattle.multi_scan.proofs.rows.add_rows.Goals.{Start}
+use Rattle.batch_run.proofs.Gathering.{GatheredFirst, gathered_block, gathered_chunk}
+use Rattle.batch_run.proofs.Reading.{chunk_long, read_agrees, read_fits}
+use Rattle.batch_run.proofs.rows.add_rows.Goals as goal
+use Rattle.batch_run.proofs.rows.add_rows.Goals.{Start}
 
 -- the chunk that is out has so many rows
 rows_out : (g : _) (c : Start g) → c.args.held.now.given.rows ≡ rows_in c.args.shape.now c.args.held.now.given.chunk

@@ -1,5 +1,0 @@
-pub mod Delivered
-mod Numbers
-mod Gathering
-mod Reading
-mod Taking
