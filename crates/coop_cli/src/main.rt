@@ -6,7 +6,7 @@
 mod ending;
 mod words;
 
-ghost use Rattle.std.specs.Prelude.{◌≡◌, ◌≤◌, ◌^◌, IfOk, length};
+ghost use Rattle.std.specs.Prelude.{◌≤◌, ◌^◌};
 ghost use Rattle.coop_outside.specs.Either.{any_gets};
 
 use crate::ending::end;
@@ -19,7 +19,7 @@ use policy_plain::{Attach, Normal};
 use relevance::{Policy, Relevance};
 use run_inputs::depot_of;
 use run_output::Stop;
-use std::alloc::{AllocError, Global};
+use std::alloc::AllocError;
 use std::hash::RandomState;
 use std::process::ExitCode;
 use std::sync::Wait;
@@ -35,18 +35,6 @@ fn all_words(rt: &HostRuntime) -> io::Result<Vec<String>> {
     Ok(all)
 }
 
-// The four policies that there are; or memory ran out for a box.
-fn all_policies(alloc: Global) -> Result<Vec<Box<dyn Policy + Send>>, AllocError>
-    ensures four { IfOk result (λ policies. length policies.items ≡ 4) }
-{
-    let mut policies: Vec<Box<dyn Policy + Send>> = Vec::new(alloc);
-    policies.push(Box::new(alloc, Relevance)?)?;
-    policies.push(Box::new(alloc, Elevator::new())?)?;
-    policies.push(Box::new(alloc, Normal::new())?)?;
-    policies.push(Box::new(alloc, Attach::new())?)?;
-    Ok(policies)
-}
-
 // Runs the program with the four policies, and answers its status; or memory ran out for a box.
 fn run_with_four<R: Threads + Wait + Sync>(
     handle: &R,
@@ -59,7 +47,11 @@ fn run_with_four<R: Threads + Wait + Sync>(
     requires gets { any_gets depot ≤ 2 ^ 62 }
 {
     let alloc = rt.alloc();
-    let policies = all_policies(alloc)?;
+    let mut policies: Vec<Box<dyn Policy + Send>> = Vec::new(alloc);
+    policies.push(Box::new(alloc, Relevance)?)?;
+    policies.push(Box::new(alloc, Elevator::new())?)?;
+    policies.push(Box::new(alloc, Normal::new())?)?;
+    policies.push(Box::new(alloc, Attach::new())?)?;
     let mut shelf = DiskShelf::new(rt);
     let ended = run_boxed(
         handle, alloc, keys, words, &mut shelf, depot, policies, &NoGate, out,
