@@ -65,9 +65,8 @@ fn command<'a>(alloc: Global, call: Call) -> Result<Command<'a>, AllocError>
         .no_binary_name(true)
         .disable_help_flag(true);
     let known = with_known(alloc, start, call)?;
-    let table = known.arg(place(alloc, "TABLE"))?;
-    let batch = table.arg(place(alloc, "BATCH"))?;
-    Ok(batch)
+    let places = vec![in alloc; place(alloc, "TABLE"), place(alloc, "BATCH")]?;
+    known.args(places)
 }
 
 // The options that the call knows.
@@ -82,9 +81,8 @@ fn with_known<'a>(
     match call {
         Call::Run => Ok(plain),
         Call::RunBoxed => {
-            let policy = plain.arg(option(alloc, "policy"))?;
-            let compare = policy.arg(flag(alloc, "compare"))?;
-            Ok(compare)
+            let more = vec![in alloc; option(alloc, "policy"), flag(alloc, "compare")]?;
+            plain.args(more)
         }
     }
 }
@@ -93,15 +91,17 @@ fn with_known<'a>(
 fn with_plain<'a>(alloc: Global, command: Command<'a>) -> Result<Command<'a>, AllocError>
     ensures { IfOk result (λ c. app_of c ≡ with_options (app_of command.entry) plain_known) }
 {
-    let threads = command.arg(option(alloc, "threads"))?;
-    let frames = threads.arg(option(alloc, "frames"))?;
-    let rows = frames.arg(option(alloc, "rows"))?;
-    let layout = rows.arg(option(alloc, "layout"))?;
-    let parts = layout.arg(option(alloc, "parts"))?;
-    let scratch = parts.arg(option(alloc, "scratch"))?;
-    let summary = scratch.arg(flag(alloc, "summary"))?;
-    let trace = summary.arg(flag(alloc, "trace"))?;
-    Ok(trace)
+    let options = vec![in alloc;
+        option(alloc, "threads"),
+        option(alloc, "frames"),
+        option(alloc, "rows"),
+        option(alloc, "layout"),
+        option(alloc, "parts"),
+        option(alloc, "scratch"),
+        flag(alloc, "summary"),
+        flag(alloc, "trace"),
+    ]?;
+    command.args(options)
 }
 
 fn option<'a>(alloc: Global, name: &'a str) -> Arg<'a>

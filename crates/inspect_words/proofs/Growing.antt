@@ -1,20 +1,34 @@
--- One more setting, argument or subcommand of a command.
-use Rattle.std.proofs.Common.{◌≡◌, ◌∙◌, ◌||◌, ap, ap₂, false, true, refl, ℕ, List, Some}
+-- More settings, arguments or subcommands of a command.
+use Rattle.std.proofs.Common.{◌≡◌, ◌∙◌, ◌||◌, ap, ap₂, false, true, refl, subst, ℕ, List, [], ◌∷◌, Some}
+use Rattle.std.specs.Bool.{⊤}
 use Rattle.std.specs.Borrow.{Bor}
-use Rattle.clap.specs.Built.{AddsArg, AddsSubcommand}
+use Rattle.clap.specs.Built.{AddsArg, AddsInTurn, AddsSubcommand}
 use Rattle.clap.specs.Simple.{App, Shape, app_of, app_of_fields, on_top, with_rule, with_subcommand}
 use Rattle.clap.specs.Walk.{Rule, rule_of}
 use Rattle.clap.specs.declared.builder.arg.Arg.{Arg}
 use Rattle.clap.specs.declared.builder.command.Command.{Command}
 use Rattle.clap.specs.declared.builder.command.Command.TheOpen.{Command-F}
 use Rattle.clap.specs.declared.builder.command.Command.TheViews.{out-Command}
-use Rattle.inspect_words.specs.Command.{IsCommand}
+use Rattle.inspect_words.specs.Command.{IsCommand, with_rules}
 
 pub next : (old : Command) (a : Arg) (new : Command) (x : App) (r : Rule) → IsCommand x old → rule_of a ≡ r → a.global ≡ false → AddsArg old a new → IsCommand (with_rule x r) new
 next old a new x r is rule local adds = record {
   app = adds.shape local ∙ ap₂ with_rule is.app rule;
   local = adds.globals ∙ ap₂ (λ b c. b || c) is.local local;
 }
+
+-- the arguments have these rules, in their order, and none is global
+abbrev pub Give : List Arg → List Rule → Type 0
+Give [] [] = ⊤
+Give (a ∷ more) (r ∷ rules) = (rule_of a ≡ r) × (a.global ≡ false) × Give more rules
+Give _ _ = ⊥
+
+pub all : (old : Command) (args : List Arg) (new : Command) (x : App) (rules : List Rule) → Give args rules → IsCommand x old → AddsInTurn AddsArg old args new
+    → IsCommand (with_rules x rules) new
+all old [] new x [] give is adds = subst (IsCommand x) adds is
+all old (a ∷ more) new x (r ∷ rules) give is adds = all adds.0 more new (with_rule x r) rules give.2 (next old a adds.0 x r is give.0 give.1 adds.1) adds.2
+all old [] new x (r ∷ rules) give is adds = absurd give
+all old (a ∷ more) new x [] give is adds = absurd give
 
 -- a setting that clap's walk sees as g
 pub set : (old new : Command) (f : Command-F Command → Command-F Command) (g : App → App) (x : App) → ((c : Command-F Command) → app_of_fields (f c) ≡ g (app_of_fields c))

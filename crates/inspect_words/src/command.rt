@@ -13,20 +13,18 @@ use table_core::MOST_CHUNK_ROWS;
 pub(crate) fn command<'a>(alloc: Global) -> Result<Command<'a>, AllocError>
     ensures { IfOk result (λ c. app_of c ≡ inspect) }
 {
-    let start = Command::new(alloc, "coop_inspect")
+    let first = explain(alloc)?;
+    let second = judge(alloc)?;
+    let third = draw(alloc)?;
+    let subcommands = vec![in alloc; first, second, third]?;
+    Command::new(alloc, "coop_inspect")
         .no_binary_name(true)
         .disable_help_subcommand(true)
         .arg_required_else_help(true)
         .subcommand_required(true)
         .version("2026-11-28")
-        .about("Explains a batch of coop_cli, judges the output of a run, or draws it");
-    let first = explain(alloc)?;
-    let second = judge(alloc)?;
-    let third = draw(alloc)?;
-    let explained = start.subcommand(first)?;
-    let judged = explained.subcommand(second)?;
-    let drawn = judged.subcommand(third)?;
-    Ok(drawn)
+        .about("Explains a batch of coop_cli, judges the output of a run, or draws it")
+        .subcommands(subcommands)
 }
 
 // `explain [--rows R] [--layout L] TABLE BATCH`
@@ -68,93 +66,88 @@ fn draw<'a>(alloc: Global) -> Result<Command<'a>, AllocError>
 fn with_cut<'a>(alloc: Global, command: Command<'a>) -> Result<Command<'a>, AllocError>
     ensures { (a : App) → IsCommand a command.entry → IfOk result (IsCommand (with_rules a cut_rules)) }
 {
-    let rows = number(
-        alloc,
-        "rows",
-        MOST_CHUNK_ROWS,
-        "Rows of a chunk [default: 1024]",
-    );
-    let layout = option(
-        alloc,
-        "layout",
-        "LAYOUT",
-        "How rows become pieces: row or column [default: row]",
-    );
-    let first = command.arg(rows)?;
-    let second = first.arg(layout)?;
-    Ok(second)
+    let options = vec![in alloc;
+        number(
+            alloc,
+            "rows",
+            MOST_CHUNK_ROWS,
+            "Rows of a chunk [default: 1024]"
+        ),
+        option(
+            alloc,
+            "layout",
+            "LAYOUT",
+            "How rows become pieces: row or column [default: row]",
+        ),
+    ]?;
+    command.args(options)
 }
 
 // Who works on it, and how.
 fn with_work<'a>(alloc: Global, command: Command<'a>) -> Result<Command<'a>, AllocError>
     ensures { (a : App) → IsCommand a command.entry → IfOk result (IsCommand (with_rules a work_rules)) }
 {
-    let threads = number(alloc, "threads", MOST_WORKERS, "Workers [default: 4]");
-    let frames = number(
-        alloc,
-        "frames",
-        MOST_FRAMES,
-        "Frames [default: the least number that is enough]",
-    );
-    let parts = number(
-        alloc,
-        "parts",
-        MOST_PARTS,
-        "Parts of each query [default: 1]",
-    );
-    let policy = option(
-        alloc,
-        "policy",
-        "POLICY",
-        "relevance, elevator, normal or attach [default: relevance]",
-    );
-    let first = command.arg(threads)?;
-    let second = first.arg(frames)?;
-    let third = second.arg(parts)?;
-    let fourth = third.arg(policy)?;
-    Ok(fourth)
+    let options = vec![in alloc;
+        number(alloc, "threads", MOST_WORKERS, "Workers [default: 4]"),
+        number(
+            alloc,
+            "frames",
+            MOST_FRAMES,
+            "Frames [default: the least number that is enough]",
+        ),
+        number(
+            alloc,
+            "parts",
+            MOST_PARTS,
+            "Parts of each query [default: 1]"
+        ),
+        option(
+            alloc,
+            "policy",
+            "POLICY",
+            "relevance, elevator, normal or attach [default: relevance]",
+        ),
+    ]?;
+    command.args(options)
 }
 
 // What changes no answer and no entry.
 fn with_side<'a>(alloc: Global, command: Command<'a>) -> Result<Command<'a>, AllocError>
     ensures { (a : App) → IsCommand a command.entry → IfOk result (IsCommand (with_rules a side_rules)) }
 {
-    let scratch = option(
-        alloc,
-        "scratch",
-        "FILE",
-        "The scratch file of the run; it changes nothing here",
-    );
-    let summary = flag(
-        alloc,
-        "summary",
-        "OUTPUT has the summary behind the answers",
-    );
-    let trace = flag(
-        alloc,
-        "trace",
-        "OUTPUT has the trace, as it must; the word may stand here",
-    );
-    let first = command.arg(scratch)?;
-    let second = first.arg(summary)?;
-    let third = second.arg(trace)?;
-    Ok(third)
+    let options = vec![in alloc;
+        option(
+            alloc,
+            "scratch",
+            "FILE",
+            "The scratch file of the run; it changes nothing here",
+        ),
+        flag(
+            alloc,
+            "summary",
+            "OUTPUT has the summary behind the answers"
+        ),
+        flag(
+            alloc,
+            "trace",
+            "OUTPUT has the trace, as it must; the word may stand here",
+        ),
+    ]?;
+    command.args(options)
 }
 
 fn with_table<'a>(alloc: Global, command: Command<'a>) -> Result<Command<'a>, AllocError>
     ensures { (a : App) → IsCommand a command.entry → IfOk result (IsCommand (with_rules a table_places)) }
 {
-    let table = place(alloc, "TABLE", "A CSV file, or gen:SEED:ROWS");
-    let batch = place(alloc, "BATCH", "A file of SQL statements, or gen");
-    let first = command.arg(table)?;
-    let second = first.arg(batch)?;
-    Ok(second)
+    let places = vec![in alloc;
+        place(alloc, "TABLE", "A CSV file, or gen:SEED:ROWS"),
+        place(alloc, "BATCH", "A file of SQL statements, or gen"),
+    ]?;
+    command.args(places)
 }
 
 fn with_output<'a>(alloc: Global, command: Command<'a>) -> Result<Command<'a>, AllocError>
     ensures { (a : App) → IsCommand a command.entry → IfOk result (IsCommand (with_rules a output_place)) }
 {
-    let output = place(alloc, "OUTPUT", "A file with what coop_cli --trace printed");
-    let first = command.arg(output)?;
-    Ok(first)
+    command.arg(place(alloc, "OUTPUT", "A file with what coop_cli --trace printed"))
 }

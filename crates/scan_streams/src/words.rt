@@ -33,49 +33,51 @@ fn flag<'a>(alloc: Global, name: &'a str, help: &'a str) -> Arg<'a> {
 // The command with the numbers of an experiment.
 fn with_numbers<'a>(alloc: Global, command: Command<'a>) -> Result<Command<'a>, AllocError> {
     let most_us = 1_000_000;
-    command
-        .arg(number(
+    let options = vec![in alloc;
+        number(
             alloc,
             "streams",
             1,
             MOST_WORKERS,
-            "Streams, each on a worker of its own",
+            "Streams, each on a worker of its own"
         )
-        .default_value("16"))?
-        .arg(number(alloc, "queries", 1, MOST_QUERIES, "Queries of a stream").default_value("4"))?
-        .arg(number(alloc, "rows", 1, MOST_CHUNK_ROWS, "Rows of a chunk").default_value("64"))?
-        .arg(number(
+        .default_value("16"),
+        number(alloc, "queries", 1, MOST_QUERIES, "Queries of a stream").default_value("4"),
+        number(alloc, "rows", 1, MOST_CHUNK_ROWS, "Rows of a chunk").default_value("64"),
+        number(
             alloc,
             "table-rows",
             1,
             MOST_GENERATED_ROWS,
-            "Rows of the table",
+            "Rows of the table"
         )
-        .default_value("62500"))?
-        .arg(number(alloc, "get-us", 0, most_us, "Microseconds of a get").default_value("1000"))?
-        .arg(number(
+        .default_value("62500"),
+        number(alloc, "get-us", 0, most_us, "Microseconds of a get").default_value("1000"),
+        number(
             alloc,
             "slow-us",
             0,
             most_us,
-            "Microseconds of a slow query for each chunk",
+            "Microseconds of a slow query for each chunk"
         )
-        .default_value("1000"))?
-        .arg(number(
+        .default_value("1000"),
+        number(
             alloc,
             "frames",
             1,
             MOST_FRAMES,
-            "Frames of the buffer [default: for a quarter of the chunks]",
-        ))?
-        .arg(number(
+            "Frames of the buffer [default: for a quarter of the chunks]"
+        ),
+        number(
             alloc,
             "seed",
             0,
             u32::MAX,
-            "The seed of the table and of the queries",
+            "The seed of the table and of the queries"
         )
-        .default_value("7"))
+        .default_value("7"),
+    ]?;
+    command.args(options)
 }
 
 /// The command line that the program reads.
@@ -88,11 +90,14 @@ pub(crate) fn command<'a>(alloc: Global) -> Result<Command<'a>, AllocError> {
     let about =
         "Plays streams of range queries over a table whose chunks take their time to be read";
     let command = Command::new(alloc, "scan_streams").about(about);
-    with_numbers(alloc, command)?
-        .arg(policy)?
-        .arg(flag(alloc, "whole", "Each query is fast, over the whole table"))?
-        .arg(flag(alloc, "each", "Prints the time of each query"))?
-        .arg(flag(alloc, "check", "Prints only what every schedule gives"))
+    let numbers = with_numbers(alloc, command)?;
+    let others = vec![in alloc;
+        policy,
+        flag(alloc, "whole", "Each query is fast, over the whole table"),
+        flag(alloc, "each", "Prints the time of each query"),
+        flag(alloc, "check", "Prints only what every schedule gives"),
+    ]?;
+    numbers.args(others)
 }
 
 // The number of an option, within its limits.

@@ -1,5 +1,7 @@
-use Rattle.std.proofs.Common.{codes, refl, true}
-use Rattle.clap.specs.Simple.{Shape, new_app, on_top}
+use Rattle.std.proofs.Common.{◌∙◌, [], ◌∷◌, ap, codes, refl, subst, sym, true}
+use Rattle.std.proofs.lemmas.Result.{IfOk-weaker}
+use Rattle.clap.specs.Built.{AddsInTurn, AddsSubcommand}
+use Rattle.clap.specs.Simple.{Shape, app_of, new_app, on_top}
 use Rattle.clap.specs.declared.builder.command.Command.{Command}
 use Rattle.clap.specs.declared.builder.command.Command.TheOpen.{Command-F}
 use Rattle.inspect_words.specs.Command.{IsCommand}
@@ -18,6 +20,10 @@ returns c =
     let required = set _ _ (λ (f : Command-F Command). record f { subcommand_required = true }) (on_top (λ (s : Shape). record s { subcommand_required = true })) _ (λ _. refl) (λ _. refl)
     c.subcommand_required.ensures else_help in
     let versioned = version _ _ _ _ c.version.ensures required in
-    let told = about _ _ _ _ c.about-start.ensures versioned in
-    join _ _ _ _ _ _ (join _ _ _ _ _ _ (join _ _ _ _ _ _ told.app c.in_ok-first.ensures.1 c.in_ok-first.ensures.2 c.in_ok-explained.ensures)
-    c.in_ok-second.ensures.1 c.in_ok-second.ensures.2 c.in_ok-judged.ensures) c.in_ok-third.ensures.1 c.in_ok-third.ensures.2 c.in_ok-drawn.ensures
+    let told = about _ _ _ _ c.about.ensures versioned in
+    IfOk-weaker c.subcommands.result _ _ (λ new adds.
+    let three : AddsInTurn AddsSubcommand c.about.result (c.in_ok-first.first ∷ c.in_ok-second.second ∷ c.in_ok-third.third ∷ []) new =
+    subst (λ subs. AddsInTurn AddsSubcommand c.about.result subs new) c.in_ok-subcommands.ensures.items adds in
+    ap app_of (sym three.2.2.2) ∙ join _ _ _ _ _ _ (join _ _ _ _ _ _ (join _ _ _ _ _ _ told.app c.in_ok-first.ensures.1 c.in_ok-first.ensures.2 three.1)
+    c.in_ok-second.ensures.1 c.in_ok-second.ensures.2 three.2.1) c.in_ok-third.ensures.1 c.in_ok-third.ensures.2 three.2.2.1)
+    c.subcommands.ensures

@@ -1,5 +1,9 @@
-use Rattle.inspect_words.proofs.Growing.{next}
+use Rattle.std.proofs.lemmas.Result.{IfOk-weaker}
+use Rattle.inspect_words.specs.Command.{cut_rules}
+use Rattle.inspect_words.proofs.Growing.{all}
 use Rattle.inspect_words.proofs.command.with_cut.Goals as goal
 
 pub returns : goal.returns
-returns c = λ a is. next _ _ _ _ _ (next _ _ _ _ _ is c.number-rows.ensures.rule c.number-rows.ensures.local c.in_ok-first.ensures) c.option-layout.ensures.rule c.option-layout.ensures.local c.in_ok-second.ensures
+returns c = λ a is. IfOk-weaker c.args-2.result _ _
+    (λ new. all c.args.command c.in_ok-options.options.items new a cut_rules (rw c.in_ok-options.ensures.items (c.number.ensures.rule, c.number.ensures.local, (c.option.ensures.rule, c.option.ensures.local, tt))) is)
+    c.args-2.ensures

@@ -1,5 +1,6 @@
+use Rattle.std.proofs.lemmas.Result.{IfOk-weaker}
 use Rattle.inspect_words.proofs.Growing.{next}
 use Rattle.inspect_words.proofs.command.with_output.Goals as goal
 
 pub returns : goal.returns
-returns c = λ a is. next _ _ _ _ _ is c.place-output.ensures.rule c.place-output.ensures.local c.in_ok-first.ensures
+returns c = λ a is. IfOk-weaker c.arg.result _ _ (λ new. next _ _ new a _ is c.place.ensures.rule c.place.ensures.local) c.arg.ensures

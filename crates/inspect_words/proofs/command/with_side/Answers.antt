@@ -1,5 +1,9 @@
-use Rattle.inspect_words.proofs.Growing.{next}
+use Rattle.std.proofs.lemmas.Result.{IfOk-weaker}
+use Rattle.inspect_words.specs.Command.{side_rules}
+use Rattle.inspect_words.proofs.Growing.{all}
 use Rattle.inspect_words.proofs.command.with_side.Goals as goal
 
 pub returns : goal.returns
-returns c = λ a is. next _ _ _ _ _ (next _ _ _ _ _ (next _ _ _ _ _ is c.option-scratch.ensures.rule c.option-scratch.ensures.local c.in_ok-first.ensures) c.flag-summary.ensures.rule c.flag-summary.ensures.local c.in_ok-second.ensures) c.flag-trace.ensures.rule c.flag-trace.ensures.local c.in_ok-third.ensures
+returns c = λ a is. IfOk-weaker c.args-2.result _ _
+    (λ new. all c.args.command c.in_ok-options.options.items new a side_rules (rw c.in_ok-options.ensures.items (c.option.ensures.rule, c.option.ensures.local, (c.flag.ensures.rule, c.flag.ensures.local, (c.flag-2.ensures.rule, c.flag-2.ensures.local, tt)))) is)
+    c.args-2.ensures

@@ -1,5 +1,9 @@
-use Rattle.inspect_words.proofs.Growing.{next}
+use Rattle.std.proofs.lemmas.Result.{IfOk-weaker}
+use Rattle.inspect_words.specs.Command.{table_places}
+use Rattle.inspect_words.proofs.Growing.{all}
 use Rattle.inspect_words.proofs.command.with_table.Goals as goal
 
 pub returns : goal.returns
-returns c = λ a is. next _ _ _ _ _ (next _ _ _ _ _ is c.place-table.ensures.rule c.place-table.ensures.local c.in_ok-first.ensures) c.place-batch.ensures.rule c.place-batch.ensures.local c.in_ok-second.ensures
+returns c = λ a is. IfOk-weaker c.args-2.result _ _
+    (λ new. all c.args.command c.in_ok-places.places.items new a table_places (rw c.in_ok-places.ensures.items (c.place.ensures.rule, c.place.ensures.local, (c.place-2.ensures.rule, c.place-2.ensures.local, tt))) is)
+    c.args-2.ensures

@@ -1,5 +1,9 @@
-use Rattle.inspect_words.proofs.Growing.{next}
+use Rattle.std.proofs.lemmas.Result.{IfOk-weaker}
+use Rattle.inspect_words.specs.Command.{work_rules}
+use Rattle.inspect_words.proofs.Growing.{all}
 use Rattle.inspect_words.proofs.command.with_work.Goals as goal
 
 pub returns : goal.returns
-returns c = λ a is. next _ _ _ _ _ (next _ _ _ _ _ (next _ _ _ _ _ (next _ _ _ _ _ is c.number-threads.ensures.rule c.number-threads.ensures.local c.in_ok-first.ensures) c.number-frames.ensures.rule c.number-frames.ensures.local c.in_ok-second.ensures) c.number-parts.ensures.rule c.number-parts.ensures.local c.in_ok-third.ensures) c.option-policy.ensures.rule c.option-policy.ensures.local c.in_ok-fourth.ensures
+returns c = λ a is. IfOk-weaker c.args-2.result _ _
+    (λ new. all c.args.command c.in_ok-options.options.items new a work_rules (rw c.in_ok-options.ensures.items (c.number.ensures.rule, c.number.ensures.local, (c.number-2.ensures.rule, c.number-2.ensures.local, (c.number-3.ensures.rule, c.number-3.ensures.local, (c.option.ensures.rule, c.option.ensures.local, tt))))) is)
+    c.args-2.ensures
