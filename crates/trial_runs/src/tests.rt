@@ -40,8 +40,8 @@ fn bytes_of(alloc: Global, text: &[u8]) -> Result<Bytes, Fail> {
     Ok(Bytes::new(Vec::from_slice(alloc, text)?))
 }
 
-// A shelf with a table and a batch.
-fn shelf_of(alloc: Global, table: &[u8], batch: &[u8]) -> Result<MemShelf, Fail> {
+/// A shelf with a table and a batch.
+pub(crate) fn shelf_of(alloc: Global, table: &[u8], batch: &[u8]) -> Result<MemShelf, Fail> {
     let mut files = Vec::new(alloc);
     files.push((String::from_str(alloc, "a.csv")?, bytes_of(alloc, table)?))?;
     files.push((String::from_str(alloc, "b.sql")?, bytes_of(alloc, batch)?))?;
@@ -53,8 +53,8 @@ fn shelf_of(alloc: Global, table: &[u8], batch: &[u8]) -> Result<MemShelf, Fail>
     })
 }
 
-// A sink that takes so many bytes a call.
-fn sink_of(alloc: Global, per_call: usize) -> MemSink {
+/// A sink that takes so many bytes a call.
+pub(crate) fn sink_of(alloc: Global, per_call: usize) -> MemSink {
     MemSink {
         taken: Bytes::new(Vec::new(alloc)),
         per_call,
@@ -64,8 +64,8 @@ fn sink_of(alloc: Global, per_call: usize) -> MemSink {
     }
 }
 
-// The words of a line.
-fn words_of(alloc: Global, line: &str) -> Result<Vec<String>, Fail> {
+/// The words of a line.
+pub(crate) fn words_of(alloc: Global, line: &str) -> Result<Vec<String>, Fail> {
     let mut words = Vec::new(alloc);
     for word in line.split(' ') {
         if word != "" {

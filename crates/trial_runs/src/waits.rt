@@ -3,10 +3,11 @@ mod cases;
 mod slow_depot;
 mod slow_gate;
 
-use crate::tests::cases::{CHUNKS_OF_OTHERS, Case, FAILING, FAILING_GET, SLOW_SCAN, WAITING, WIDE};
-use crate::tests::slow_depot::SlowDepot;
-use crate::tests::slow_gate::SlowGate;
-use coop_outside::{Bytes, MemShelf, MemSink};
+use crate::tests::{shelf_of, sink_of, words_of};
+use crate::waits::cases::{CHUNKS_OF_OTHERS, Case, FAILING, FAILING_GET, SLOW_SCAN, WAITING, WIDE};
+use crate::waits::slow_depot::SlowDepot;
+use crate::waits::slow_gate::SlowGate;
+use coop_outside::{Bytes, MemShelf};
 use coop_run::run;
 use relevance::Relevance;
 use std::alloc::Global;
@@ -16,46 +17,17 @@ use std::test::Fail;
 use std::thread::Threads;
 
 // The batch of a case.
-fn batch_of(alloc: Global, case: &Case<'_>) -> Result<Bytes, Fail> {
+fn batch_of(alloc: Global, case: &Case<'_>) -> Result<Vec<u8>, Fail> {
     let mut text = Vec::new(alloc);
     for _ in 0..case.times {
         text.extend_from_slice(case.statement.as_bytes())?;
     }
-    Ok(Bytes::new(text))
+    Ok(text)
 }
 
 // A shelf with the table of sixteen columns and the batch of a case.
-fn shelf_of(alloc: Global, case: &Case<'_>) -> Result<MemShelf, Fail> {
-    let wide = Bytes::new(Vec::from_slice(alloc, WIDE.as_bytes())?);
-    let mut files = Vec::new(alloc);
-    files.push((String::from_str(alloc, "a.csv")?, wide))?;
-    files.push((String::from_str(alloc, "b.sql")?, batch_of(alloc, case)?))?;
-    Ok(MemShelf {
-        files,
-        fail_reads: Vec::new(alloc),
-        calls: 0,
-        faults: 0,
-    })
-}
-
-// A sink that takes whatever it is given.
-fn sink(alloc: Global) -> MemSink {
-    MemSink {
-        taken: Bytes::new(Vec::new(alloc)),
-        per_call: usize::MAX,
-        fail_writes: Vec::new(alloc),
-        calls: 0,
-        faults: 0,
-    }
-}
-
-// The words of a line.
-fn words_of(alloc: Global, line: &str) -> Result<Vec<String>, Fail> {
-    let mut words = Vec::new(alloc);
-    for word in line.split(' ') {
-        words.push(String::from_str(alloc, word)?)?;
-    }
-    Ok(words)
+fn case_shelf(alloc: Global, case: &Case<'_>) -> Result<MemShelf, Fail> {
+    shelf_of(alloc, WIDE.as_bytes(), &batch_of(alloc, case)?)
 }
 
 // What a run comes to, and how many chunks the other queries had taken when the slow one had worked on its last.
@@ -75,7 +47,7 @@ fn run_case<R: Threads + Wait + Sync>(
 ) -> Result<Seen, Fail> {
     let alloc = rt.alloc();
     let words = words_of(alloc, case.words)?;
-    let (mut shelf, mut out) = (shelf_of(alloc, case)?, sink(alloc));
+    let (mut shelf, mut out) = (case_shelf(alloc, case)?, sink_of(alloc, usize::MAX));
     let depot = SlowDepot::new(alloc, rt, case.get_us, Vec::from_slice(alloc, fail_gets)?);
     let gate = SlowGate::new(rt, case.slow_query, case.slow_us);
     let keys = RandomState::new(&rt)?;
