@@ -1,7 +1,9 @@
-//! Trials of what is told of a table and of a batch before it runs, the lines of profiles and those of notes; of the
-//! picture of a story; and of the whole texts that coop_inspect says.
+//! Trials of what is told of a table and of a batch before it runs, the lines of profiles and those of notes; of where a
+//! statement is refused, line and column, and what could stand there; of the picture of a story; and of the whole texts
+//! that coop_inspect says.
 //!
-//! All of it is tests. docs/INSPECT.md tells the form of the lines.
+//! All of it is tests. docs/INSPECT.md tells the form of the lines, and docs/SQL.md the rules by which statements are
+//! refused.
 #![tactic(auto)]
 
 #[cfg(test)]
@@ -12,6 +14,8 @@ mod loading;
 mod notes;
 #[cfg(test)]
 mod pictures;
+#[cfg(test)]
+mod places;
 #[cfg(test)]
 mod profiles;
 #[cfg(test)]
