@@ -1,5 +1,5 @@
 use Rattle.command_words.specs.Views.{request_view}
-use Rattle.trial_verdicts.proofs.verdicts.verdict_on.Goals as goal
+use Rattle.trial_notes.proofs.verdicts.verdict_on.Goals as goal
 
 pub verdict_of-requires-clause-can : goal.verdict_of-requires-clause-can
 verdict_of-requires-clause-can g c =
