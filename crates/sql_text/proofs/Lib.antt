@@ -7,6 +7,7 @@ pub mod ReadThings
 pub mod ReadQueries
 pub mod ReadTexts
 pub mod Written
+pub mod Quoted
 pub mod Spelling
 pub mod SpelledWords
 pub mod SpelledTokens

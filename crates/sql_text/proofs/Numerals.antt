@@ -1,5 +1,5 @@
 -- The value of digits only grows.
-use Rattle.std.proofs.Common.{◌≡◌, ◌<◌, ◌≤◌, ℕ, ◌+◌, ◌-◌, ◌*◌, ◌^◌, false, List, [], ◌∷◌, length, drop, get_or, Some, None, refl, sym, ap, ◌∙◌, arith, inl, inr}
+use Rattle.std.proofs.Common.{◌≡◌, ◌<◌, ◌≤◌, ℕ, ◌+◌, ◌-◌, ◌*◌, ◌^◌, true, false, List, [], ◌∷◌, length, drop, get_or, Some, None, refl, sym, ap, ◌∙◌, arith, inl, inr}
 use Rattle.std.specs.Prelude.{◌==◌, nat_le}
 use Rattle.std.proofs.lemmas.Bool.{cases_Bool, ne_eqb}
 use Rattle.std.proofs.lemmas.Bool.Decides.{nat_tests}
@@ -34,3 +34,35 @@ stays_past v i ds total h k ne e =
     let g = grows (10 * v + (get_or ds i 0 - 48)) (drop (i + 1) ds) in
     let f : nat_le total (2 ^ 63) ≡ false = not_le _ total _ (past (2 ^ 63) _ e) (omega (arith, g, same)) in
     rw f refl
+
+-- ---- a number against a limit
+
+pub within : (most n : ℕ) → n ≤ most → Some n ≡ up_to most n
+within most n h = let t : nat_le n most ≡ true = grind (arith, nat_tests) in rw t refl
+
+pub beyond : (most n : ℕ) → most < n → None ≡ up_to most n
+beyond most n h = let t : nat_le n most ≡ false = grind (arith, nat_tests) in rw t refl
+
+-- what a smaller limit leaves of a number within a limit
+
+stays : (most n k : ℕ) → Some n ≡ up_to most k → n ≡ k
+stays most n k e = elim (cases_Bool (nat_le k most)) [
+  | inl t ↦ let e' : Some n ≡ Some k = rw t at e in cc
+  | inr t ↦ let e' : Some n ≡ None = rw t at e in absurd (some_none e')
+] where
+  some_none : Some n ≡ None → ⊥
+  some_none e = cc
+
+pub within_less : (most less n k : ℕ) → Some n ≡ up_to most k → n ≤ less → Some n ≡ up_to less k
+within_less most less n k e h =
+    let same = stays most n k e in
+    ap Some same ∙ within less k (omega (arith, same))
+
+pub beyond_less : (most less n k : ℕ) → Some n ≡ up_to most k → less < n → None ≡ up_to less k
+beyond_less most less n k e h = let same = stays most n k e in beyond less k (omega (arith, same))
+
+pub none_less : (most less k : ℕ) → None ≡ up_to most k → less ≤ most → None ≡ up_to less k
+none_less most less k e h =
+    let far = past most k (sym e) in
+    let less_far : nat_le k less ≡ false = grind (arith, nat_tests) in
+    rw less_far refl

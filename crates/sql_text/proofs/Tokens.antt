@@ -1,5 +1,5 @@
 -- Single tokens: what stands first is what was read.
-use Rattle.std.proofs.Common.{◌≡◌, ◌⊎◌, ℕ, List, [], ◌∷◌, Option, Some, None, inl, inr, refl, sym, ap, ◌∙◌, rules}
+use Rattle.std.proofs.Common.{◌≡◌, ◌<◌, ◌≤◌, ◌⊎◌, ℕ, List, [], ◌∷◌, length, arith, Option, Some, None, inl, inr, refl, sym, ap, ◌∙◌, rules}
 use Rattle.std.proofs.lemmas.Bool.{cases_Bool}
 use denote.Enum.Bare.{sameb, same_true}
 use Rattle.sql_tokens.specs.declared.keyword.Keyword.{Keyword}
@@ -7,7 +7,9 @@ use Rattle.sql_tokens.specs.contracts.keyword.Keyword as keyword
 use Rattle.sql_text.specs.declared.word.Sign.{Sign}
 use Rattle.sql_text.specs.contracts.word.Sign as sign
 use Rattle.sql_text.specs.Grammar.{Token, Key, Symbol, Column}
-use Rattle.sql_text.specs.Reading.{◌>>=◌, choose, after_key, after_sign, column_at}
+use Rattle.sql_text.specs.declared.word.Word.{Word}
+use Rattle.sql_text.specs.Words.{tokens_of}
+use Rattle.sql_text.specs.Reading.{◌>>=◌, choose, after_key, after_sign, column_at, grouped}
 
 pub bind_ok : {A B : Type 0} (o : Option A) (f : A → Option B) (y : B) → (o >>= f) ≡ Some y → (x : A) × (o ≡ Some x) × (f x ≡ Some y)
 bind_ok None f y h = absurd (apart h) where
@@ -53,3 +55,13 @@ pub column_is : (ts : List Token) (c : List ℕ) (us : List Token) → column_at
 column_is [] c us e = absurd (no_some (c, us) e)
 column_is (Column d ∷ ts) c us e = let p = some_pair (d, ts) (c, us) e in cc
 column_is (t ∷ ts) c us e = absurd (no_some (c, us) e)
+
+-- whether a token is left
+
+pub none_left : (words : List Word) → length words < 1 → tokens_of words ≡ []
+none_left [] h = refl
+none_left (w ∷ ws) h = absurd (omega arith)
+
+pub some_left : (keys : List (List ℕ)) (words : List Word) → 1 ≤ length words → grouped keys (tokens_of words) ≡ None
+some_left keys [] h = absurd (omega arith)
+some_left keys (w ∷ ws) h = refl

@@ -9,7 +9,7 @@ use std::alloc::Global;
 use table_core::Op;
 
 /// A symbol that compares nothing.
-#[derive(Clone, Copy, Debug, PartialEq, Eq)]
+#[derive(Clone, Copy, PartialEq, Eq)]
 pub enum Sign {
     Open,
     Close,
@@ -19,7 +19,7 @@ pub enum Sign {
 }
 
 /// A token with its meaning. Names, numbers and texts stay where they are in the text.
-#[derive(Clone, Copy, Debug)]
+#[derive(Clone, Copy)]
 pub enum Word<'b> {
     Key(Keyword),
     Sign(Sign),

@@ -11,7 +11,7 @@ use std::alloc::Global;
 use table_core::{Bytes, Memory, Op, write_number, write_quoted};
 
 /// What may stand free at a place of a condition: an OR, an AND but no OR, or neither.
-#[derive(Clone, Copy, Debug, PartialEq, Eq)]
+#[derive(Clone, Copy)]
 pub enum Place {
     Or,
     And,
@@ -107,18 +107,18 @@ fn write_cond(out: &mut Bytes, place: Place, cond: &QCond) -> Result<(), Memory>
         QCond::Compare { column, op, value } => write_compare(out, column, *op, value),
         QCond::IsNull { column, negated } => write_null(out, column, *negated),
         QCond::Or(left, right) => {
-            open(out, place != Place::Or)?;
+            open(out, !matches!(place, Place::Or))?;
             write_cond(out, Place::Or, left)?;
             out.append(b" OR ")?;
             write_cond(out, Place::And, right)?;
-            close(out, place != Place::Or)
+            close(out, !matches!(place, Place::Or))
         }
         QCond::And(left, right) => {
-            open(out, place == Place::Not)?;
+            open(out, matches!(place, Place::Not))?;
             write_cond(out, Place::And, left)?;
             out.append(b" AND ")?;
             write_cond(out, Place::Not, right)?;
-            close(out, place == Place::Not)
+            close(out, matches!(place, Place::Not))
         }
         QCond::Not(inner) => {
             out.append(b"NOT ")?;
