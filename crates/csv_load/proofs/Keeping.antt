@@ -81,3 +81,8 @@ kept-new texts places entries more field count row grown pushed set_there is fil
       record { sound = sound grown r2.0 r2.1 r2.2; placed = rw (there, g, n) (placed-new texts places field is.placed filled (omega (arith, room, n))) },
       rw (there, g, n) (fields-new texts places field is.placed.inside),
     )
+
+-- the fields with one more, whose text is there or that is empty
+pub fields-place : (texts : Fields) (places grown : List (Option ℕ)) (o : Option ℕ) (old : List (List ℕ)) (field : List ℕ) → map (stands_for texts) places ≡ old
+    → grown ≡ places ++ o ∷ [] → stands_for texts o ≡ field → map (stands_for texts) grown ≡ old ++ field ∷ []
+fields-place texts places grown o old field is more one = rw (more, map_push (stands_for texts) places o, is, one) refl
