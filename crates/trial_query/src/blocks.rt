@@ -112,13 +112,9 @@ fn add_both(
     add_each(in_turn, block, chosen)
 }
 
-fn are_same(a: &[Vec<Cell>], b: &[Vec<Cell>]) -> bool {
-    a.len() == b.len() && a.iter().zip(b).all(|(x, y)| x.as_slice() == y.as_slice())
-}
-
-fn is_same(a: Result<Rows, FinishFault>, b: Result<Rows, FinishFault>) -> bool {
+fn is_same(a: &Result<Rows, FinishFault>, b: &Result<Rows, FinishFault>) -> bool {
     match (a, b) {
-        (Ok(a), Ok(b)) => are_same(a.as_slice(), b.as_slice()),
+        (Ok(a), Ok(b)) => a.as_slice() == b.as_slice(),
         (Err(a), Err(b)) => a == b,
         _ => false,
     }
@@ -159,7 +155,7 @@ fn agrees(
     let mut at_once = empty(alloc, items, keys)?;
     let mut in_turn = empty(alloc, items, keys)?;
     add_three(rt, &mut at_once, &mut in_turn, seed, count)?;
-    Ok(is_same(at_once.finish(), in_turn.finish()))
+    Ok(is_same(&at_once.finish(), &in_turn.finish()))
 }
 
 fn check(
@@ -200,23 +196,24 @@ fn groups_with_a_block_are_those_with_its_rows(rt: HostRuntime) -> Result<(), Fa
     Ok(())
 }
 
+// A lane of five words.
+fn lane_with(holds: Holds, words: &[u64; 5], nulls: u64) -> Lane {
+    let mut lane = Lane::empty(holds);
+    lane.nulls = nulls;
+    for i in 0..5_usize {
+        lane.words[i] = words[i];
+    }
+    lane
+}
+
 // Five rows of a code, once NULL, and of a number.
 fn pay() -> Block {
-    let mut codes = Lane::empty(Holds::Codes);
-    codes.words[0] = 1;
-    codes.words[2] = 1;
-    codes.words[4] = 1;
-    codes.nulls = 1 << 3;
-    let mut numbers = Lane::empty(Holds::Numbers);
-    numbers.words[0] = (1 << 63) - 1;
-    numbers.words[1] = 5;
-    numbers.words[2] = 1;
-    numbers.words[3] = 9;
-    numbers.words[4] = u64::MAX;
+    let codes = [1, 0, 1, 0, 1];
+    let numbers = [(1 << 63) - 1, 5, 1, 9, u64::MAX];
     let mut block = Block::new();
     block.begin(2, 5);
-    block.put(0, &codes);
-    block.put(1, &numbers);
+    block.put(0, &lane_with(Holds::Codes, &codes, 1 << 3));
+    block.put(1, &lane_with(Holds::Numbers, &numbers, 0));
     block
 }
 

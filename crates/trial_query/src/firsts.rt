@@ -1,12 +1,13 @@
 // What no clause says: the worked answers, and that each call finds memory.
-ghost use Rattle.std.specs.Prelude.{◌≡◌, IfOk};
+ghost use Rattle.std.specs.Prelude.{◌≡◌, ◌≤◌, All, IfOk, length};
+ghost use Rattle.table_core.specs.Value.{places_of};
 
-use crate::fitting::are_rows;
+use crate::fitting::{are_rows, one_price};
 use std::alloc::Global;
 use std::process::Abort;
 use std::test::Fail;
 use table_core::Cell::{Code, Int, Null};
-use table_core::{Bytes, Cell, Column, Dict, Kind, Memory, Schema};
+use table_core::{Bytes, Cell, Dict, Memory, Schema};
 use top_rows::{Order, Picked, RowPlan, TopRows, picked_text};
 
 type Row = (u32, &'static [Cell]);
@@ -225,15 +226,21 @@ fn equal_rows_stand_by_their_numbers(rt: HostRuntime) -> Result<(), Fail> {
 }
 
 // The text of two picked rows of a column with two places.
-fn two_text(alloc: Global) -> Result<Bytes, Memory> {
-    let name = Bytes::new(Vec::from_slice(alloc, b"p")?);
-    let kind = Kind::Dec { places: 2 };
-    let schema = Schema::new(vec![in alloc; Column { name, kind }]?);
-    let dicts = vec![in alloc; Dict::new(alloc)]?;
+fn rows_text(alloc: Global, schema: &Schema, dicts: &[Dict]) -> Result<Bytes, Memory>
+    requires one { length schema.now ≡ 1 }
+    requires dicts { length dicts.now ≡ 1 }
+    requires places { All (λ c. places_of c.kind ≤ 9) schema.now }
+{
     let first = vec![in alloc; Int(150), Null]?;
     let second = vec![in alloc; Int(-25), Int(3)]?;
     let picked = Picked::new(vec![in alloc; first, second]?);
-    picked_text(alloc, 2, &[0, 0], &schema, &dicts, &picked)
+    picked_text(alloc, 2, &[0, 0], schema, dicts, &picked)
+}
+
+fn two_text(alloc: Global) -> Result<Bytes, Memory> {
+    let schema = one_price(alloc)?;
+    let dicts = vec![in alloc; Dict::new(alloc)]?;
+    rows_text(alloc, &schema, &dicts)
 }
 
 #[test]

@@ -1,14 +1,16 @@
 // What a trial asks of a row, of a block or of a plan before it calls what requires it.
-ghost use Rattle.std.specs.Prelude.{◌≡◌, ◌<◌, All};
+ghost use Rattle.std.specs.Prelude.{◌≡◌, ◌<◌, ◌≤◌, All, IfOk, length};
 ghost use Rattle.std.specs.Bool.{OnTrue};
 ghost use Rattle.filter_zones.specs.Truth as truth;
 ghost use Rattle.filter_zones.specs.Truths.{FitsBlock};
 ghost use Rattle.agg_groups.specs.Running.{IsInRow};
+ghost use Rattle.table_core.specs.Value.{places_of};
 
 use agg_groups::Item;
 use filter_zones::{Bound, Cond};
 use row_blocks::Block;
-use table_core::Cell;
+use std::alloc::Global;
+use table_core::{Bytes, Cell, Column, Kind, Memory, Schema};
 
 pub(crate) fn fits_cell(cell: Cell, value: Bound) -> bool
     ensures { OnTrue result (truth.Fits cell value) }
@@ -84,4 +86,14 @@ pub(crate) fn are_rows(got: &[Vec<Cell>], wanted: &[&[Cell]]) -> bool {
             .iter()
             .zip(wanted)
             .all(|(row, cells)| row.as_slice() == *cells)
+}
+
+// A column with two places.
+pub(crate) fn one_price(alloc: Global) -> Result<Schema, Memory>
+    ensures one { IfOk result (λ s. length s ≡ 1) }
+    ensures places { IfOk result (λ s. All (λ c. places_of c.kind ≤ 9) s) }
+{
+    let name = Bytes::new(Vec::from_slice(alloc, b"p")?);
+    let kind = Kind::Dec { places: 2 };
+    Ok(Schema::new(vec![in alloc; Column { name, kind }]?))
 }

@@ -1,7 +1,8 @@
 // What no clause says: the worked answers, from one part to three, and that each call finds memory.
-ghost use Rattle.std.specs.Prelude.{◌≤◌, IfOk, length};
+ghost use Rattle.std.specs.Prelude.{◌≤◌, All, IfOk, length};
 ghost use Rattle.std.specs.Bool.{OnTrue};
 ghost use Rattle.query_gather.specs.Partial as spec;
+ghost use Rattle.query_gather.specs.declared.partial.Partial as spec_partial;
 
 use crate::fitting::{are_rows, fits_row, items_in, keys_in};
 use agg_groups::Item;
@@ -59,6 +60,13 @@ fn fits_cond(cond: &Option<Cond>, row: &[Cell]) -> bool
     }
 }
 
+fn fits_plan(plan: &Plan, row: &[Cell]) -> bool
+    ensures width { OnTrue result (spec.FitsWidth plan.now (length row.now)) }
+    ensures cond { OnTrue result (spec.FitsCond plan.now.cond row.now) }
+{
+    items_in(&plan.items, row.len()) && keys_in(&plan.keys, row.len()) && fits_cond(&plan.cond, row)
+}
+
 // What some rows leave.
 fn gathered(rt: &impl Abort, alloc: Global, plan: &Plan, rows: &[Row]) -> Result<Partial, Memory>
     ensures plan { IfOk result (λ p. spec.FitsPlan plan.now p) }
@@ -67,27 +75,52 @@ fn gathered(rt: &impl Abort, alloc: Global, plan: &Plan, rows: &[Row]) -> Result
     assert!(rt; rows.len() <= 100);
     let mut partial = Partial::of(alloc, plan)?;
     for (number, row) in rows {
-        assert!(rt; items_in(&plan.items, row.len()) && keys_in(&plan.keys, row.len()));
-        assert!(rt; fits_cond(&plan.cond, row));
+        assert!(rt; fits_plan(plan, row));
         partial.add_row(plan, *number, row)?;
     }
     Ok(partial)
 }
 
-// The answer over rows that come in three parts.
-fn answer_of(
+// What the rows of two parts leave.
+fn both_gathered(
     rt: &impl Abort,
     alloc: Global,
     plan: &Plan,
-    first: &[Row],
     second: &[Row],
     third: &[Row],
-) -> Result<Answer, Memory> {
-    let first = gathered(rt, alloc, plan, first)?;
+) -> Result<Vec<Partial>, Memory>
+    ensures alike { IfOk result (λ v. (p : spec_partial.Partial) → spec.FitsPlan plan.now p
+        → All (spec.IsAlike p) v.items) }
+    ensures few { IfOk result (λ v. spec.rows_of_all v.items ≤ 200) }
+{
     let second = gathered(rt, alloc, plan, second)?;
     let third = gathered(rt, alloc, plan, third)?;
-    let rest = vec![in alloc; second, third]?;
-    Ok(join_parts(first, rest)?.finish())
+    Ok(vec![in alloc; second, third]?)
+}
+
+// Whether the rows give the answer that is wanted where they come in three parts.
+fn give(
+    rt: &impl Abort,
+    alloc: Global,
+    plan: &Plan,
+    (first, second, third): (&[Row], &[Row], &[Row]),
+    wanted: &Wanted,
+) -> Result<bool, Memory> {
+    let first = gathered(rt, alloc, plan, first)?;
+    let rest = both_gathered(rt, alloc, plan, second, third)?;
+    Ok(is_wanted(&join_parts(first, rest)?.finish(), wanted))
+}
+
+// Whether the rows give the answer that is wanted where they come in one part.
+fn give_at_once(
+    rt: &impl Abort,
+    alloc: Global,
+    plan: &Plan,
+    rows: &[Row],
+    wanted: &Wanted,
+) -> Result<bool, Memory> {
+    let whole = gathered(rt, alloc, plan, rows)?;
+    Ok(is_wanted(&join_parts(whole, Vec::new(alloc))?.finish(), wanted))
 }
 
 fn is_wanted(answer: &Answer, wanted: &Wanted) -> bool {
@@ -113,11 +146,9 @@ fn check_cut(
     requires { cut ≤ length rows.now }
 {
     for end in cut..rows.len() + 1 {
-        let answer = answer_of(rt, alloc, plan, &rows[..cut], &rows[cut..end], &rows[end..])?;
-        assert!(rt;
-            is_wanted(&answer, wanted),
-            "{name}, cut at {cut} and {end}"
-        );
+        let parts = (&rows[..cut], &rows[cut..end], &rows[end..]);
+        let give = give(rt, alloc, plan, parts, wanted)?;
+        assert!(rt; give, "{name}, cut at {cut} and {end}");
     }
     Ok(())
 }
@@ -131,8 +162,8 @@ fn check(
     rows: &[Row],
     wanted: &Wanted,
 ) -> Result<(), Fail> {
-    let whole = join_parts(gathered(rt, alloc, plan, rows)?, Vec::new(alloc))?.finish();
-    assert!(rt; is_wanted(&whole, wanted), "{name}");
+    let give = give_at_once(rt, alloc, plan, rows, wanted)?;
+    assert!(rt; give, "{name}");
     for cut in 0..rows.len() + 1 {
         check_cut(rt, alloc, name, plan, rows, cut, wanted)?;
     }

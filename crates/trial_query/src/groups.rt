@@ -1,14 +1,15 @@
 // What no clause says: the worked answers, and that each call finds memory.
-ghost use Rattle.std.specs.Prelude.{◌≡◌, ◌≤◌, ◌+◌, length, OnOk, IfOk};
+ghost use Rattle.std.specs.Prelude.{◌≡◌, ◌≤◌, ◌+◌, All, length, OnOk, IfOk};
+ghost use Rattle.table_core.specs.Value.{places_of};
 ghost use Rattle.agg_groups.specs.Groups.{NamesPlaces};
 
-use crate::fitting::{are_rows, items_in, keys_in};
+use crate::fitting::{are_rows, items_in, keys_in, one_price};
 use agg_groups::{FinishFault, Groups, Item, Rows, rows_text};
 use std::alloc::Global;
 use std::process::Abort;
 use std::test::Fail;
 use table_core::Cell::{self, Code, Int, Null};
-use table_core::{Bytes, Column, Dict, Kind, MOST_ROWS, Memory, Schema};
+use table_core::{Bytes, Dict, MOST_ROWS, Memory, Schema};
 
 const MOST: i64 = 9223372036854775807;
 
@@ -55,10 +56,10 @@ fn grouped(
 
 type Answer = Result<&'static [&'static [Cell]], FinishFault>;
 
-fn is_wanted(got: Result<Rows, FinishFault>, wanted: Answer) -> bool {
+fn is_wanted(got: &Result<Rows, FinishFault>, wanted: Answer) -> bool {
     match (got, wanted) {
         (Ok(rows), Ok(lines)) => are_rows(rows.as_slice(), lines),
-        (Err(fault), Err(other)) => fault == other,
+        (Err(fault), Err(other)) => *fault == other,
         _ => false,
     }
 }
@@ -90,7 +91,7 @@ fn gives(
 {
     let mut groups = grouped(alloc, items, keys, rows)?;
     merge(&mut groups, grouped(alloc, items, keys, more)?)?;
-    Ok(is_wanted(groups.finish(), wanted))
+    Ok(is_wanted(&groups.finish(), wanted))
 }
 
 // A name, items, keys, rows of two cells, and the answer.
@@ -258,22 +259,21 @@ fn sums_at_the_edge_of_64_bits(rt: HostRuntime) -> Result<(), Fail> {
 }
 
 // The text of one row with a count, a sum and a NULL over a column with two places.
-fn one_text(alloc: Global) -> Result<Bytes, Memory> {
-    let name = Bytes::new(Vec::from_slice(alloc, b"p")?);
-    let kind = Kind::Dec { places: 2 };
-    let schema = Schema::new(vec![in alloc; Column { name, kind }]?);
-    let dicts = vec![in alloc; Dict::new(alloc)]?;
+fn row_text(alloc: Global, schema: &Schema, dicts: &[Dict]) -> Result<Bytes, Memory>
+    requires one { length schema.now ≡ 1 }
+    requires dicts { length dicts.now ≡ 1 }
+    requires places { All (λ c. places_of c.kind ≤ 9) schema.now }
+{
     let row = vec![in alloc; Int(3), Int(-25), Null]?;
     let rows = Rows::new(vec![in alloc; row]?);
-    rows_text(
-        alloc,
-        7,
-        &[Item::CountAll, Item::Sum(0), Item::Max(0)],
-        &[],
-        &schema,
-        &dicts,
-        &rows,
-    )
+    let items = [Item::CountAll, Item::Sum(0), Item::Max(0)];
+    rows_text(alloc, 7, &items, &[], schema, dicts, &rows)
+}
+
+fn one_text(alloc: Global) -> Result<Bytes, Memory> {
+    let schema = one_price(alloc)?;
+    let dicts = vec![in alloc; Dict::new(alloc)]?;
+    row_text(alloc, &schema, &dicts)
 }
 
 #[test]

@@ -83,7 +83,6 @@ pub(crate) fn plan(
 ) -> Result<Result<Plan, StatementRefusal>, Fail> {
     let schema = schema(alloc)?;
     let dicts = dicts(rt, alloc)?;
-    assert!(rt; can_bind(&schema, &dicts));
-    assert!(rt; text.len() <= 1000);
+    assert!(rt; can_bind(&schema, &dicts) && text.len() <= 1000);
     Ok(plan_of(alloc, text, &schema, &dicts))
 }

@@ -192,6 +192,17 @@ const TEXTS: &[(&[u8], &[u8])] = &[
     (b"'\xFF0'", b"\xFF0"),
 ];
 
+// Whether each text of the column `code` is compared with a text as it must be, and NULL is unknown.
+fn are_compared(rt: &impl Abort, plan: &Option<Plan>, op: usize, text: &[u8]) -> bool {
+    for code in 0..CODES.len() {
+        let order = CODES[code].cmp(text);
+        if truth(rt, plan, &row_with(4, Code(code as u32))) != said(is_met(op, order)) {
+            return false;
+        }
+    }
+    truth(rt, plan, &row_with(4, Null)) == Some(Truth::Unknown)
+}
+
 // Tests a comparison of each text of the column `code` with a literal.
 fn compares_text(
     rt: &impl Abort,
@@ -200,13 +211,7 @@ fn compares_text(
     (literal, text): (&[u8], &[u8]),
 ) -> Result<(), Fail> {
     let plan = plan_where(rt, alloc, [b"code", sign, literal])?;
-    for code in 0..CODES.len() {
-        let truth = truth(rt, &plan, &row_with(4, Code(code as u32)));
-        let order = CODES[code].cmp(text);
-        assert!(rt; truth == said(is_met(op, order)), "{code} {op} {text:?}");
-    }
-    let truth = truth(rt, &plan, &row_with(4, Null));
-    assert!(rt; truth == Some(Truth::Unknown), "{text:?}");
+    assert!(rt; are_compared(rt, &plan, op, text), "{op} {text:?}");
     Ok(())
 }
 
@@ -264,14 +269,23 @@ fn letter(truth: Option<Truth>) -> u8 {
     }
 }
 
+// Whether the condition has these truths on the five rows.
+fn has_truths(rt: &impl Abort, plan: &Option<Plan>, wanted: &[u8]) -> bool {
+    if wanted.len() != ROWS.len() {
+        return false;
+    }
+    for i in 0..wanted.len() {
+        if letter(truth(rt, plan, &ROWS[i])) != wanted[i] {
+            return false;
+        }
+    }
+    true
+}
+
 // Tests the truth of a condition on each of the five rows.
 fn expect_truths(rt: &impl Abort, alloc: Global, text: &[u8], wanted: &[u8]) -> Result<(), Fail> {
     let plan = plan_where(rt, alloc, [text, b"", b""])?;
-    assert!(rt; wanted.len() == ROWS.len());
-    for i in 0..wanted.len() {
-        let found = letter(truth(rt, &plan, &ROWS[i]));
-        assert!(rt; found == wanted[i], "{text:?} {i}");
-    }
+    assert!(rt; has_truths(rt, &plan, wanted), "{text:?}");
     Ok(())
 }
 

@@ -33,116 +33,68 @@ fn shown(plan: &Result<Plan, StatementRefusal>) -> (&'static [u8], &[u8]) {
     }
 }
 
-const REFUSALS: &[(&[u8], &[u8], &[u8])] = &[
-    (b"SELECT COUNT(*) FROM u", b"table", b"u"),
-    (b"SELECT COUNT(*) FROM \"T\"", b"table", b"T"),
-    (b"SELECT zz FROM u", b"table", b"u"),
-    (b"SELECT zz FROM t", b"column", b"zz"),
-    (b"SELECT zz, yy FROM t WHERE dept = 1", b"column", b"zz"),
-    (b"SELECT SUM(dept), zz FROM t", b"column", b"zz"),
-    (
-        b"SELECT COUNT(*) FROM t WHERE dept = 1 AND zz = 1",
-        b"column",
-        b"zz",
-    ),
-    (
-        b"SELECT COUNT(*) FROM t WHERE (NOT yy IS NULL OR zz = 1) AND xx = 1",
-        b"column",
-        b"yy",
-    ),
-    (
-        b"SELECT COUNT(*) FROM t WHERE zz IS NOT NULL GROUP BY yy",
-        b"column",
-        b"zz",
-    ),
-    (
-        b"SELECT COUNT(*) FROM t GROUP BY dept, yy, zz",
-        b"column",
-        b"yy",
-    ),
-    (b"SELECT COUNT(yy) FROM t WHERE zz = 1", b"column", b"yy"),
-    (
-        b"SELECT id FROM t ORDER BY yy, zz LIMIT 1",
-        b"column",
-        b"yy",
-    ),
-    (
-        b"SELECT id FROM t WHERE zz = 1 ORDER BY yy LIMIT 1",
-        b"column",
-        b"zz",
-    ),
-    (b"SELECT zz FROM t ORDER BY yy LIMIT 1", b"column", b"zz"),
-    (b"SELECT ID FROM t LIMIT 1", b"column", b"ID"),
-    (b"SELECT MIN(\"id \") FROM t", b"column", b"id "),
-    (b"SELECT SUM(dept) FROM t", b"kind", b"dept"),
-    (
-        b"SELECT SUM(id), SUM(code), SUM(dept) FROM t",
-        b"kind",
-        b"code",
-    ),
-    (b"SELECT SUM(dept) FROM t WHERE code = 1", b"kind", b"dept"),
-    (b"SELECT COUNT(*) FROM t WHERE id = 'a'", b"kind", b"id"),
-    (
-        b"SELECT COUNT(*) FROM t WHERE price < 'a'",
-        b"kind",
-        b"price",
-    ),
-    (b"SELECT COUNT(*) FROM t WHERE dept = 1.5", b"kind", b"dept"),
-    (
-        b"SELECT COUNT(*) FROM t WHERE id = 1 AND NOT (code = 1 OR dept = 1)",
-        b"kind",
-        b"code",
-    ),
-    (b"SELECT id FROM t WHERE dept = 1", b"kind", b"dept"),
-    (b"SELECT id FROM t WHERE dept = 1 LIMIT 1", b"kind", b"dept"),
-    (b"SELECT id FROM t", b"plain", b"id"),
-    (
-        b"SELECT dept, id, pay FROM t GROUP BY dept",
-        b"plain",
-        b"id",
-    ),
-    (
-        b"SELECT COUNT(*), pay, dept, id FROM t GROUP BY pay",
-        b"plain",
-        b"dept",
-    ),
-    (b"SELECT x FROM", b"syntax", b""),
-    (b"SELECT zz FROM t LIMIT 4097", b"too many items", b""),
-    (b"SELECT id, pay FROM t LIMIT 0", b"", b""),
-    (
-        b"SELECT dept, dept, COUNT(*) FROM t GROUP BY dept, dept",
-        b"",
-        b"",
-    ),
-    (
-        b"SELECT COUNT(dept), MIN(dept), MAX(code), SUM(price) FROM t",
-        b"",
-        b"",
-    ),
-    (
-        b"SELECT COUNT(*) FROM t WHERE id = 1.5 AND price = 1 AND dept = '' AND code IS NULL",
-        b"",
-        b"",
-    ),
-    (b"SELECT COUNT(*) FROM t GROUP BY id", b"", b""),
-    (b"SELECT \"dept\" FROM t GROUP BY dept", b"", b""),
-    (
-        b"SELECT id FROM t ORDER BY dept DESC, price LIMIT 4096",
-        b"",
-        b"",
-    ),
-    (b"SELECT COUNT(*) FROM \"t\"", b"", b""),
-];
+// Why there is no plan, as a word and the name that it has, and the statement; no word where there is a plan.
+const REFUSALS: &str = "\
+table|u|SELECT COUNT(*) FROM u
+table|T|SELECT COUNT(*) FROM \"T\"
+table|u|SELECT zz FROM u
+column|zz|SELECT zz FROM t
+column|zz|SELECT zz, yy FROM t WHERE dept = 1
+column|zz|SELECT SUM(dept), zz FROM t
+column|zz|SELECT COUNT(*) FROM t WHERE dept = 1 AND zz = 1
+column|yy|SELECT COUNT(*) FROM t WHERE (NOT yy IS NULL OR zz = 1) AND xx = 1
+column|zz|SELECT COUNT(*) FROM t WHERE zz IS NOT NULL GROUP BY yy
+column|yy|SELECT COUNT(*) FROM t GROUP BY dept, yy, zz
+column|yy|SELECT COUNT(yy) FROM t WHERE zz = 1
+column|yy|SELECT id FROM t ORDER BY yy, zz LIMIT 1
+column|zz|SELECT id FROM t WHERE zz = 1 ORDER BY yy LIMIT 1
+column|zz|SELECT zz FROM t ORDER BY yy LIMIT 1
+column|ID|SELECT ID FROM t LIMIT 1
+column|id |SELECT MIN(\"id \") FROM t
+kind|dept|SELECT SUM(dept) FROM t
+kind|code|SELECT SUM(id), SUM(code), SUM(dept) FROM t
+kind|dept|SELECT SUM(dept) FROM t WHERE code = 1
+kind|id|SELECT COUNT(*) FROM t WHERE id = 'a'
+kind|price|SELECT COUNT(*) FROM t WHERE price < 'a'
+kind|dept|SELECT COUNT(*) FROM t WHERE dept = 1.5
+kind|code|SELECT COUNT(*) FROM t WHERE id = 1 AND NOT (code = 1 OR dept = 1)
+kind|dept|SELECT id FROM t WHERE dept = 1
+kind|dept|SELECT id FROM t WHERE dept = 1 LIMIT 1
+plain|id|SELECT id FROM t
+plain|id|SELECT dept, id, pay FROM t GROUP BY dept
+plain|dept|SELECT COUNT(*), pay, dept, id FROM t GROUP BY pay
+syntax||SELECT x FROM
+too many items||SELECT zz FROM t LIMIT 4097
+||SELECT id, pay FROM t LIMIT 0
+||SELECT dept, dept, COUNT(*) FROM t GROUP BY dept, dept
+||SELECT COUNT(dept), MIN(dept), MAX(code), SUM(price) FROM t
+||SELECT COUNT(*) FROM t WHERE id = 1.5 AND price = 1 AND dept = '' AND code IS NULL
+||SELECT COUNT(*) FROM t GROUP BY id
+||SELECT \"dept\" FROM t GROUP BY dept
+||SELECT id FROM t ORDER BY dept DESC, price LIMIT 4096
+||SELECT COUNT(*) FROM \"t\"";
+
+// The three parts of a line, which bars divide.
+fn parts(line: &str) -> Option<(&str, &str, &str)> {
+    let (word, rest) = line.split_once('|')?;
+    let (name, text) = rest.split_once('|')?;
+    Some((word, name, text))
+}
+
+// Whether the statement of a line is refused with its word and its name.
+fn is_refused(rt: &impl Abort, alloc: Global, line: &str) -> Result<bool, Fail> {
+    let Some((word, name, text)) = parts(line) else {
+        return Ok(false);
+    };
+    let plan = plan(rt, alloc, text.as_bytes())?;
+    Ok(shown(&plan) == (word.as_bytes(), name.as_bytes()))
+}
 
 // Tests the word and the name of each refusal.
-fn expect_shown(
-    rt: &impl Abort,
-    alloc: Global,
-    rows: &[(&[u8], &[u8], &[u8])],
-) -> Result<(), Fail> {
-    for (text, word, name) in rows {
-        let plan = plan(rt, alloc, text)?;
-        assert!(rt; shown(&plan) == (*word, *name), "{text:?}");
+fn expect_shown(rt: &impl Abort, alloc: Global, lines: &str) -> Result<(), Fail> {
+    for line in lines.split('\n') {
+        let is_refused = is_refused(rt, alloc, line)?;
+        assert!(rt; is_refused, "{line}");
     }
     Ok(())
 }
@@ -204,12 +156,19 @@ fn is_planned(plan: &Plan, items: &[Item], keys: &[u32], columns: u32) -> bool {
         && plan.rows.is_some() == items.is_empty()
 }
 
+// Whether the query has the plan of its row.
+fn is_row(rt: &impl Abort, alloc: Global, row: &Planned<'_>) -> Result<bool, Fail> {
+    let (text, items, keys, columns) = *row;
+    match plan(rt, alloc, text)? {
+        Ok(plan) => Ok(is_planned(&plan, items, keys, columns)),
+        Err(_) => Ok(false),
+    }
+}
+
 fn expect_planned(rt: &impl Abort, alloc: Global, rows: &[Planned<'_>]) -> Result<(), Fail> {
-    for (text, items, keys, columns) in rows {
-        let Ok(plan) = plan(rt, alloc, text)? else {
-            panic!(rt; "{text:?}")
-        };
-        assert!(rt; is_planned(&plan, items, keys, *columns), "{text:?}");
+    for row in rows {
+        let is_row = is_row(rt, alloc, row)?;
+        assert!(rt; is_row, "{:?}", row.0);
     }
     Ok(())
 }
