@@ -12,7 +12,7 @@ use crate::watch::Watch;
 use anyhow::Result;
 use coop_outside::{Bytes, MemShelf, MemSink};
 use coop_run::run_settings;
-use policy_box::Elevator;
+use policy_box::{Boxed, Elevator};
 use policy_plain::{Attach, Normal};
 use relevance::{Policy, Relevance};
 use run_decision::Counts;
@@ -49,13 +49,13 @@ fn sink(alloc: Global) -> MemSink {
 }
 
 // Plays the queries under a policy, on so many workers.
-fn play<P: Policy, R: Threads + Wait + Sync>(
+fn play<R: Threads + Wait + Sync>(
     handle: &R,
     rt: HostRuntime,
     experiment: &Experiment,
     workers: u32,
     queries: &[RangeQuery],
-    policy: P,
+    policy: Boxed,
 ) -> Result<Played>
     requires workers { IsFrom 1 MOST_WORKERS workers }
     ensures each { IfOk result (λ played. vec_len played.ends ≡ length queries.now) }
@@ -96,10 +96,12 @@ pub(crate) fn play_under<R: Threads + Wait + Sync>(
     requires workers { IsFrom 1 MOST_WORKERS workers }
     ensures each { IfOk result (λ played. vec_len played.ends ≡ length queries.now) }
 {
-    match name {
-        PolicyName::Relevance => play(handle, rt, experiment, workers, queries, Relevance),
-        PolicyName::Elevator => play(handle, rt, experiment, workers, queries, Elevator::new()),
-        PolicyName::Normal => play(handle, rt, experiment, workers, queries, Normal::new()),
-        PolicyName::Attach => play(handle, rt, experiment, workers, queries, Attach::new()),
-    }
+    let alloc = rt.alloc();
+    let policy: Box<dyn Policy + Send> = match name {
+        PolicyName::Relevance => Box::new(alloc, Relevance)?,
+        PolicyName::Elevator => Box::new(alloc, Elevator::new())?,
+        PolicyName::Normal => Box::new(alloc, Normal::new())?,
+        PolicyName::Attach => Box::new(alloc, Attach::new())?,
+    };
+    play(handle, rt, experiment, workers, queries, Boxed { policy })
 }

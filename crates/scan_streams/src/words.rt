@@ -12,22 +12,22 @@ use table_core::MOST_CHUNK_ROWS;
 // What `--policy` may be.
 const NAMES: [&str; 5] = ["all", "relevance", "elevator", "normal", "attach"];
 
+// An option of a name, with what `--help` says of it.
+fn option<'a>(alloc: Global, name: &'a str, help: &'a str) -> Arg<'a> {
+    Arg::new(alloc, name).long(name).help(help)
+}
+
 // An option whose value is a number within limits.
 fn number<'a>(alloc: Global, name: &'a str, least: u32, most: u32, help: &'a str) -> Arg<'a> {
     let numbers = value_parser!(u32).range(i64::from(least)..=i64::from(most));
-    Arg::new(alloc, name)
-        .long(name)
+    option(alloc, name, help)
         .value_name("N")
         .value_parser(numbers)
-        .help(help)
 }
 
 // A flag.
 fn flag<'a>(alloc: Global, name: &'a str, help: &'a str) -> Arg<'a> {
-    Arg::new(alloc, name)
-        .long(name)
-        .action(ArgAction::SetTrue)
-        .help(help)
+    option(alloc, name, help).action(ArgAction::SetTrue)
 }
 
 // The command with the numbers of an experiment.
@@ -82,11 +82,9 @@ fn with_numbers<'a>(alloc: Global, command: Command<'a>) -> Result<Command<'a>, 
 
 /// The command line that the program reads.
 pub(crate) fn command<'a>(alloc: Global) -> Result<Command<'a>, AllocError> {
-    let policy = Arg::new(alloc, "policy")
-        .long("policy")
+    let policy = option(alloc, "policy", "The policy under which the streams run")
         .value_parser(NAMES.as_slice())
-        .default_value("all")
-        .help("The policy under which the streams run");
+        .default_value("all");
     let about =
         "Plays streams of range queries over a table whose chunks take their time to be read";
     let command = Command::new(alloc, "scan_streams").about(about);
