@@ -47,11 +47,11 @@ fn run_with_four<R: Threads + Wait + Sync>(
     requires gets { any_gets depot ≤ 2 ^ 62 }
 {
     let alloc = rt.alloc();
-    let mut policies: Vec<Box<dyn Policy + Send>> = Vec::new(alloc);
-    policies.push(Box::new(alloc, Relevance)?)?;
-    policies.push(Box::new(alloc, Elevator::new())?)?;
-    policies.push(Box::new(alloc, Normal::new())?)?;
-    policies.push(Box::new(alloc, Attach::new())?)?;
+    let relevance: Box<dyn Policy + Send> = Box::new(alloc, Relevance)?;
+    let elevator: Box<dyn Policy + Send> = Box::new(alloc, Elevator::new())?;
+    let normal: Box<dyn Policy + Send> = Box::new(alloc, Normal::new())?;
+    let attach: Box<dyn Policy + Send> = Box::new(alloc, Attach::new())?;
+    let policies = vec![in alloc; relevance, elevator, normal, attach]?;
     let mut shelf = DiskShelf::new(rt);
     let ended = run_boxed(
         handle, alloc, keys, words, &mut shelf, depot, policies, &NoGate, out,
