@@ -16,6 +16,7 @@ use std::thread::Threads;
 
 mod answers;
 mod boxed;
+mod counts;
 mod devices;
 mod generated;
 mod hostile;
