@@ -14,11 +14,11 @@ ghost use Rattle.abm_policy.specs.Depots.{depot_view, ComesBack, MayReport};
 ghost use Rattle.abm_policy.specs.Turns.{RunsOn, MayTurn};
 
 use crate::desk::{Desk, write};
-use crate::slots::Slots;
 use crate::ticket::Ticket;
 use coop_outside::Depot;
 use relevance::Policy;
 use scan_story::{Entry, Origin, Why};
+use table_sets::Slots;
 
 impl<S: Origin, P: Policy, D: Depot> Desk<S, P, D> {
     // Appends a Filled that isn't the last of the load.

@@ -16,7 +16,6 @@ mod desk;
 mod ends;
 mod loads;
 mod room;
-mod slots;
 mod ticket;
 mod turn;
 mod turns;
@@ -25,7 +24,7 @@ mod waiting;
 pub use desk::Desk;
 pub use room::frames_needed;
 pub use scan_story::{Cause, Memory, Why};
-pub use slots::Slots;
+pub use table_sets::Slots;
 pub use ticket::Ticket;
 pub use turn::Turn;
 pub use waiting::{

@@ -13,12 +13,12 @@ ghost use Rattle.abm_policy.specs.Depots.{depot_view, Agrees, IsHandedOut};
 ghost use Rattle.abm_policy.specs.Turns.{MayTurn};
 
 use crate::desk::{Desk, write};
-use crate::slots::Slots;
 use crate::ticket::Ticket;
 use coop_outside::Depot;
 use interest_book::Pieces;
 use relevance::Policy;
 use scan_story::{Entry, Origin};
+use table_sets::Slots;
 
 // A load that was planned: for which query, which chunk, its missing pieces, and the depot to read them from.
 struct Planned<D> {

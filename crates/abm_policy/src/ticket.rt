@@ -1,4 +1,4 @@
-use crate::slots::Slots;
+use table_sets::Slots;
 
 /// A load that is underway: the worker may read each slot's piece into its frame. It must be spent, by `Desk::filled`
 /// or `Desk::failed`.

@@ -1,6 +1,6 @@
-use crate::slots::Slots;
 use crate::ticket::Ticket;
 use scan_story::Cause;
+use table_sets::Slots;
 
 /// What a turn answers.
 #[derive(Debug)]

@@ -12,11 +12,11 @@ ghost use Rattle.abm_policy.specs.Depots.{depot_view};
 ghost use Rattle.abm_policy.specs.Turns.{MayTurn, StandIn, row, row_of, Answers};
 
 use crate::desk::{Desk, write};
-use crate::slots::Slots;
 use crate::turn::Turn;
 use coop_outside::Depot;
 use relevance::Policy;
 use scan_story::{Entry, Origin, Phase};
+use table_sets::Slots;
 
 impl<S: Origin, P: Policy, D: Depot> Desk<S, P, D> {
     fn is_stopped(&self, q: u32) -> bool

@@ -12,7 +12,7 @@ use Rattle.agg_groups.specs.Meaning.{or_else, first_some, answer, over, meaning,
 use Rattle.agg_groups.specs.Running.{runnings, over_shown}
 use Rattle.agg_groups.specs.Groups.{groups_of}
 use Rattle.table_core.specs.Lists.{lists}
-use Rattle.table_core.specs.declared.limits.TheConstants.{MOST_ROWS}
+use Rattle.table_sets.specs.declared.limits.TheConstants.{MOST_ROWS}
 use Rattle.agg_groups.specs.Table.{AreSound, AreBelow, AllFit, first_over, result_rows, values_at}
 use Rattle.agg_groups.proofs.Values.{answers-shown, over-shown, all_fit}
 

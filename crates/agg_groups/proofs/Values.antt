@@ -11,7 +11,7 @@ use Rattle.std.proofs.lemmas.List.Elements.{All-from_recursion, recursion_from_A
 use Rattle.table_core.specs.declared.cell.Cell.{Cell}
 use Rattle.table_core.specs.declared.cell.Cell.TheVariants.{Null, Int, Code}
 use Rattle.table_core.specs.Cell.{cell_cmp}
-use Rattle.table_core.specs.declared.limits.TheConstants.{MOST_ROWS}
+use Rattle.table_sets.specs.declared.limits.TheConstants.{MOST_ROWS}
 use Rattle.agg_groups.specs.declared.running.Running.{Running}
 use Rattle.agg_groups.specs.declared.running.Running.TheVariants as running
 use Rattle.agg_groups.specs.declared.item.Item.{Item}

@@ -2,7 +2,7 @@
 use Rattle.std.proofs.Common.{◌≡◌, ◌≤◌, ◌+◌, ℕ, false, List, [], ◌∷◌, refl, sym, arith, inl, inr}
 use Rattle.std.specs.Prelude.{◌&&◌, nat_lt}
 use Rattle.std.proofs.lemmas.Bool.{cases_lt, lt-ltb, le-ltb, ne_eqb}
-use Rattle.table_core.specs.Sets.{has, numbers_below, AreMembers, Rising}
+use Rattle.table_sets.specs.Sets.{has, numbers_below, AreMembers, Rising}
 use Rattle.filter_zones.proofs.Sets.{members_are}
 
 -- a number from the end on is no member

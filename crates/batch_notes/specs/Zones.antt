@@ -1,7 +1,7 @@
 -- The zones of a table's chunks, as notes want them.
 use Rattle.std.specs.Prelude.{◌≤◌, List, ℕ, length, All}
 use Rattle.table_core.specs.declared.schema.Column.{Column}
-use Rattle.table_core.specs.declared.limits.TheConstants.{MOST_CHUNKS}
+use Rattle.table_sets.specs.declared.limits.TheConstants.{MOST_CHUNKS}
 use Rattle.filter_zones.specs.Possible.{FitsZones}
 use Rattle.filter_zones.specs.declared.cond.Cond.{Cond}
 use Rattle.filter_zones.specs.declared.zone.ChunkZones.{ChunkZones}

@@ -2,7 +2,7 @@
 ghost use Rattle.std.specs.Prelude.{◌≡◌, ◌≤◌, ◌<◌, ◌^◌, All, IfErr, IfOk, IfSome, length};
 ghost use Rattle.filter_zones.specs.Possible.{FitsZones};
 ghost use Rattle.table_core.specs.Value.{places_of};
-ghost use Rattle.table_core.specs.declared.limits.TheConstants.{MOST_CHUNKS};
+ghost use Rattle.table_sets.specs.declared.limits.TheConstants.{MOST_CHUNKS};
 ghost use Rattle.sql_bind.specs.Statements.{IsPlanFor, IsRefusedFor};
 ghost use Rattle.sql_bind.specs.declared.plan.Plan.{Plan as PlanOf};
 ghost use Rattle.sql_text.specs.Queries.{HasQuery};

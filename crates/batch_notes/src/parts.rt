@@ -1,7 +1,7 @@
 // The parts that a condition demands, as what stands in the way.
 ghost use Rattle.std.specs.Prelude.{◌≡◌, ◌≤◌, ◌++◌, ◌∷◌, [], All, IfOk, IfSome, OnOk, length, map, true};
 ghost use Rattle.filter_zones.specs.Possible.{FitsZones, needed as chunks_needed};
-ghost use Rattle.table_core.specs.declared.limits.TheConstants.{MOST_CHUNKS};
+ghost use Rattle.table_sets.specs.declared.limits.TheConstants.{MOST_CHUNKS};
 ghost use Rattle.batch_notes.specs.Parts as parts;
 ghost use Rattle.batch_notes.specs.Obstacles as spec;
 

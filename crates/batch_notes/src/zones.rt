@@ -6,7 +6,7 @@ ghost use Rattle.table_pieces.specs.Zoning.{chunk_zones};
 ghost use Rattle.table_profile.specs.Profiles.{IsOfRecords};
 ghost use Rattle.batch_notes.specs.Zones.{AreZonesOf};
 
-use csv_load::Loaded;
+use csv_meaning::Loaded;
 use filter_zones::ChunkZones;
 use piece_format::Layout;
 use std::alloc::Global;

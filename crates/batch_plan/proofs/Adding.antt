@@ -4,8 +4,8 @@ use Rattle.std.specs.Prelude.{IsPermutation, nat_lt}
 use Rattle.std.specs.List.{AllByRecursion}
 use Rattle.std.proofs.lemmas.Bool.{and_parts, cases_eq, eq-eqb, ne_eqb}
 use Rattle.std.proofs.lemmas.List.Elements.{All-from_recursion, recursion_from_All}
-use Rattle.table_core.specs.Sets.{has, numbers_below, AreMembers, Rising}
-use Rattle.table_core.proofs.Members.{has-numbers, numbers-rise}
+use Rattle.table_sets.specs.Sets.{has, numbers_below, AreMembers, Rising}
+use Rattle.table_sets.proofs.Members.{has-numbers, numbers-rise}
 use Rattle.filter_zones.specs.Possible.{chunk_at, is_needed, needed}
 use Rattle.filter_zones.specs.declared.cond.Cond.{Cond}
 use Rattle.filter_zones.specs.declared.zone.ChunkZones.{ChunkZones}

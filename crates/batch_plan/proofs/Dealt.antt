@@ -5,7 +5,7 @@ use Rattle.std.proofs.lemmas.Bool.{cases_Bool, cases_eq, cases_lt, cases_order, 
 use Rattle.std.proofs.lemmas.List.Sorted.{IsPermutation-refl, IsPermutation-trans, IsPermutation-append_left, IsPermutation-append_right, IsPermutation-append_comm}
 use Rattle.std.proofs.Math.Nat.{mod-lt, suc-mod, add-mul, mod-eq_of_lt, mod_self, div-add-mod', div-eq_of_lt-le, div-eq_of_lt}
 use Rattle.filter_zones.proofs.Sets.{members_are}
-use Rattle.table_core.specs.Sets.{has, numbers_below, AreMembers, Rising}
+use Rattle.table_sets.specs.Sets.{has, numbers_below, AreMembers, Rising}
 use Rattle.batch_plan.specs.Deal.{place, is_dealt, deal, dealt_to}
 
 -- the numbers below an end that pass, with one number more

@@ -5,8 +5,8 @@ use Rattle.std.specs.List.{All, AllByRecursion}
 use Rattle.std.proofs.lemmas.List.Elements.{recursion_from_All}
 use Rattle.std.proofs.lemmas.Bool.{cases_lt, le-ltb}
 use Rattle.std.proofs.Math.Nat.{mod-lt, mul-le-mul_right, add-mul}
-use Rattle.table_core.specs.Sets.{has, Rising, AreMembers}
-use Rattle.table_core.proofs.Members.{has-numbers, numbers-rise}
+use Rattle.table_sets.specs.Sets.{has, Rising, AreMembers}
+use Rattle.table_sets.proofs.Members.{has-numbers, numbers-rise}
 use Rattle.filter_zones.specs.declared.cond.Cond.{Cond}
 use Rattle.filter_zones.specs.declared.zone.ChunkZones.{ChunkZones}
 use Rattle.filter_zones.specs.Possible.{needed, is_needed, chunk_at}

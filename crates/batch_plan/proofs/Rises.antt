@@ -2,7 +2,7 @@
 use Rattle.std.proofs.Common.{◌≡◌, ◌<◌, ◌≤◌, ◌+◌, ◌++◌, ◌∷◌, ℕ, zero, suc, Bool, true, List, [], arith, inl, inr}
 use Rattle.std.specs.List.{AllByRecursion}
 use Rattle.std.proofs.lemmas.Bool.{cases_Bool}
-use Rattle.table_core.specs.Sets.{numbers_below, Rising}
+use Rattle.table_sets.specs.Sets.{numbers_below, Rising}
 use Rattle.scan_story.specs.Setting.{IsRising}
 
 -- a later start, and an earlier one

@@ -1,6 +1,6 @@
 -- Dealing the chunks of a query to its parts.
 use Rattle.std.specs.Prelude.{◌%◌, ◌==◌, ◌&&◌, ◌++◌, ℕ, zero, suc, Bool, List, [], length}
-use Rattle.table_core.specs.Sets.{has, numbers_below}
+use Rattle.table_sets.specs.Sets.{has, numbers_below}
 
 -- the place of a number among the members in rising order, from 0: how many members are below it
 abbrev pub place : List ℕ → ℕ → ℕ

@@ -1,6 +1,6 @@
 // What holds of every deal, and of the needs that are dealt.
 ghost use Rattle.std.specs.Prelude.{◌<◌, ℕ, All, List, IsPermutation};
-ghost use Rattle.table_core.specs.Sets.{AreMembers};
+ghost use Rattle.table_sets.specs.Sets.{AreMembers};
 ghost use Rattle.filter_zones.specs.declared.zone.ChunkZones.{ChunkZones};
 ghost use Rattle.piece_format.specs.Shape.{TableShape};
 ghost use Rattle.scan_story.specs.declared.setting.PolicyName.{PolicyName};

@@ -4,7 +4,7 @@ ghost use Rattle.scan_story.specs.declared.setting.PolicyName.{PolicyName};
 ghost use Rattle.scan_story.specs.Setting.{HasRoom, IsSetting};
 ghost use Rattle.filter_zones.specs.Possible as possible;
 ghost use Rattle.filter_zones.specs.declared.zone.ChunkZones.{ChunkZones as Zoned};
-ghost use Rattle.table_core.specs.Sets.{AreMembers};
+ghost use Rattle.table_sets.specs.Sets.{AreMembers};
 ghost use Rattle.batch_plan.specs.Scans as spec;
 ghost use Rattle.batch_plan.specs.Setting.{IsBatch, batch_setting};
 

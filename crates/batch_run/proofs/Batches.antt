@@ -21,9 +21,9 @@ use Rattle.query_gather.specs.declared.answer.Answer.{Answer}
 use Rattle.batch_plan.specs.declared.task.Task.{Task}
 use Rattle.batch_plan.specs.Scans.{Scan, needs, scans_from, scans_from_part}
 use Rattle.batch_run.specs.Came.{CameOf, IsNeedOf}
-use Rattle.batch_run.specs.Answering.{AnswersSome, AreAllJoinable, Came, IsStoppedFor}
-use Rattle.batch_run.specs.Lost.{IsLostBy, stop_of}
-use Rattle.batch_run.specs.Taken.{TookNeed}
+use Rattle.batch_answers.specs.Answering.{AnswersSome, AreAllJoinable, Came, IsStoppedFor}
+use Rattle.batch_answers.specs.Lost.{IsLostBy, stop_of}
+use Rattle.batch_answers.specs.Taken.{TookNeed}
 use Rattle.batch_run.proofs.Parts.{IsAnswerRead, is_read, joinable, same_cause}
 
 -- ---- lists in two parts

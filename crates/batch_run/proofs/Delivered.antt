@@ -16,8 +16,7 @@ use Rattle.scan_story.specs.Views.{History, is_ended, past}
 use Rattle.story_laws.specs.Lists.{NoneTwice}
 use Rattle.story_laws.specs.Queries.{IsOnceEach, chunks_delivered}
 use Rattle.story_laws.proofs.Bools.{equal_number, if_here, if_not, not_both, or_false, or_off, other_number, same_number, same_some, unequal}
-use Rattle.story_laws.proofs.Delivering.{delivered_once, took_asked}
-use Rattle.cscan.proofs.Stories.{delivered_append}
+use Rattle.story_laws.proofs.Delivering.{delivered_append, delivered_once, took_asked}
 use Rattle.batch_run.specs.Parts.{AreAllOnce}
 
 -- Lists

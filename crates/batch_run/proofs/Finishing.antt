@@ -29,7 +29,6 @@ use Rattle.frame_pool.specs.Berths.{PoolView}
 use Rattle.frame_pool.specs.Frames.{Told}
 use Rattle.piece_format.specs.Shape.{TableShape}
 use Rattle.query_gather.specs.declared.partial.Partial.{Partial}
-use Rattle.batch_run.specs.Parts.{registered}
 use Rattle.batch_run.proofs.Delivered.{reverse-first}
 use Rattle.batch_run.specs.declared.job.Job.{Job}
 use Rattle.batch_run.specs.declared.worker.Worker.{Worker}
@@ -42,8 +41,8 @@ use Rattle.sql_bind.specs.declared.plan.Plan.{Plan}
 use Rattle.batch_plan.specs.Scans.{Scan}
 use Rattle.batch_run.specs.Jobs.{AreJobs, IsJob, IsJobOf, jobs_on, numbers_of}
 use Rattle.batch_run.specs.Lists.{AreCounted, AreSorted, CameOfAll, CameOfJob}
-use Rattle.batch_run.specs.Registering.{numbers_on}
-use Rattle.batch_run.specs.Whole.{LoadsAreBounded}
+use Rattle.batch_answers.specs.Registering.{numbers_on, registered}
+use Rattle.batch_answers.specs.Whole.{LoadsAreBounded}
 use Rattle.batch_run.specs.Workers.{HasRun, Rests}
 use Rattle.batch_run.proofs.Coming.{came_later, came_over, over_inactive}
 use Rattle.batch_run.proofs.Endings.{none_underway}

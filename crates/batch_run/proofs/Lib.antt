@@ -2,14 +2,9 @@ pub mod Delivered
 pub mod Orders
 pub mod Stories
 pub mod Numbers
-pub mod Tables
 pub mod Held
 pub mod Matched
 pub mod Parts
-pub mod Results
-pub mod Plans
-pub mod Faultless
-pub mod Noted
 pub mod Batches
 pub mod Written
 pub mod Ending

@@ -5,8 +5,8 @@ use Rattle.std.specs.List.{AllByRecursion, flat_map}
 use Rattle.std.proofs.lemmas.Bool.{lt-ltb}
 use Rattle.std.proofs.lemmas.List.Elements.{All-from_recursion, filter-append, recursion_from_All}
 use Rattle.table_core.specs.Chunk.{chunk, chunk_count, chunk_end}
-use Rattle.table_core.specs.Sets.{has, numbers_below}
-use Rattle.table_core.proofs.Members.{has-numbers}
+use Rattle.table_sets.specs.Sets.{has, numbers_below}
+use Rattle.table_sets.proofs.Members.{has-numbers}
 use Rattle.table_core.specs.declared.cell.Cell.{Cell}
 use Rattle.filter_zones.specs.Possible.{chunk_at, is_needed, needed}
 use Rattle.filter_zones.specs.Truth.{truth_of}
@@ -21,7 +21,7 @@ use Rattle.sql_bind.specs.Meaning.{is_true, matches, numbered}
 use Rattle.query_gather.specs.Partial.{matching}
 use Rattle.table_pieces.specs.Zoning.{NoMatchOutside}
 use Rattle.table_pieces.proofs.Passing.{passing_chunks}
-use Rattle.batch_run.specs.Rows.{chunk_rows, rows_of_chunks}
+use Rattle.batch_answers.specs.Rows.{chunk_rows, rows_of_chunks}
 
 -- ---- parts of numbered rows
 

@@ -4,7 +4,7 @@ use Rattle.std.specs.Prelude.{IsPermutation, filter}
 use Rattle.std.specs.List.{flat_map}
 use Rattle.std.proofs.lemmas.Bool.{cases_Bool, cases_eq, eq-eqb, ne_eqb}
 use Rattle.std.proofs.lemmas.List.Sorted.{IsPermutation-append_comm, IsPermutation-append_left, IsPermutation-append_right, IsPermutation-cons, IsPermutation-middle, IsPermutation-refl, IsPermutation-sym, IsPermutation-to_front, IsPermutation-trans}
-use Rattle.table_core.specs.Sets.{has, numbers_below}
+use Rattle.table_sets.specs.Sets.{has, numbers_below}
 use Rattle.table_core.specs.declared.cell.Cell.{Cell}
 use Rattle.story_laws.specs.Lists.{NoneTwice}
 use Rattle.story_laws.proofs.Bools.{or_right}

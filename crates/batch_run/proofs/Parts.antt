@@ -7,8 +7,8 @@ use Rattle.std.proofs.lemmas.Grind.{flat_map-append}
 use Rattle.std.proofs.lemmas.List.{append-nil, length-map, map-append}
 use Rattle.std.proofs.lemmas.List.Elements.{All-from_recursion, filter-append, recursion_from_All}
 use Rattle.std.proofs.lemmas.List.Sorted.{IsPermutation-append_left, IsPermutation-append_right, IsPermutation-refl, IsPermutation-sym, IsPermutation-trans, length_permutation}
-use Rattle.table_core.specs.Sets.{AreMembers, has}
-use Rattle.table_core.proofs.Members.{has-numbers, numbers-rise}
+use Rattle.table_sets.specs.Sets.{AreMembers, has}
+use Rattle.table_sets.proofs.Members.{has-numbers, numbers-rise}
 use Rattle.table_core.specs.declared.cell.Cell.{Cell}
 use Rattle.filter_zones.specs.Possible.{chunk_at, is_needed, needed}
 use Rattle.filter_zones.specs.declared.zone.ChunkZones.{ChunkZones}
@@ -38,15 +38,15 @@ use Rattle.query_gather.proofs.Answering.{answer_agrees}
 use Rattle.batch_plan.specs.Deal as dealing
 use Rattle.batch_plan.specs.Deal.{deal, dealt_to, is_dealt}
 use Rattle.batch_plan.proofs.Dealt.{all_dealt}
-use Rattle.cscan.specs.Tables.{HoldsTable}
+use Rattle.frame_rows.specs.Tables.{HoldsTable}
 use Rattle.batch_plan.specs.declared.task.Task.{Task}
 use Rattle.batch_plan.specs.Scans.{scan_number, scans_from_part}
 use Rattle.batch_plan.proofs.Rises.{is_rising, rises_to}
-use Rattle.batch_run.specs.Rows.{AreOfShape, FitsShape, chunk_numbers, chunk_rows, numbers_of_chunks, rows_of_chunks}
+use Rattle.batch_answers.specs.Rows.{AreOfShape, FitsShape, chunk_numbers, chunk_rows, numbers_of_chunks, rows_of_chunks}
 use Rattle.batch_run.specs.Came.{CameOf}
-use Rattle.batch_run.specs.Answering.{AreApart, AreJoinable, Came, IsAnswerOf, first_cause}
-use Rattle.batch_run.specs.Lost.{cause_from, or_first, stop_of}
-use Rattle.batch_run.specs.Taken.{TookNeed}
+use Rattle.batch_answers.specs.Answering.{AreApart, AreJoinable, Came, IsAnswerOf, first_cause}
+use Rattle.batch_answers.specs.Lost.{cause_from, or_first, stop_of}
+use Rattle.batch_answers.specs.Taken.{TookNeed}
 use Rattle.batch_run.proofs.Numbers.{few_numbers, in_chunks, in_numbers}
 use Rattle.batch_run.proofs.Orders.{agree_in_order, mapped_in_order, passing_in_order}
 use Rattle.batch_run.proofs.Stories.{took_dealt}

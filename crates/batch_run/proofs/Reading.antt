@@ -4,12 +4,12 @@ use Rattle.std.proofs.lemmas.Bool.{cases_Bool}
 use Rattle.std.proofs.lemmas.List.{length-take-le}
 use Rattle.std.proofs.lemmas.List.Elements.{All-drop, All-get_or, All-take}
 use Rattle.table_core.specs.Chunk.{chunk, chunk_end}
-use Rattle.table_core.specs.Sets.{has}
+use Rattle.table_sets.specs.Sets.{has}
 use Rattle.table_core.specs.declared.cell.Cell.{Cell}
 use Rattle.piece_format.specs.Shape.{TableShape, rows_in}
 use Rattle.query_gather.specs.Agree.{RowsAgree}
-use Rattle.cscan.specs.Rows.{FitColumns, HasCellsOf, OthersAreNull}
-use Rattle.batch_run.specs.Rows.{AreOfShape, FitsShape}
+use Rattle.frame_rows.specs.Rows.{FitColumns, HasCellsOf, OthersAreNull}
+use Rattle.batch_answers.specs.Rows.{AreOfShape, FitsShape}
 
 -- cells that some columns may have, and NULL in the other places
 pub read_fits : (z : TableShape) (columns : List ℕ) (cells : List Cell) → length cells ≡ length z.kinds → FitColumns z columns cells → OthersAreNull columns cells → FitsShape z cells

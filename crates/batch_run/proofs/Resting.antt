@@ -32,9 +32,10 @@ use Rattle.batch_run.specs.Gathered.{Gathered}
 use Rattle.batch_run.proofs.Delivered.{delivered_by}
 use Rattle.batch_run.specs.declared.part.Unfinished.{Unfinished}
 use Rattle.batch_run.specs.declared.part.Unfinished.TheVariants as unfinished
-use Rattle.batch_run.specs.Parts.{CameTo, WentFor, registered}
+use Rattle.batch_answers.specs.Registering.{registered}
+use Rattle.batch_run.specs.Parts.{CameTo, WentFor}
 use Rattle.batch_run.specs.Came.{CameFor}
-use Rattle.cscan.proofs.Stories.{delivered_append}
+use Rattle.story_laws.proofs.Delivering.{delivered_append}
 use Rattle.cscan.specs.declared.scan.CScan.{CScan}
 use Rattle.batch_run.specs.declared.job.Job.{Job}
 use Rattle.batch_run.specs.Jobs.{numbers_of}

@@ -27,7 +27,7 @@ use Rattle.query_gather.specs.declared.partial.Partial.{Partial}
 use Rattle.cscan.specs.declared.station.Station.{Station}
 use Rattle.cscan.specs.Scans.{IsOver}
 use Rattle.cscan.specs.Stations.{Waits}
-use Rattle.batch_run.specs.Parts.{registered}
+use Rattle.batch_answers.specs.Registering.{registered}
 use Rattle.batch_run.specs.declared.job.Job.{Job}
 use Rattle.batch_run.specs.Came.{CameFor}
 use Rattle.batch_run.specs.Jobs.{AreJobs, IsJob, jobs_on, numbers_of}

@@ -3,8 +3,8 @@ use Rattle.std.proofs.Common.{◌≡◌, ◌∙◌, ◌<◌, ◌∷◌, ◌==◌
 use Rattle.std.specs.Prelude.{None, Some, IsPermutation, find, nat_lt}
 use Rattle.std.specs.List.{AllByRecursion}
 use Rattle.std.proofs.lemmas.Bool.{lt-ltb, ltb-true, and_parts}
-use Rattle.table_core.specs.Sets.{has}
-use Rattle.table_core.proofs.Members.{has-numbers}
+use Rattle.table_sets.specs.Sets.{has}
+use Rattle.table_sets.proofs.Members.{has-numbers}
 use Rattle.filter_zones.specs.Possible.{needed}
 use Rattle.filter_zones.specs.declared.zone.ChunkZones.{ChunkZones}
 use Rattle.scan_story.specs.declared.entry.Entry.{Entry}
@@ -22,7 +22,7 @@ use Rattle.chunk_interest.specs.Fresh.{as_need}
 use Rattle.batch_plan.specs.Deal.{deal, is_dealt}
 use Rattle.batch_plan.specs.Scans.{Scan, need_of, needs}
 use Rattle.batch_run.proofs.Delivered.{story_all, story_once}
-use Rattle.batch_run.specs.Taken.{TookNeed}
+use Rattle.batch_answers.specs.Taken.{TookNeed}
 use Rattle.batch_run.proofs.Orders.{alike_below, rising_order}
 use Rattle.batch_run.proofs.Planned.{find_themselves}
 

@@ -23,9 +23,11 @@ use Rattle.query_gather.specs.Partial.{row_count}
 use Rattle.cscan.specs.declared.scan.CScan.{CScan}
 use Rattle.cscan.specs.Answers.{AreOfLoads, Ends, FindsStopped, Releases, TakesChunk}
 use Rattle.cscan.specs.Scans.{IsOver, IsSameScan, IsScan}
-use Rattle.cscan.proofs.Stories.{delivered_append, loads_deliver_none}
+use Rattle.cscan.proofs.Stories.{loads_deliver_none}
+use Rattle.story_laws.proofs.Delivering.{delivered_append}
 use Rattle.batch_run.specs.Gathered.{Gathered}
-use Rattle.batch_run.specs.Parts.{AreAllOnce, WentFor, registered}
+use Rattle.batch_answers.specs.Registering.{registered}
+use Rattle.batch_run.specs.Parts.{AreAllOnce, WentFor}
 use Rattle.batch_run.proofs.Delivered.{delivered_by, once_push, story_all, story_once}
 use Rattle.batch_run.proofs.Gathering.{count_of}
 use Rattle.batch_run.proofs.Numbers.{few_numbers, length_more}

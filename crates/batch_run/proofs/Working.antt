@@ -13,7 +13,7 @@ use Rattle.piece_format.specs.Shape.{TableShape}
 use Rattle.query_gather.specs.declared.partial.Partial.{Partial}
 use Rattle.cscan.specs.Scans.{Fits}
 use Rattle.cscan.specs.Stations.{IsSeated}
-use Rattle.batch_run.specs.Parts.{registered}
+use Rattle.batch_answers.specs.Registering.{registered}
 use Rattle.batch_run.specs.declared.job.Job.{Job}
 use Rattle.batch_run.specs.declared.shop.Shop.{Shop}
 use Rattle.batch_run.specs.declared.worker.Worker.{Worker}

@@ -9,8 +9,8 @@ use Rattle.sql_bind.specs.declared.plan.Plan.{Plan}
 use Rattle.query_gather.specs.declared.partial.Partial.{Partial}
 use Rattle.query_gather.specs.Agree.{Agree}
 use Rattle.query_gather.specs.Partial.{FitsPlan, Stands, matching, row_count}
-use Rattle.cscan.specs.Tables.{HoldsTable}
-use Rattle.batch_run.specs.Rows.{AreOfShape, FitsShape, numbers_of_chunks, rows_of_chunks}
+use Rattle.frame_rows.specs.Tables.{HoldsTable}
+use Rattle.batch_answers.specs.Rows.{AreOfShape, FitsShape, numbers_of_chunks, rows_of_chunks}
 
 -- what is gathered fits the plan and stands for the matching rows among some rows that were read, and counts no more than these; they
 -- have these numbers; their cells are those that the columns may have; and where the depot tells that it holds a table of this

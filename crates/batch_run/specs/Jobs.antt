@@ -7,7 +7,7 @@ use Rattle.piece_format.specs.Shape.{TableShape}
 use Rattle.cscan.specs.Scans.{HasColumns}
 use Rattle.batch_plan.specs.Scans.{Scan}
 use Rattle.batch_run.specs.Parts.{ReadsPlan}
-use Rattle.batch_run.specs.Rows.{IsPlanOfShape}
+use Rattle.batch_answers.specs.Rows.{IsPlanOfShape}
 use Rattle.batch_run.specs.declared.job.Job.{Job}
 
 -- the job is to run the scan

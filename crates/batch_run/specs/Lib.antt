@@ -1,17 +1,7 @@
-pub mod Rows
 pub mod Gathered
 pub mod Parts
-pub mod Tasks
-pub mod Lost
-pub mod Story
-pub mod Taken
-pub mod Registering
-pub mod Refusals
-pub mod Noting
-pub mod Answering
 pub mod Picked
 pub mod Came
-pub mod Whole
 pub mod Jobs
 pub mod Lists
 pub mod Workers

@@ -1,8 +1,7 @@
 -- What a part of a query comes to.
-use Rattle.std.specs.Prelude.{◌≡◌, ◌≢◌, true, ℕ, List, [], ◌∷◌, None, Some, Result, Ok, Err}
-use Rattle.table_core.specs.Sets as sets
+use Rattle.std.specs.Prelude.{◌≡◌, ◌≢◌, true, ℕ, List, [], None, Some, Result, Ok, Err}
+use Rattle.table_sets.specs.Sets as sets
 use Rattle.scan_story.specs.declared.entry.Entry.{Entry}
-use Rattle.scan_story.specs.declared.entry.Entry.TheVariants.{Register}
 use Rattle.scan_story.specs.declared.origin.Start.{Start}
 use Rattle.scan_story.specs.declared.setting.Setting.{Setting}
 use Rattle.scan_story.specs.Counting.{has}
@@ -19,6 +18,7 @@ use Rattle.cscan.specs.declared.scan.CScan.{CScan}
 use Rattle.cscan.specs.Scans.{IsOver, IsScan, reads_column}
 use Rattle.batch_run.specs.declared.part.Unfinished.{Unfinished}
 use Rattle.batch_run.specs.declared.part.Unfinished.TheVariants as unfinished
+use Rattle.batch_answers.specs.Registering.{registered}
 use Rattle.batch_run.specs.Gathered.{Gathered}
 
 -- the query reads just the columns that the plan names
@@ -29,12 +29,6 @@ ReadsPlan s q p = (x : ℕ) → reads_column s q x ≡ sets.has p.columns x
 pub record AreAllOnce (s : Setting) (q : ℕ) (cs : List ℕ) : Type 0 where
   pub asked : (c : ℕ) → has cs c ≡ asks_for s q c
   pub once : NoneTwice cs
-
--- the queries of the Registers among entries, in their order
-abbrev pub registered : List Entry → List ℕ
-registered [] = []
-registered (Register w q ∷ es) = q ∷ registered es
-registered (_ ∷ es) = registered es
 
 -- the worker went on for the query alone: it registered none, and took no chunk for another one
 pub record WentFor (q : ℕ) (p r : PassView) : Type 0 where

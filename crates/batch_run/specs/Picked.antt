@@ -7,7 +7,7 @@ use Rattle.piece_format.specs.Bytes.{word_of}
 use Rattle.piece_format.specs.Shape.{TableShape, piece_at, pieces, words_in}
 use Rattle.table_core.specs.declared.cell.Cell.{Cell}
 use Rattle.table_pieces.specs.Putting.{AreLong, AreSound, GiveBack, ReadBack, piece_bytes}
-use Rattle.cscan.specs.Tables.{first_words}
+use Rattle.frame_rows.specs.Tables.{first_words}
 
 -- the bytes, where there are some
 abbrev pub or_none : Option (List ℕ) → List ℕ

@@ -16,7 +16,7 @@ use Rattle.frame_pool.specs.Frames.{Told}
 use Rattle.piece_format.specs.Shape.{TableShape}
 use Rattle.cscan.specs.Scans.{Fits}
 use Rattle.cscan.specs.Stations.{IsSeated}
-use Rattle.batch_run.specs.Parts.{registered}
+use Rattle.batch_answers.specs.Registering.{registered}
 use Rattle.batch_run.specs.declared.job.Job.{Job}
 use Rattle.batch_run.specs.declared.shop.Shop.{Shop}
 use Rattle.batch_run.specs.declared.worker.Worker.{Worker}

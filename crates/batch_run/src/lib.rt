@@ -12,31 +12,22 @@
 //! docs/BATCH.md has the rules, and docs/PARTS.md those of a part.
 #![tactic(auto)]
 
-mod answering;
 mod batch;
-mod batch_end;
 mod crew;
 mod job;
-mod laws;
 mod ordering;
 mod part;
 mod picking;
-mod ran;
 mod rows;
 mod running;
 mod scanning;
 mod seating;
 mod setup;
 mod shop;
-mod taken;
-mod takings;
 mod worker;
 
 pub use batch::run_batch;
-pub use batch_end::BatchEnd;
+pub use batch_answers::{BatchEnd, Ran, Taken, lost_without_faults, plans_fit};
 pub use batch_plan::{Options, Task};
-pub use laws::{lost_without_faults, plans_fit};
 pub use query_gather::{Answer, Cause};
-pub use ran::Ran;
 pub use table_pieces::BatchRefusal;
-pub use taken::Taken;

@@ -6,7 +6,7 @@ ghost use Rattle.query_gather.specs.Partial.{FitsPlan, row_count};
 ghost use Rattle.cscan.specs.Scans.{IsScan};
 ghost use Rattle.batch_run.specs.Gathered.{Gathered};
 ghost use Rattle.batch_run.specs.Parts.{ReadsPlan};
-ghost use Rattle.batch_run.specs.Rows.{IsPlanOfShape};
+ghost use Rattle.batch_answers.specs.Rows.{IsPlanOfShape};
 
 use coop_outside::Depot;
 use cscan::{CScan, Held};

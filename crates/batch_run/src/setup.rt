@@ -1,7 +1,7 @@
 // What a batch makes before its scans.
 ghost use Rattle.std.specs.Prelude.{◌≡◌, ◌≤◌, ◌*◌, [], All, IfOk, IfSome, IsOk, List, Some, ℕ, length, map, vec_capacity};
 ghost use Rattle.std.specs.List.{AllZip};
-ghost use Rattle.table_core.specs.Sets.{Rising};
+ghost use Rattle.table_sets.specs.Sets.{Rising};
 ghost use Rattle.filter_zones.specs.Possible as possible;
 ghost use Rattle.filter_zones.specs.Truth.{FitsRow};
 ghost use Rattle.filter_zones.specs.declared.cond.Cond.{Cond};
@@ -13,10 +13,9 @@ ghost use Rattle.table_pieces.specs.Shaping as spec;
 ghost use Rattle.table_pieces.specs.Zoning.{NoMatchOutside, chunk_zones};
 ghost use Rattle.batch_plan.specs.Scans.{needs, scans};
 ghost use Rattle.batch_plan.specs.Setting.{AreOptions, NamesColumns, batch_setting};
-ghost use Rattle.batch_run.specs.Noting.{IsOpened};
+ghost use Rattle.batch_answers.specs.Noting.{IsOpened};
 
-use crate::taken::Taken;
-use crate::takings::takings_of;
+use batch_answers::{Taken, takings_of};
 use batch_plan::{Options, Task, needs_of};
 use chunk_interest::Need;
 use piece_format::Shape;

@@ -7,8 +7,8 @@ use Rattle.std.specs.Int.{bit_at}
 use Rattle.std.specs.Int.Bits.{and_zero_l}
 use Rattle.std.proofs.lemmas.Nat.{and_le_l}
 use Rattle.scan_story.specs.Counting.{has}
-use Rattle.table_core.specs.Sets.{bit_of, numbers_below}
-use Rattle.table_core.proofs.Members.{has-numbers}
+use Rattle.table_sets.specs.Sets.{bit_of, numbers_below}
+use Rattle.table_sets.proofs.Members.{has-numbers}
 
 one_of : (u v : ℕ) → u < 2 → v < 2 → (min u v == 1) ≡ (u == 1 && v == 1)
 one_of u v a b = grind (arith, nat_tests, a, b)

@@ -8,7 +8,7 @@ use Rattle.scan_story.specs.Counting.{has, is_number, any_below, count_below}
 use Rattle.scan_story.specs.Setting.{IsSetting, IsRising, need_of, chunks_in, asks_for, groups_read, reads_group, shares, piece_at, pieces_read}
 use Rattle.scan_story.specs.Views.{History, piece_in, is_framed, is_wholly_framed, needs_chunk, is_stopped, is_ended, delivers}
 use Rattle.scan_story.specs.Numbers.{missing_for, cached}
-use Rattle.table_core.specs.Sets.{Rising, AreMembers}
+use Rattle.table_sets.specs.Sets.{Rising, AreMembers}
 use Rattle.chunk_interest.specs.Counted.{size_of, IsCounted}
 use Rattle.chunk_interest.specs.declared.frame.Frame.{Frame}
 use Rattle.chunk_interest.specs.Frames.{place_at, IsPlace, missing_in, cached_in}

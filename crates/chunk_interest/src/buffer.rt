@@ -6,7 +6,7 @@ ghost use Rattle.chunk_interest.specs.declared.frame.Frame.TheVariants.{Free, Ho
 use crate::frame::Frame;
 use crate::frames::Frames;
 use std::alloc::{AllocError, Global};
-use table_core::{ChunkSet, ColumnSet, Memory};
+use table_sets::{ChunkSet, ColumnSet, Memory};
 
 /// The frames and the places of pieces.
 #[derive(Drop)]

@@ -16,7 +16,7 @@ use crate::buffer::Buffer;
 use crate::counted_set::CountedSet;
 use crate::need::Need;
 use scan_story::Phase;
-use table_core::ColumnSet;
+use table_sets::ColumnSet;
 
 /// The query with one number: its need, if it has one, and how far it has come.
 #[derive(Drop)]

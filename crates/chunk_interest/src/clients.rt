@@ -18,7 +18,7 @@ use crate::need::Need;
 use crate::query_set::QuerySet;
 use std::alloc::Global;
 use std::marker::Model;
-use table_core::Memory;
+use table_sets::Memory;
 
 /// The clients of the queries 0 to 256, of which 0 is none, with the marks that their numbers are counted by.
 ///

@@ -1,11 +1,11 @@
 //! A set of chunks with the number of its members.
 ghost use Rattle.std.specs.Prelude.{◌≡◌, ◌<◌, ◌≤◌, ◌&&◌, ◌||◌, ◌==◌, ℕ, [], not, false, IfNone, IfSome};
 ghost use Rattle.scan_story.specs.Counting.{has};
-ghost use Rattle.table_core.specs.Sets.{IsLeastFrom};
+ghost use Rattle.table_sets.specs.Sets.{IsLeastFrom};
 ghost use Rattle.chunk_interest.specs.Counted.{size_of};
 
 use std::marker::Model;
-use table_core::ChunkSet;
+use table_sets::ChunkSet;
 
 /// A set of numbers below 1024 that keeps how many members it has.
 #[derive(Drop)]

@@ -7,7 +7,7 @@ ghost use Rattle.chunk_interest.specs.Marked.{row_at, Follows};
 use crate::client::Client;
 use crate::query_set::QuerySet;
 use std::alloc::Global;
-use table_core::Memory;
+use table_sets::Memory;
 
 /// Sets of queries: for each chunk below 1024 who needs it and to whom it is available, and who counts for what.
 #[derive(Drop)]

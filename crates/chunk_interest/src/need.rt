@@ -1,4 +1,4 @@
-use table_core::{ChunkSet, ColumnSet};
+use table_sets::{ChunkSet, ColumnSet};
 
 /// What a query asks for.
 #[derive(Drop)]

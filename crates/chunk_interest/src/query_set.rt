@@ -12,7 +12,7 @@ pub struct QuerySet {
 
 impl Model for QuerySet {
     ghost use Rattle.std.specs.Prelude.{ℕ, List};
-    ghost use Rattle.table_core.specs.Sets.{bit_of, numbers_below};
+    ghost use Rattle.table_sets.specs.Sets.{bit_of, numbers_below};
 
     ghost Value = { List ℕ };
 

@@ -7,7 +7,7 @@ ghost use Rattle.chunk_interest.specs.Marked.{row_at};
 use crate::clients::Clients;
 use crate::query_set::QuerySet;
 use std::alloc::Global;
-use table_core::{ColumnSet, Memory};
+use table_sets::{ColumnSet, Memory};
 
 // Whether some group below n is in both sets.
 #[tactic(auto, using(crate::proofs::Below::any_below_more))]

@@ -2,7 +2,7 @@
 use Rattle.std.specs.Prelude.{ℕ, ◌≤◌, IfSome}
 use Rattle.command_words.specs.Options.{Request}
 use Rattle.command_words.specs.declared.limits.TheConstants.{MOST_FRAMES, MOST_PARTS, MOST_WORKERS}
-use Rattle.table_core.specs.declared.limits.TheConstants.{MOST_CHUNK_ROWS}
+use Rattle.table_sets.specs.declared.limits.TheConstants.{MOST_CHUNK_ROWS}
 
 abbrev pub IsFrom : ℕ → ℕ → ℕ → Type 0
 IsFrom low high n = (low ≤ n) × (n ≤ high)

@@ -12,7 +12,7 @@ use Rattle.piece_format.specs.declared.layout.Layout.{Layout}
 use Rattle.piece_format.specs.declared.layout.Layout.TheVariants.{Row, Column}
 use Rattle.scan_story.specs.declared.setting.PolicyName.{PolicyName}
 use Rattle.scan_story.specs.declared.setting.PolicyName.TheVariants.{Relevance, Elevator, Normal, Attach}
-use Rattle.table_core.specs.declared.limits.TheConstants.{MOST_CHUNK_ROWS}
+use Rattle.table_sets.specs.declared.limits.TheConstants.{MOST_CHUNK_ROWS}
 
 -- ---- numbers
 

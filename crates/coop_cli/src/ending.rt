@@ -1,8 +1,8 @@
 // How the program ends.
 ghost use Rattle.std.specs.Prelude.{◌≡◌, Err, IfErr, IfOk};
 ghost use Rattle.std.specs.Process.{exit_status};
-ghost use Rattle.coop_run.specs.Devices.{sink_over};
-ghost use Rattle.coop_run.specs.Ending.{Prints};
+ghost use Rattle.run_promises.specs.Devices.{sink_over};
+ghost use Rattle.run_promises.specs.Ending.{Prints};
 
 use coop_outside::{Sink, write_all};
 use run_output::Stop;

@@ -1,28 +1,20 @@
 // The top call for policies in boxes.
-ghost use Rattle.std.specs.Prelude.{◌≡◌, ◌≤◌, ◌<◌, ◌^◌, [], All, Err, None, Some, length, map, is_some, true, vec_capacity, vec_len};
+ghost use Rattle.std.specs.Prelude.{◌≤◌, ◌<◌, ◌^◌, Err, Some, length, map};
 ghost use Rattle.command_words.specs.Limits.{IsWithinLimits};
 ghost use Rattle.command_words.specs.Views.{request_view};
 ghost use Rattle.command_words.specs.declared.call.Call.TheVariants.{RunBoxed};
 ghost use Rattle.run_inputs.specs.Asked.{asked_of};
-ghost use Rattle.run_decision.specs.Answering.{story_in, taken_in};
-ghost use Rattle.coop_run.specs.Joined.{joined_story};
-ghost use Rattle.coop_run.specs.Policies.{policy_at};
-ghost use Rattle.coop_run.specs.Boxed.{ComparesAndPrints, DecidesAndPrintsOn, KeepsPromisesOn, LeavesRuns};
-ghost use Rattle.coop_run.specs.Devices.{devices, sink_over};
-ghost use Rattle.coop_run.specs.Did.{policy_of};
-ghost use Rattle.coop_run.specs.Ending.{Prints};
-ghost use Rattle.coop_run.specs.Jobs.{job_of};
-ghost use Rattle.coop_run.specs.Promises.{DecidesAndPrints};
-ghost use Rattle.coop_run.specs.Runs.{AreOfOne, did_runs, did_under, joined_taken};
+ghost use Rattle.run_promises.specs.Policies.{policy_at};
+ghost use Rattle.run_promises.specs.Boxed.{ComparesAndPrints, DecidesAndPrintsOn, KeepsPromisesOn, LeavesRuns};
+ghost use Rattle.run_promises.specs.Devices.{devices};
+ghost use Rattle.run_promises.specs.Did.{policy_of};
+ghost use Rattle.run_promises.specs.Jobs.{job_of};
+ghost use Rattle.run_promises.specs.Promises.{DecidesAndPrints};
+ghost use Rattle.run_promises.specs.Runs.{AreOfOne, did_runs, did_under};
 
-use crate::boxed_end::BoxedEnd;
-use crate::compared::Compared;
 use crate::comparing::compare;
-use crate::policy_run::PolicyRun;
-use crate::print::print;
-use crate::settle::{Settled, refuse, settle};
+use crate::settle::settle;
 use crate::taken_policy::TakenPolicy;
-use batch_run::Ran;
 use command_words::{Call, Request};
 use coop_outside::{Depot, Shelf, Sink};
 use cscan::Gate;
@@ -30,7 +22,7 @@ use policy_box::{Boxed, choose};
 use relevance::Policy;
 use run_inputs::request_in;
 use run_output::Stop;
-use scan_story::PolicyName;
+use run_promises::{BoxedEnd, Compared, Settled, kept, print, stop_before};
 use std::alloc::Global;
 use std::hash::RandomState;
 use std::sync::Wait;
@@ -56,7 +48,7 @@ pub fn run_boxed<F: Shelf, D: Depot + Send, O: Sink, T: Gate + Sync, R: Threads 
 ) -> BoxedEnd<D>
     requires few { length policies.items ≤ 16 }
     requires gets { D.gets depot ≤ 2 ^ 62 }
-    // the clauses by their names, 0 and 1 with THE HEADLINE first: specs/Boxed.antt
+    // the clauses by their names, 0 and 1 with THE HEADLINE first: specs/Boxed.antt of run_promises
     ensures promises { KeepsPromisesOn
         (job_of (map (λ p. policy_at (name p) (cursor p)) policies.items) (asked_of RunBoxed words.now))
         (devices F.Shelf shelf.old shelf.new D.Depot depot result.depot O.Sink out.old out.new)
@@ -134,20 +126,6 @@ fn run_compared<F: Shelf, D: Depot + Send, O: Sink, T: Gate + Sync, R: Threads +
     }
 }
 
-// What is left where no worker runs.
-fn stop_before<D, O: Sink>(alloc: Global, stop: Stop, depot: D, out: &mut O) -> BoxedEnd<D>
-    ensures prints { Prints (Err stop) result.status (sink_over O.Sink out.old out.new) }
-    ensures depot { result.depot ≡ depot }
-    ensures runs { result.runs.items ≡ [] }
-{
-    let Settled { status, depot, .. } = refuse(stop, depot, out);
-    BoxedEnd {
-        status,
-        runs: Vec::new(alloc),
-        depot,
-    }
-}
-
 // Does all that a run does for a request, with this policy. The place for what its workers leave is reserved before they run.
 fn run_under<
     F: Shelf,
@@ -186,25 +164,5 @@ fn run_under<
         status,
         runs,
         depot,
-    }
-}
-
-// The list with what the workers left, where they ran. It takes no memory.
-fn kept(mut runs: Vec<PolicyRun>, name: PolicyName, ran: Option<Ran>) -> Vec<PolicyRun>
-    requires empty { runs.items ≡ [] }
-    requires room { vec_len runs < vec_capacity runs }
-    ensures story { joined_story result.items ≡ story_in ran }
-    ensures taken { joined_taken result.items ≡ taken_in ran }
-    ensures few { length result.items ≤ 1 }
-    ensures named { All (λ run. run.name ≡ name) result.items }
-    ensures one { is_some ran ≡ true → length result.items ≡ 1 }
-    ensures none { ran ≡ None → result.items ≡ [] }
-{
-    match ran {
-        Some(Ran { story, taken }) => {
-            runs.push_reserved(PolicyRun { name, story, taken });
-            runs
-        }
-        None => runs,
     }
 }

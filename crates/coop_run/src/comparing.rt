@@ -1,5 +1,5 @@
 // Policies compared.
-ghost use Rattle.std.specs.Prelude.{◌≡◌, ◌<◌, ◌≤◌, ◌+◌, ◌^◌, List, Option, ℕ, IfErr, IfOk, IfSome, None, Some, is_some, length, map};
+ghost use Rattle.std.specs.Prelude.{◌≡◌, ◌<◌, ◌≤◌, ◌+◌, ◌^◌, IfOk, None, Some, is_some, length, map};
 ghost use Rattle.command_words.specs.Limits.{IsWithinLimits};
 ghost use Rattle.command_words.specs.Views.{request_view};
 ghost use Rattle.run_output.specs.declared.stop.Stop.TheVariants as stop;
@@ -10,48 +10,25 @@ ghost use Rattle.run_inputs.specs.Ending.{AreInputs, AreKept};
 ghost use Rattle.run_inputs.specs.Order.{first_stop};
 ghost use Rattle.run_decision.specs.Deciding.{shown};
 ghost use Rattle.run_decision.specs.Devices.{depot_at, over_shelf};
-ghost use Rattle.coop_run.specs.Compared.{AreRuns, IsCompared};
-ghost use Rattle.coop_run.specs.Joined.{joined_story};
-ghost use Rattle.coop_run.specs.Lines.{lines_of};
-ghost use Rattle.coop_run.specs.Policies.{policy_at};
-ghost use Rattle.coop_run.specs.Unanswered.{HasCause};
+ghost use Rattle.run_promises.specs.Compared.{AreRuns, IsCompared};
+ghost use Rattle.run_promises.specs.Joined.{joined_story};
+ghost use Rattle.run_promises.specs.Lines.{lines_of};
+ghost use Rattle.run_promises.specs.Policies.{policy_at};
+ghost use Rattle.run_promises.specs.Unanswered.{HasCause};
 
-use crate::compared::Compared;
-use crate::made::{Made, run_next, stopped};
+use crate::next::run_next;
 use command_words::Request;
 use coop_outside::{Depot, Shelf};
 use cscan::Gate;
 use relevance::Policy;
 use run_decision::Output;
-use run_inputs::{Inputs, ReadTexts, inputs_again, read_inputs};
-use run_output::Stop;
+use run_inputs::{Inputs, ReadTexts, read_inputs};
+use run_promises::{Compared, Made, inputs_for};
 use std::alloc::Global;
 use std::hash::RandomState;
 use std::sync::Wait;
 use std::thread::Threads;
 use table_core::Bytes;
-
-// What a run is given: the inputs that were read first, or else those of the texts that were read.
-fn inputs_for<R: Threads + Sync>(
-    rt: &R,
-    alloc: Global,
-    keys: RandomState,
-    request: &Request<'_>,
-    texts: &ReadTexts,
-    first: Option<Inputs>,
-) -> Result<Inputs, Stop>
-    requires limits { IsWithinLimits (request_view request.now) }
-    requires kept { AreKept (Some texts.now.table) (Some texts.now.batch) texts.now }
-    requires accepted { first_stop (request_view request.now) (Some texts.now.table) (Some texts.now.batch) ≡ None }
-    requires first { IfSome first (AreInputs (request_view request.now) (Some texts.now.table) (Some texts.now.batch)) }
-    ensures given { IfOk result (AreInputs (request_view request.now) (Some texts.now.table) (Some texts.now.batch)) }
-    ensures memory { IfErr result (λ s. s ≡ stop.Memory) }
-{
-    match first {
-        Some(inputs) => Ok(inputs),
-        None => inputs_again(rt, alloc, keys, request, texts),
-    }
-}
 
 // Runs the batch with each policy in turn, over a table and a batch that were read.
 fn run_all<D: Depot + Send, T: Gate + Sync, R: Threads + Wait + Sync>(
@@ -85,7 +62,7 @@ fn run_all<D: Depot + Send, T: Gate + Sync, R: Threads + Wait + Sync>(
     for policy in policies {
         let inputs = match inputs_for(rt, alloc, keys, request, texts, first.take()) {
             Ok(inputs) => inputs,
-            Err(stop) => return stopped(stop, made.runs, made.depot),
+            Err(stop) => return Compared::stopped(stop, made.runs, made.depot),
         };
         made = match run_next(rt, alloc, made, inputs, policy, gate) {
             Ok(made) => made,
@@ -177,7 +154,7 @@ fn compare_all<F: Shelf, D: Depot + Send, T: Gate + Sync, R: Threads + Wait + Sy
     }
     let (first, texts) = match read_inputs(rt, alloc, keys, request, shelf) {
         Ok(read) => read,
-        Err(stop) => return stopped(stop, Vec::new(alloc), depot),
+        Err(stop) => return Compared::stopped(stop, Vec::new(alloc), depot),
     };
     run_all(
         rt, alloc, keys, request, first, &texts, depot, policies, gate,

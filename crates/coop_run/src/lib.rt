@@ -7,33 +7,25 @@
 //!     let ended = run(&rt, alloc, keys, &words, &mut shelf, depot, Relevance, &NoGate, &mut out);
 //!     Ok(ExitCode::from(ended.status))
 //!
-//! `run` takes the words of the command line and carries the theorem; `run_settings` takes `Settings` in their place;
-//! `run_boxed` takes a list of policies in boxes, of which the words name one, or compares all. docs/COMMAND_LINE.md
-//! is the manual, and docs/POLICIES.md tells the rules of a comparison.
+//! `run` takes the words of the command line and carries the theorem, whose clauses are in `run_promises`; `run_settings`
+//! takes `Settings` in their place; `run_boxed` takes a list of policies in boxes, of which the words name one, or compares
+//! all. `decide` and `answer` go as far as the texts and the answers. docs/COMMAND_LINE.md is the manual, and
+//! docs/POLICIES.md tells the rules of a comparison.
 #![tactic(auto)]
 
+mod answering;
 mod boxed;
-mod boxed_end;
-mod compared;
 mod comparing;
-mod ended;
-mod ending;
-mod laws;
-mod lines;
-mod made;
+mod deciding;
+mod next;
 mod one_policy;
-mod policy_run;
-mod print;
-mod settings;
 mod settle;
 mod single;
 mod taken_policy;
 
+pub use answering::answer;
 pub use boxed::run_boxed;
-pub use boxed_end::BoxedEnd;
-pub use ended::Ended;
-pub use laws::stops_are_stopped_queries;
+pub use deciding::decide;
 pub use one_policy::{run, run_settings};
 pub use piece_format::Layout;
-pub use policy_run::PolicyRun;
-pub use settings::Settings;
+pub use run_promises::{BoxedEnd, Ended, PolicyRun, Settings, stops_are_stopped_queries};

@@ -1,23 +1,20 @@
 // The top calls for one policy.
-ghost use Rattle.std.specs.Prelude.{◌≡◌, ◌≢◌, ◌≤◌, ◌^◌, Some};
+ghost use Rattle.std.specs.Prelude.{◌≢◌, ◌≤◌, ◌^◌, Some};
 ghost use Rattle.command_words.specs.Limits.{IsWithinLimits};
 ghost use Rattle.command_words.specs.Views.{request_view};
 ghost use Rattle.command_words.specs.declared.call.Call.TheVariants.{Run};
 ghost use Rattle.run_inputs.specs.Asked.{asked_of};
-ghost use Rattle.run_decision.specs.Answering.{story_in, taken_in};
-ghost use Rattle.coop_run.specs.Devices.{devices};
-ghost use Rattle.coop_run.specs.Did.{did_with, policy_of};
-ghost use Rattle.coop_run.specs.Promises.{DecidesAndPrints, KeepsPromises};
-ghost use Rattle.coop_run.specs.Settings.{asked_in_settings};
+ghost use Rattle.run_promises.specs.Devices.{devices};
+ghost use Rattle.run_promises.specs.Did.{did_with, policy_of};
+ghost use Rattle.run_promises.specs.Promises.{DecidesAndPrints, KeepsPromises};
+ghost use Rattle.run_promises.specs.Settings.{asked_in_settings};
 
-use crate::ended::Ended;
-use crate::settings::Settings;
-use crate::settle::{Settled, settle, settle_words};
-use batch_run::Ran;
+use crate::settle::{settle, settle_words};
 use command_words::Request;
 use coop_outside::{Depot, Shelf, Sink};
 use cscan::Gate;
 use relevance::Policy;
+use run_promises::{Ended, Settings, leave};
 use std::alloc::Global;
 use std::hash::RandomState;
 use std::sync::Wait;
@@ -42,7 +39,7 @@ pub fn run<F: Shelf, P: Policy, D: Depot + Send, O: Sink, T: Gate + Sync, R: Thr
     out: &mut O,
 ) -> Ended<D>
     requires gets { D.gets depot ≤ 2 ^ 63 }
-    // the clauses by their names, 0 and 1 with THE HEADLINE first: specs/Promises.antt
+    // the clauses by their names, 0 and 1 with THE HEADLINE first: specs/Promises.antt of run_promises
     ensures promises { KeepsPromises (asked_of Run words.now)
         (devices F.Shelf shelf.old shelf.new D.Depot depot result.depot O.Sink out.old out.new)
         (did_with (policy_of P.Policy policy) result.status result.story.items result.taken.items) }
@@ -81,30 +78,6 @@ pub fn run_settings<
 {
     let request = settings.request();
     run_request(rt, alloc, keys, &request, shelf, depot, policy, gate, out)
-}
-
-// What a run leaves, of what it came to.
-fn leave<D>(alloc: Global, settled: Settled<D>) -> Ended<D>
-    ensures status { result.status ≡ settled.status }
-    ensures story { result.story.items ≡ story_in settled.ran }
-    ensures taken { result.taken.items ≡ taken_in settled.ran }
-    ensures depot { result.depot ≡ settled.depot }
-{
-    let Settled { status, ran, depot } = settled;
-    match ran {
-        Some(Ran { story, taken }) => Ended {
-            status,
-            story,
-            taken,
-            depot,
-        },
-        None => Ended {
-            status,
-            story: Vec::new(alloc),
-            taken: Vec::new(alloc),
-            depot,
-        },
-    }
 }
 
 // The same call with the clause from which the others follow.

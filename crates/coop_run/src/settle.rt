@@ -5,35 +5,22 @@ ghost use Rattle.command_words.specs.Views.{request_view};
 ghost use Rattle.command_words.specs.declared.call.Call.TheVariants.{Run};
 ghost use Rattle.run_inputs.specs.Asked.{asked_of};
 ghost use Rattle.run_decision.specs.Answering.{story_in, taken_in};
-ghost use Rattle.coop_run.specs.Devices.{devices, sink_over};
-ghost use Rattle.coop_run.specs.Did.{did_with, policy_of};
-ghost use Rattle.coop_run.specs.Ending.{Prints};
-ghost use Rattle.coop_run.specs.Promises.{DecidesAndPrints};
+ghost use Rattle.run_promises.specs.Devices.{devices};
+ghost use Rattle.run_promises.specs.Did.{did_with, policy_of};
+ghost use Rattle.run_promises.specs.Promises.{DecidesAndPrints};
 
-use crate::print::print;
-use batch_run::Ran;
+use crate::deciding::decide;
 use command_words::{Call, Request};
 use coop_outside::{Depot, Shelf, Sink};
 use cscan::Gate;
 use relevance::Policy;
-use run_decision::{Decision, decide};
+use run_decision::Decision;
 use run_inputs::request_in;
-use run_output::Stop;
+use run_promises::{Settled, print, refuse};
 use std::alloc::Global;
 use std::hash::RandomState;
 use std::sync::Wait;
 use std::thread::Threads;
-
-/// What a run has come to when all is written.
-#[derive(Drop)]
-pub struct Settled<D> {
-    /// The status.
-    pub status: u8,
-    /// What the workers left; none where no worker ran.
-    pub ran: Option<Ran>,
-    /// The depot.
-    pub depot: D,
-}
 
 /// Does all that a run does for a request whose numbers lie within the limits.
 pub fn settle<
@@ -67,20 +54,6 @@ pub fn settle<
     );
     let status = print(ending, out);
     Settled { status, ran, depot }
-}
-
-/// Writes the line of a stop that comes of the words, before anything was read.
-pub fn refuse<D, O: Sink>(stop: Stop, depot: D, out: &mut O) -> Settled<D>
-    ensures prints { Prints (Err stop) result.status (sink_over O.Sink out.old out.new) }
-    ensures depot { result.depot ≡ depot }
-    ensures idle { result.ran ≡ None }
-{
-    let status = print(Err(stop), out);
-    Settled {
-        status,
-        ran: None,
-        depot,
-    }
 }
 
 /// Does all that a run does for the words after the program's name.

@@ -1,41 +1,22 @@
 // The run with one policy.
-ghost use Rattle.std.specs.Prelude.{◌≡◌, ◌≤◌, ◌^◌};
+ghost use Rattle.std.specs.Prelude.{◌≤◌, ◌^◌};
 ghost use Rattle.run_decision.specs.Devices.{depot_at};
 ghost use Rattle.run_decision.specs.Running.{CanRun};
-ghost use Rattle.coop_run.specs.Policies.{policy_at};
-ghost use Rattle.coop_run.specs.PolicyRuns.{RunComesTo};
+ghost use Rattle.run_promises.specs.Policies.{policy_at};
+ghost use Rattle.run_promises.specs.PolicyRuns.{RunComesTo};
 
-use crate::ending::Ending;
-use crate::policy_run::PolicyRun;
+use crate::answering::answer;
 use crate::taken_policy::TakenPolicy;
-use batch_run::Ran;
 use coop_outside::Depot;
 use cscan::Gate;
 use relevance::Policy;
-use run_decision::{Answered, answer};
+use run_decision::Answered;
 use run_inputs::Inputs;
 use run_output::status_of;
-use scan_story::PolicyName;
+use run_promises::{Ending, name_of, run_of};
 use std::alloc::Global;
 use std::sync::Wait;
 use std::thread::Threads;
-
-// The name of a policy in its box.
-fn name_of(policy: &Box<dyn Policy + Send>) -> PolicyName
-    ensures { result ≡ name policy.now }
-{
-    policy.named()
-}
-
-// What the workers left, under the policy's name.
-fn run_of(name: PolicyName, ran: Ran) -> PolicyRun
-    ensures name { result.name ≡ name }
-    ensures story { result.story.items ≡ ran.story.items }
-    ensures taken { result.taken.items ≡ ran.taken.items }
-{
-    let Ran { story, taken } = ran;
-    PolicyRun { name, story, taken }
-}
 
 /// Runs the batch with this policy: what it comes to, and the depot.
 pub(crate) fn run_single<D: Depot + Send, T: Gate + Sync, R: Threads + Wait + Sync>(

@@ -8,11 +8,12 @@ use Rattle.scan_story.specs.declared.setting.Setting.{Setting}
 use Rattle.scan_story.specs.Counting.{has}
 use Rattle.story_laws.specs.Queries.{chunks_delivered}
 use Rattle.story_laws.proofs.Bools.{if_here, self_number}
+use Rattle.story_laws.proofs.Delivering.{delivered_append}
 use Rattle.baton.specs.Passes.{PassView, Went}
 use Rattle.baton.proofs.Turns.{went_on}
 use Rattle.cscan.specs.Answers.{AreOfLoads, Ends, FindsStopped, TakesChunk}
 use Rattle.cscan.specs.Rounds.{GoesOn}
-use Rattle.cscan.proofs.Stories.{delivered_append, loads_append, loads_deliver_none}
+use Rattle.cscan.proofs.Stories.{loads_append, loads_deliver_none}
 
 -- what was delivered, with these entries besides
 delivered_more : (q : ℕ) (p r : PassView) (loads last : List Entry) → AreOfLoads loads → Went p r (loads ++ last) → chunks_delivered r.mine q ≡ chunks_delivered p.mine q ++ chunks_delivered last q

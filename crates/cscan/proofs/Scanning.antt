@@ -18,10 +18,10 @@ use Rattle.scan_story.specs.declared.origin.Start.{Start}
 use Rattle.piece_format.specs.Shape.{TableShape, groups, groups_in}
 use Rattle.piece_format.specs.declared.layout.Layout.{Layout}
 use Rattle.piece_format.specs.declared.layout.Layout.TheVariants as layouts
-use Rattle.cscan.specs.declared.given.Given.{Given}
+use Rattle.frame_rows.specs.declared.given.Given.{Given}
 use Rattle.cscan.specs.declared.scan.CScan.{CScan}
 use Rattle.cscan.specs.Scans.{IsAt, IsGiven, IsOut, IsScan, reads_column}
-use Rattle.cscan.specs.Tables.{group_with, piece_with}
+use Rattle.frame_rows.specs.Tables.{group_with, piece_with}
 use Rattle.cscan.proofs.Turning.{stopped_inactive}
 
 -- with nothing out the worker may turn

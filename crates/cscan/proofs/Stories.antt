@@ -53,27 +53,6 @@ filled_by w (b ∷ bs) = (refl, filled_by w bs)
 
 -- Chunks delivered
 
-delivered_first : (q : ℕ) (e : Entry) (xs ys : List Entry) → chunks_delivered (xs ++ ys) q ≡ chunks_delivered xs q ++ chunks_delivered ys q
-    → chunks_delivered (e ∷ xs ++ ys) q ≡ chunks_delivered (e ∷ xs) q ++ chunks_delivered ys q
-delivered_first q (Deliver w r c) xs ys is =
-    elim (r == q) as (λ t. (if t then c ∷ chunks_delivered (xs ++ ys) q else chunks_delivered (xs ++ ys) q) ≡ (if t then c ∷ chunks_delivered xs q else chunks_delivered xs q) ++ chunks_delivered ys q) [
-      | true ↦ ap (λ (l : List ℕ). c ∷ l) is
-      | false ↦ is
-    ]
-delivered_first q (Register w r) xs ys is = is
-delivered_first q (Plan w r c) xs ys is = is
-delivered_first q (Evict w c) xs ys is = is
-delivered_first q (Fill w f p) xs ys is = is
-delivered_first q (Filled w f p) xs ys is = is
-delivered_first q (Failed w r p why) xs ys is = is
-delivered_first q (Release w r c) xs ys is = is
-delivered_first q (Stop w r) xs ys is = is
-delivered_first q (End w r) xs ys is = is
-
-pub delivered_append : (q : ℕ) (xs ys : List Entry) → chunks_delivered (xs ++ ys) q ≡ chunks_delivered xs q ++ chunks_delivered ys q
-delivered_append q [] ys = refl
-delivered_append q (e ∷ es) ys = delivered_first q e es ys (delivered_append q es ys)
-
 one_delivers_none : (q : ℕ) (e : Entry) (es : List Entry) → is_of_load e ≡ true → chunks_delivered (e ∷ es) q ≡ chunks_delivered es q
 one_delivers_none q (Plan w r c) es p = refl
 one_delivers_none q (Evict w c) es p = refl

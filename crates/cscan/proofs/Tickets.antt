@@ -21,7 +21,7 @@ use Rattle.abm_policy.specs.Loads.{load_of}
 use Rattle.frame_pool.specs.Berths.{PoolView}
 use Rattle.frame_pool.specs.Frames.{Told}
 use Rattle.piece_format.specs.Shape.{TableShape, pieces}
-use Rattle.cscan.specs.Pins.{slot_at}
+use Rattle.frame_rows.specs.Pins.{slot_at}
 use Rattle.cscan.specs.Reads as reads
 use Rattle.cscan.specs.Scans.{Fits}
 

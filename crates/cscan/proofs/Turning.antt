@@ -19,7 +19,7 @@ use Rattle.abm_policy.specs.declared.turn.Turn.TheVariants.{Take, Load, NotYet, 
 use Rattle.abm_policy.specs.Depots.{DepotView}
 use Rattle.abm_policy.specs.Loads.{evicts, fills, pieces}
 use Rattle.abm_policy.specs.Turns.{Answers, FinishedRow, LoadRow, NotYetRow, StandIn, StoppedRow, TakeRow, row}
-use Rattle.cscan.specs.Pins.{AreFrames, slot_at}
+use Rattle.frame_rows.specs.Pins.{AreFrames, slot_at}
 use Rattle.cscan.proofs.Stories.{by_append, evicts_by, fills_by}
 
 -- Rows

@@ -1,11 +1,6 @@
-pub mod Pins
-pub mod Tables
 pub mod Reads
 pub mod Stations
 pub mod Scans
-pub mod Rows
-pub mod Framed
-pub mod Blocks
 pub mod Answers
 pub mod Loading
 pub mod Rounds

@@ -6,7 +6,7 @@ use Rattle.frame_pool.specs.Berths.{BerthView}
 use Rattle.scan_story.specs.MayFollow.{IsRise}
 use Rattle.scan_story.specs.declared.entry.Why.{Why}
 use Rattle.scan_story.specs.declared.entry.Why.TheVariants.{Fault, Damage}
-use Rattle.cscan.specs.Pins.{slot_at}
+use Rattle.frame_rows.specs.Pins.{slot_at}
 
 -- the berth with these words put into the frame that it fills
 abbrev pub with_words : BerthView → ℕ → List ℕ → BerthView

@@ -5,6 +5,7 @@ use Rattle.scan_story.specs.declared.origin.Start.{Start}
 use Rattle.scan_story.specs.declared.setting.Setting.{Setting}
 use Rattle.scan_story.specs.declared.view.Hold.{Hold}
 use Rattle.scan_story.specs.Counting.{has}
+use Rattle.table_sets.specs.Sets.{has as is_member}
 use Rattle.scan_story.specs.Setting.{columns_in, need_of, pieces_read}
 use Rattle.scan_story.specs.Views.{History, past, held_by, is_active}
 use Rattle.scan_story.specs.Loads.{underway, is_load_by}
@@ -15,12 +16,12 @@ use Rattle.abm_policy.specs.Turns.{RunsOn, StandIn}
 use Rattle.frame_pool.specs.Frames.{Told}
 use Rattle.frame_pool.specs.Berths.{PoolView}
 use Rattle.piece_format.specs.Shape.{TableShape, IsShape, chunks, frame_words, groups, rows_in}
-use Rattle.cscan.specs.declared.given.Given.{Given}
+use Rattle.frame_rows.specs.declared.given.Given.{Given}
 use Rattle.cscan.specs.declared.scan.CScan.{CScan}
 use Rattle.cscan.specs.declared.station.Station.{Station}
-use Rattle.cscan.specs.Pins.{AreFrames}
+use Rattle.frame_rows.specs.Pins.{AreFrames}
 use Rattle.cscan.specs.Stations.{IsSeated}
-use Rattle.cscan.specs.Tables.{TellAlike}
+use Rattle.frame_rows.specs.Tables.{TellAlike}
 
 -- What a scan is begun with
 
@@ -40,6 +41,10 @@ reads_column s q x = has (columns_in (need_of s q)) x
 -- each column that the query reads is one of the shape's
 abbrev pub HasColumns : Setting → TableShape → ℕ → Type 0
 HasColumns s z q = (x : ℕ) → reads_column s q x ≡ true → x < length z.kinds
+
+-- the query reads each of these columns
+abbrev pub ReadsColumns : Setting → ℕ → List ℕ → Type 0
+ReadsColumns s q columns = (x : ℕ) → is_member columns x ≡ true → reads_column s q x ≡ true
 
 -- What is out
 

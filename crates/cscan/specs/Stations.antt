@@ -7,7 +7,7 @@ use Rattle.baton.specs.Passes.{PassView}
 use Rattle.frame_pool.specs.declared.view.Pin.{Pin}
 use Rattle.frame_pool.specs.Berths.{BerthView, PoolView, IsOf}
 use Rattle.cscan.specs.declared.station.Station.{Station}
-use Rattle.cscan.specs.Pins.{pins_of}
+use Rattle.frame_rows.specs.Pins.{pins_of}
 
 -- the pass is of this baton and this origin, is the worker's, isn't holding, and has made just the entries of its number that it has seen
 abbrev pub Waits : TableId → Start → ℕ → PassView → Type 0

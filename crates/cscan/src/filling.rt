@@ -5,11 +5,11 @@ ghost use Rattle.frame_pool.specs.Berths.{IsOf, IsAt, IsBlank};
 ghost use Rattle.piece_format.specs.Broken.{NoneBroken};
 ghost use Rattle.piece_format.specs.Bytes.{word_of};
 ghost use Rattle.piece_format.specs.Shape.{IsShape, frame_words, piece_at, pieces, words_in};
-ghost use Rattle.cscan.specs.Tables.{TellAlike, first_words};
+ghost use Rattle.frame_rows.specs.Tables.{TellAlike, first_words};
 ghost use Rattle.cscan.specs.Reads.{AreThere, MayReport, with_words};
 ghost use Rattle.cscan.specs.Stations.{PinsJust};
 
-use abm_policy::{Desk, Slots};
+use abm_policy::Desk;
 use baton::Pass;
 use coop_outside::Depot;
 use frame_pool::{Berth, Content, Pool};
@@ -17,6 +17,7 @@ use piece_format::{Shape, check, piece_words, word_at};
 use relevance::Policy;
 use scan_story::{Origin, Why};
 use std::sync::Wait;
+use table_sets::Slots;
 
 /// The first read of a load that failed: how many slots were read before it, and why it failed.
 #[derive(Clone, Copy)]

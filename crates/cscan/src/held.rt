@@ -4,22 +4,20 @@ ghost use Rattle.table_core.specs.Chunk.{chunk as chunk_of};
 ghost use Rattle.table_core.specs.declared.cell.Cell.{Cell};
 ghost use Rattle.piece_format.specs.Cells.{FitsKind, cell_at, dict_len_at, kind_at};
 ghost use Rattle.cscan.specs.Answers.{Releases};
-ghost use Rattle.cscan.specs.Blocks.{EachRow};
-ghost use Rattle.cscan.specs.Rows.{FitColumns, HasCellsOf, OthersAreNull, ReadsColumns};
-ghost use Rattle.cscan.specs.Scans.{IsSameScan, IsScan, reads_column};
-ghost use Rattle.cscan.specs.Tables.{HoldsTable};
+ghost use Rattle.frame_rows.specs.Blocks.{EachRow};
+ghost use Rattle.frame_rows.specs.Rows.{FitColumns, HasCellsOf, OthersAreNull};
+ghost use Rattle.cscan.specs.Scans.{IsSameScan, IsScan, ReadsColumns, reads_column};
+ghost use Rattle.frame_rows.specs.Tables.{HoldsTable};
 
-use crate::block_rows::{put_columns, put_slots};
-use crate::cells::{cell_in_frame, group_with, piece_with, place_of};
 use crate::desk::take_desk;
-use crate::framed::Framed;
-use crate::given::Given;
-use crate::pinning::unpin_all;
-use crate::row_cells::{read_columns, read_slots};
 use crate::scan::CScan;
-use crate::span::Span;
+use crate::slots::place_of;
 use coop_outside::Depot;
 use frame_pool::Content;
+use frame_rows::{
+    Framed, Given, Span, cell_in_frame, group_with, piece_with, put_columns, put_slots,
+    read_columns, read_slots, unpin_all,
+};
 use piece_format::Layout;
 use relevance::Policy;
 use row_blocks::Block;

@@ -14,23 +14,16 @@
 //! docs/SCANS.md has the life of a chunk as a picture.
 #![tactic(auto)]
 
-mod block_rows;
-mod cells;
 mod desk;
 mod filling;
-mod framed;
 mod gate;
-mod given;
 mod held;
-mod lanes;
 mod loading;
 mod next;
 mod pausing;
-mod pinning;
 mod rounds;
-mod row_cells;
 mod scan;
-mod span;
+mod slots;
 mod station;
 mod waking;
 

@@ -9,16 +9,15 @@ ghost use Rattle.cscan.specs.Scans.{Fits};
 ghost use Rattle.cscan.specs.Stations.{IsSeated};
 
 use crate::desk::take_desk;
-use crate::given::Given;
 use crate::loading::load;
 use crate::pausing::{Patience, Pause};
-use crate::pinning::pin_all;
 use crate::station::Station;
 use crate::waking::{next_to_load, wake};
 use abm_policy::{Desk, Turn};
 use baton::Baton;
 use coop_outside::Depot;
 use frame_pool::{Content, Pool};
+use frame_rows::{Given, pin_all};
 use piece_format::Shape;
 use relevance::Policy;
 use scan_story::{Cause, Origin};

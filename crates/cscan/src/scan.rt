@@ -9,7 +9,6 @@ ghost use Rattle.cscan.specs.Scans.{Fits, HasColumns, IsOver, IsSameScan, IsScan
 ghost use Rattle.cscan.specs.Stations.{IsSeated};
 
 use crate::desk::take_desk;
-use crate::given::Given;
 use crate::held::Held;
 use crate::next::Next;
 use crate::rounds::{Round, turn_on};
@@ -19,6 +18,7 @@ use abm_policy::Desk;
 use baton::Baton;
 use coop_outside::Depot;
 use frame_pool::{Content, Pool};
+use frame_rows::Given;
 use piece_format::Shape;
 use relevance::Policy;
 use scan_story::{Cause, Origin};

@@ -6,12 +6,12 @@ use Rattle.std.proofs.lemmas.Bool.{cases_Bool}
 use Rattle.std.proofs.lemmas.Bool.Decides.{nat_tests}
 use Rattle.std.proofs.lemmas.List.{ext_get_or, get_or-map, length-map}
 use Rattle.std.proofs.lemmas.List.Elements.{All-nil, All-cons, All-head, All-tail, All-from_get_or, All-get_or}
-use Rattle.csv_load.specs.Kinds.{value_as}
-use Rattle.csv_load.specs.Judged.{Fields, refusal_of}
+use Rattle.csv_meaning.specs.Kinds.{value_as}
+use Rattle.csv_meaning.specs.Judged.{Fields, refusal_of}
 use Rattle.csv_load.specs.Finished.{column_with, columns_with}
 use Rattle.csv_load.specs.Gathered.{AreGathered}
-use Rattle.csv_load.specs.Loaded.{IsLoaded}
-use Rattle.csv_load.specs.Meaning.{IsColumnDict, column_at, columns_from, row_of}
+use Rattle.csv_meaning.specs.Loaded.{IsLoaded}
+use Rattle.csv_meaning.specs.Meaning.{IsColumnDict, column_at, columns_from, row_of}
 use Rattle.csv_load.specs.Reading.{IsRead}
 use Rattle.csv_load.specs.Typed.{IsCell, IsTyped}
 use Rattle.csv_load.specs.declared.typed.Typed.{Typed}
@@ -23,7 +23,7 @@ use Rattle.table_core.specs.Value.{none, places_of, row_values, value_in}
 use Rattle.table_core.specs.declared.cell.Cell.{Cell}
 use Rattle.table_core.specs.declared.cell.Cell.TheVariants.{Null}
 use Rattle.table_core.specs.declared.cells.Cells.{Cells}
-use Rattle.table_core.specs.declared.limits.TheConstants.{MOST_COLUMNS, MOST_ROWS}
+use Rattle.table_sets.specs.declared.limits.TheConstants.{MOST_COLUMNS, MOST_ROWS}
 use Rattle.table_core.specs.declared.schema.Column.{Column}
 use Rattle.table_core.specs.declared.schema.Kind.TheVariants as kinds
 use Rattle.table_core.proofs.Columns as table

@@ -4,11 +4,11 @@ use Rattle.std.specs.Prelude.{All, Contains, ◌⊎◌, None, Some, Option, IfSo
 use Rattle.std.specs.List.{AllZip}
 use Rattle.std.proofs.lemmas.List.{get_or-map, length-map, get_or_default}
 use Rattle.std.proofs.lemmas.List.Elements.{All-get_or, All-weaker, All-contains, Contains-get_or}
-use Rattle.csv_load.specs.Kinds.{kind_of, value_as}
+use Rattle.csv_meaning.specs.Kinds.{kind_of, value_as}
 use Rattle.csv_load.proofs.Holding.{AreSame}
-use Rattle.csv_load.specs.Judged.{Fields}
+use Rattle.csv_meaning.specs.Judged.{Fields}
 use Rattle.csv_load.specs.Finished.{columns_with}
-use Rattle.csv_load.specs.Meaning.{IsDictionary, column_at, columns_from}
+use Rattle.csv_meaning.specs.Meaning.{IsDictionary, column_at, columns_from}
 use Rattle.csv_load.specs.Typed.{IsCell}
 use Rattle.csv_load.specs.declared.typed.Typed.{Typed}
 use Rattle.table_core.specs.Columns.{code_cell}
@@ -87,13 +87,6 @@ text-dict fields texts dict codes same named ranked = record {
   whole = All-weaker (λ f. (f ≡ []) ⊎ Contains texts f) (λ f. (f ≡ []) ⊎ Contains dict f)
       (λ f here. elim here [ inl empty_field ↦ inl empty_field | inr found ↦ ranked-there texts dict codes f ranked found ]) fields same.there;
 }
-
--- one more element in each of two lists
-pub zip-push : {A B : Type 0} (R : A → B → Type 0) (xs : List A) (ys : List B) (x : A) (y : B) → AllZip R xs ys → R x y → AllZip R (xs ++ x ∷ []) (ys ++ y ∷ [])
-zip-push R [] [] x y all here = (here, tt)
-zip-push R [] (z ∷ ys) x y all here = absurd all
-zip-push R (z ∷ xs) [] x y all here = absurd all
-zip-push R (a ∷ xs) (b ∷ ys) x y all here = (all.0, zip-push R xs ys x y all.1 here)
 
 -- one column more
 pub columns-more : (names : Fields) (name : List ℕ) (typed : List Typed) (place : ℕ) (d : Typed) → place ≡ length names → place < length typed

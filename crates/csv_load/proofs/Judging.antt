@@ -4,9 +4,9 @@ use Rattle.std.specs.Prelude.{All}
 use Rattle.std.proofs.lemmas.Bool.{cases_eq}
 use Rattle.std.proofs.lemmas.Bool.Decides.{nat_tests}
 use Rattle.std.proofs.lemmas.List.Elements.{All-head, All-same}
-use Rattle.csv_load.specs.Judged.{refusal_of, header_refusal, first_bad_row, row_refusal}
-use Rattle.csv_load.specs.declared.limits.TheConstants.{MOST_TEXT_BYTES}
-use Rattle.table_core.specs.declared.limits.TheConstants.{MOST_ROWS}
+use Rattle.csv_meaning.specs.Judged.{refusal_of, header_refusal, first_bad_row, row_refusal}
+use Rattle.csv_meaning.specs.declared.limits.TheConstants.{MOST_TEXT_BYTES}
+use Rattle.table_sets.specs.declared.limits.TheConstants.{MOST_ROWS}
 
 -- a row of fields that are few enough is counted in 32 bits
 pub fits-row : (size : ℕ) (r : List (List ℕ)) (rest all : List (List (List ℕ))) → size ≤ MOST_TEXT_BYTES → all ≡ r ∷ rest → All (λ r. length r ≤ size + 1) all → Fits w32 (length r)

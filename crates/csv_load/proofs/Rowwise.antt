@@ -4,11 +4,11 @@ use Rattle.std.specs.Prelude.{None}
 use Rattle.std.proofs.lemmas.Bool.{cases_eq}
 use Rattle.std.proofs.lemmas.List.{append-nil, drop_all, get_or-replicate, length-replicate, map-append, take_all}
 use Rattle.std.proofs.lemmas.List.Elements.{All-nil, All-push}
-use Rattle.csv_load.specs.Judged.{Fields, refusal_of}
+use Rattle.csv_meaning.specs.Judged.{Fields, refusal_of}
 use Rattle.csv_load.specs.Gathered.{AreGathered, RowPut}
-use Rattle.csv_load.specs.Meaning.{column_at}
+use Rattle.csv_meaning.specs.Meaning.{column_at}
 use Rattle.csv_load.specs.Reading.{IsRead}
-use Rattle.table_core.specs.declared.limits.TheConstants.{MOST_ROWS}
+use Rattle.table_sets.specs.declared.limits.TheConstants.{MOST_ROWS}
 
 -- the rows that were read, and those that are left
 pub record SoFar (records : List Fields) (names : Fields) (columns : List Fields) (left : List Fields) (count : ℕ) : Type 0 where

@@ -2,13 +2,8 @@ pub mod Finished
 pub mod Fronts
 pub mod Gathered
 pub mod Kept
-pub mod Loaded
-pub mod Meaning
 pub mod Reading
 pub mod Seen
 pub mod Typed
 pub mod Rows
-pub mod Judged
-pub mod Kinds
-pub mod Number
 pub mod Ranks

@@ -1,31 +1,21 @@
 // The table of a text.
 ghost use Rattle.std.specs.Prelude.{◌≡◌, ◌≢◌, ◌≤◌, All, IfErr, IfOk, Some, length, map};
 ghost use Rattle.csv_load.specs.Finished.{columns_with};
-ghost use Rattle.csv_load.specs.Loaded.{IsLoaded};
-ghost use Rattle.csv_load.specs.Judged.{refusal_of};
+ghost use Rattle.csv_meaning.specs.Loaded.{IsLoaded};
+ghost use Rattle.csv_meaning.specs.Judged.{refusal_of};
 ghost use Rattle.csv_load.specs.Rows.{table_records};
-ghost use Rattle.csv_load.specs.declared.refusal.LoadRefusal.TheVariants as refusal;
+ghost use Rattle.csv_meaning.specs.declared.refusal.LoadRefusal.TheVariants as refusal;
 ghost use Rattle.table_core.specs.Value.{places_of};
 
-use crate::limits::MOST_TEXT_BYTES;
 use crate::reading::{Read, read_rows};
-use crate::refusal::LoadRefusal;
 use crate::seeded::Seeded;
 use crate::side_by_side::type_side_by_side;
 use crate::typed::Typed;
+use csv_meaning::{LoadRefusal, Loaded, MOST_TEXT_BYTES};
 use std::alloc::{AllocError, Global};
 use std::hash::RandomState;
 use std::thread::Threads;
 use table_core::{Bytes, Cells, Column, Dict, MOST_PLACES, Schema, Table};
-
-/// A table with the dictionaries of its columns.
-#[derive(Drop)]
-pub struct Loaded {
-    /// The table of 1 to `MOST_COLUMNS` columns and at most `MOST_ROWS` rows.
-    pub table: Table,
-    /// A dictionary for each column, in their order: an empty one but for a column of texts.
-    pub dicts: Vec<Dict>,
-}
 
 // A column for each name, with the kind that was found for it.
 fn schema_of(alloc: Global, names: Vec<Bytes>, typed: &[Typed]) -> Result<Schema, AllocError>

@@ -1,19 +1,9 @@
 // A field as a number of 64 bits with places after a point.
 ghost use Rattle.std.specs.Prelude.{◌≡◌, ◌≤◌, ◌<◌, ◌^◌, length, IfSome, MatchOption};
-ghost use Rattle.csv_load.specs.Number.{digits_from, is_whole_part, made, number_read, rest_read, unsigned_read};
+ghost use Rattle.csv_meaning.specs.Number.{digits_from, is_whole_part, made, number_read, rest_read, unsigned_read};
 
+use csv_meaning::Number;
 use table_core::MOST_PLACES;
-
-/// A number as a field spells it: `value` times 10 to the power of minus `places`.
-#[derive(Clone, Copy, Debug, PartialEq, Eq)]
-pub struct Number {
-    /// Its digits without the point, with its sign.
-    pub value: i64,
-    /// The digits after the point, 0 to 9.
-    pub places: u32,
-    /// It is spelled as a zero with a sign, as `-0` or `-0.00`.
-    pub zero_below: bool,
-}
 
 /// What the digits at the front are worth after `start`, and what follows them; None where that is beyond 2^63.
 fn digits_after(start: u64, text: &[u8]) -> Option<(u64, &[u8])>

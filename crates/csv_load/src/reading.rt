@@ -3,19 +3,18 @@ ghost use Rattle.std.specs.Prelude.{◌≡◌, ◌≢◌, ◌≤◌, [], IfErr, 
 ghost use Rattle.csv.specs.Records.{fields_of};
 ghost use Rattle.csv_load.specs.Gathered.{RowPut};
 ghost use Rattle.csv_load.specs.Reading.{IsRead};
-ghost use Rattle.csv_load.specs.Judged.{refusal_of};
+ghost use Rattle.csv_meaning.specs.Judged.{refusal_of};
 ghost use Rattle.csv_load.specs.Rows.{table_records};
-ghost use Rattle.csv_load.specs.declared.refusal.LoadRefusal.TheVariants as refusal;
+ghost use Rattle.csv_meaning.specs.declared.refusal.LoadRefusal.TheVariants as refusal;
 
 use crate::data_row::judge_row;
 use crate::fields::field;
 use crate::gathered::Gathered;
 use crate::header::judge_header;
-use crate::limits::MOST_TEXT_BYTES;
-use crate::refusal::LoadRefusal;
 use crate::rows::Rows;
 use crate::seeded::Seeded;
 use csv::ByteRecord;
+use csv_meaning::{LoadRefusal, MOST_TEXT_BYTES};
 use std::alloc::{AllocError, Global};
 use table_core::Bytes;
 

@@ -4,10 +4,10 @@ ghost use Rattle.csv.specs.Reading.{reader_state, source_of};
 ghost use Rattle.csv.specs.Records.{fields_of};
 ghost use Rattle.csv_load.specs.Rows.{IsBetween, records_left, table_records};
 
-use crate::memory::Memory;
 use csv::{ByteRecord, Reader, ReaderBuilder};
 use std::alloc::Global;
 use std::marker::Model;
+use table_core::Memory;
 
 /// A cursor over the records of a text, seen by contracts as the list of the records that are left, each a
 /// list of fields, each a list of bytes.

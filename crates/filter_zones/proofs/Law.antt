@@ -8,7 +8,7 @@ use Rattle.std.specs.declared.cmp.Ordering.TheVariants.{Less, Equal, Greater}
 use Rattle.std.specs.Ordering.{is_le, int_cmp, nat_cmp}
 use Rattle.std.proofs.lemmas.Cmp.{ranked, int_ranked}
 use Rattle.table_core.specs.Cell.{cell_cmp}
-use Rattle.table_core.specs.Sets.{has as has_member}
+use Rattle.table_sets.specs.Sets.{has as has_member}
 use Rattle.table_core.specs.declared.cell.Cell.{Cell}
 use Rattle.table_core.specs.declared.cell.Cell.TheVariants.{Null, Int, Code}
 use Rattle.table_core.specs.declared.op.Op.{Op}

@@ -2,8 +2,8 @@
 use Rattle.std.proofs.Common.{◌≡◌, ◌<◌, ◌+◌, ℕ, Bool, true, false, List, [], ◌∷◌, refl, sym, ap, subst, ◌∙◌, inl, inr, arith, eq-eqb}
 use Rattle.std.specs.Prelude.{◌⊎◌, ◌==◌, ◌&&◌, ◌||◌, nat_lt}
 use Rattle.std.proofs.lemmas.Bool.{cases_order, cases_eq, false≢true, ne_eqb, or_left}
-use Rattle.table_core.specs.Sets.{has, numbers_below, Rising, AreMembers}
-use Rattle.table_core.proofs.Members.{has-numbers, numbers-rise}
+use Rattle.table_sets.specs.Sets.{has, numbers_below, Rising, AreMembers}
+use Rattle.table_sets.proofs.Members.{has-numbers, numbers-rise}
 
 below_start : (start : ℕ) (xs : List ℕ) (end c : ℕ) → Rising start xs end → c < start → has xs c ≡ false
 below_start start [] end c rises low = refl

@@ -2,7 +2,7 @@
 use Rattle.std.specs.Prelude.{◌≡◌, ◌<◌, ℕ, Bool, true, false, not, ◌&&◌, ◌||◌, List, [], length, Option, Some, None, slice_index_or, is_some}
 use Rattle.std.specs.Ordering.{is_eq, is_lt, is_le, is_gt, is_ge}
 use Rattle.std.specs.declared.cmp.Ordering.{Ordering}
-use Rattle.table_core.specs.Sets.{numbers_below, has as has_member}
+use Rattle.table_sets.specs.Sets.{numbers_below, has as has_member}
 use Rattle.table_core.specs.declared.cell.Cell.{Cell}
 use Rattle.table_core.specs.declared.op.Op.{Op}
 use Rattle.table_core.specs.declared.op.Op.TheVariants as op

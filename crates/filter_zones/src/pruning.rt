@@ -1,6 +1,6 @@
 // The chunks that a query needs.
 ghost use Rattle.std.specs.Prelude.{◌≡◌, ◌<◌, ◌≤◌, ◌+◌, ℕ, All, IfSome, length, false, option_copied};
-ghost use Rattle.table_core.specs.Sets.{has};
+ghost use Rattle.table_sets.specs.Sets.{has};
 ghost use Rattle.filter_zones.specs.Masks.{is_set};
 ghost use Rattle.filter_zones.specs.Possible as spec;
 

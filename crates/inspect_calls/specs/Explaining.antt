@@ -2,7 +2,7 @@
 use Rattle.std.specs.Prelude.{◌≡◌, ◌⊎◌, ℕ, Bool, List, Result, Ok, Err, if◌then◌else◌}
 use Rattle.command_words.specs.Options.{Request}
 use Rattle.coop_outside.specs.Held.{Held}
-use Rattle.csv_load.specs.declared.loading.Loaded.{Loaded}
+use Rattle.csv_meaning.specs.declared.loaded.Loaded.{Loaded}
 use Rattle.filter_zones.specs.declared.zone.ChunkZones.{ChunkZones}
 use Rattle.run_decision.specs.Running.{zones_in}
 use Rattle.run_inputs.specs.Ending.{IsReadAndKept}

@@ -4,7 +4,7 @@ use Rattle.batch_notes.specs.Notes.{IsNote}
 use Rattle.batch_notes.specs.Text.{note_text}
 use Rattle.batch_notes.specs.Zones.{AreZonesOf}
 use Rattle.batch_notes.specs.declared.note.Note.{Note}
-use Rattle.csv_load.specs.Judged.{Fields}
+use Rattle.csv_meaning.specs.Judged.{Fields}
 use Rattle.filter_zones.specs.declared.zone.ChunkZones.{ChunkZones}
 use Rattle.run_inputs.specs.Statements.{part}
 use Rattle.run_output.specs.Refusals.{refusal_line, statement_words}
@@ -13,7 +13,7 @@ use Rattle.sql_bind.specs.declared.plan.Plan.{Plan}
 use Rattle.sql_bind.specs.declared.statement.StatementRefusal.{StatementRefusal}
 use Rattle.sql_tokens.specs.declared.span.Span.{Span}
 use Rattle.table_core.specs.Value.{places_of}
-use Rattle.table_core.specs.declared.limits.TheConstants.{MOST_COLUMNS, MOST_PLACES}
+use Rattle.table_sets.specs.declared.limits.TheConstants.{MOST_COLUMNS, MOST_PLACES}
 use Rattle.table_core.specs.declared.schema.Column.{Column}
 use Rattle.inspect_calls.specs.Placing.{IsPlaceTold}
 

@@ -12,7 +12,7 @@ use crate::statements::tell_statements;
 use batch_notes::zones_of_table;
 use command_words::Request;
 use coop_outside::Shelf;
-use csv_load::Loaded;
+use csv_meaning::Loaded;
 use run_inputs::{Inputs, read_inputs};
 use sql_tokens::split;
 use std::alloc::Global;

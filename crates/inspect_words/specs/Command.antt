@@ -7,7 +7,7 @@ use Rattle.clap.specs.declared.builder.command.Command.{Command}
 use Rattle.clap.specs.declared.builder.command.Command.TheViews.{out-Command}
 use Rattle.clap.specs.declared.builder.value_parser.ValueParser.TheVariants.{Signed}
 use Rattle.command_words.specs.declared.limits.TheConstants.{MOST_FRAMES, MOST_PARTS, MOST_WORKERS}
-use Rattle.table_core.specs.declared.limits.TheConstants.{MOST_CHUNK_ROWS}
+use Rattle.table_sets.specs.declared.limits.TheConstants.{MOST_CHUNK_ROWS}
 
 -- an option with a value
 abbrev pub option : Text → Rule

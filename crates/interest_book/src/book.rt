@@ -6,7 +6,7 @@ use crate::loading::Loading;
 use chunk_interest::{Buffer, Clients, Need, QuerySet, sharers_each};
 use scan_story::Hold;
 use std::alloc::{AllocError, Global};
-use table_core::Memory;
+use table_sets::Memory;
 
 /// Stands for needs and the entries that it has noted.
 ///

@@ -6,7 +6,7 @@ ghost use Rattle.scan_story.specs.Views.{is_hold_of};
 ghost use Rattle.interest_book.specs.Held.{hold_for};
 
 use scan_story::Hold;
-use table_core::ChunkSet;
+use table_sets::ChunkSet;
 
 fn is_of(hold: Option<Hold>, c: u32) -> bool
     ensures { result ≡ is_hold_of c hold }

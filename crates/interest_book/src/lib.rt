@@ -26,4 +26,4 @@ pub use loading::Underway;
 pub use pieces::Pieces;
 pub use scan_story::Phase;
 pub use sharing::{Overlaps, Sharing};
-pub use table_core::Memory;
+pub use table_sets::Memory;

@@ -12,7 +12,7 @@ ghost use Rattle.interest_book.specs.Stands.{Stands};
 use crate::book::Book;
 use crate::pieces::Pieces;
 use chunk_interest::{Buffer, Frame, Frames};
-use table_core::ColumnSet;
+use table_sets::ColumnSet;
 
 // The free frame of least number.
 fn least_free(frames: &Frames) -> Option<u32>

@@ -4,7 +4,7 @@ use crate::holds::{holds_chunk, holds_query, since};
 use crate::loading::Underway;
 use chunk_interest::Client;
 use scan_story::Phase;
-use table_core::ColumnSet;
+use table_sets::ColumnSet;
 
 impl Book {
     ghost use Rattle.std.specs.Prelude.{◌≡◌, ◌<◌, ◌≤◌, ◌^◌, ℕ, false, is_some, IfNone, IfSome};

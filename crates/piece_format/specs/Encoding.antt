@@ -2,7 +2,7 @@
 use Rattle.std.specs.Prelude.{◌≡◌, ◌<◌, ◌≤◌, ◌+◌, ◌*◌, ℕ, List, length, slice_index, take, drop}
 use Rattle.table_core.specs.Table.{TableRows}
 use Rattle.table_core.specs.declared.cell.Cell.{Cell}
-use Rattle.table_core.specs.declared.limits.TheConstants.{MOST_ROWS}
+use Rattle.table_sets.specs.declared.limits.TheConstants.{MOST_ROWS}
 use Rattle.table_core.specs.declared.schema.Kind.{Kind}
 use Rattle.piece_format.specs.declared.pieces.Piece.{Piece}
 use Rattle.piece_format.specs.Cells.{FitsKind, cell_at, cell_of, is_null, value_word}

@@ -1,7 +1,7 @@
 -- The pieces of a table: how many there are, and what each one is.
 use Rattle.std.specs.Prelude.{◌≡◌, ◌≤◌, ◌<◌, ◌+◌, ◌-◌, ◌*◌, ◌/◌, ◌%◌, ℕ, List, length, min}
 use Rattle.table_core.specs.Chunk.{chunk_count, chunk_end}
-use Rattle.table_core.specs.declared.limits.TheConstants.{MOST_CHUNK_ROWS, MOST_CHUNKS, MOST_COLUMNS, MOST_ROWS}
+use Rattle.table_sets.specs.declared.limits.TheConstants.{MOST_CHUNK_ROWS, MOST_CHUNKS, MOST_COLUMNS, MOST_ROWS}
 use Rattle.table_core.specs.declared.schema.Kind.{Kind}
 use Rattle.piece_format.specs.declared.layout.Layout.{Layout}
 use Rattle.piece_format.specs.declared.layout.Layout.TheVariants as layouts

@@ -3,7 +3,7 @@ ghost use Rattle.std.specs.Prelude.{◌≡◌, ◌<◌, ◌≤◌, [], All, IfOk
 ghost use Rattle.sql_bind.specs.Meaning.{numbered};
 ghost use Rattle.query_gather.specs.Answer.{IsAnswer, IsAnswerOver, is_stopped};
 ghost use Rattle.query_gather.specs.Partial.{FitsCond, FitsWidth, matching};
-ghost use Rattle.table_core.specs.declared.limits.TheConstants.{MOST_ROWS};
+ghost use Rattle.table_sets.specs.declared.limits.TheConstants.{MOST_ROWS};
 
 use query_gather::{Answer, Partial, answer_of_table};
 use sql_bind::Plan;

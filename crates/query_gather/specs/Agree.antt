@@ -1,6 +1,6 @@
 -- Rows that a plan can't tell apart: a scan may read the columns of its plan alone.
 use Rattle.std.specs.Prelude.{◌≡◌, ℕ, true, List, [], ◌∷◌, length}
-use Rattle.table_core.specs.Sets.{has}
+use Rattle.table_sets.specs.Sets.{has}
 use Rattle.table_core.specs.declared.cell.Cell.{Cell}
 use Rattle.filter_zones.specs.Truth.{cell_at}
 use Rattle.top_rows.specs.Rows.{Numbered}

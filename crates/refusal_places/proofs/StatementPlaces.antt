@@ -1,7 +1,7 @@
 -- A text has one list of tokens.
 use Rattle.std.proofs.Common.{◌≡◌, ℕ, List, Result, Ok, Err, subst}
 use Rattle.std.specs.Prelude.{IfOk}
-use Rattle.table_core.specs.declared.memory.Memory.{Memory}
+use Rattle.table_sets.specs.declared.memory.Memory.{Memory}
 use Rattle.table_core.specs.declared.schema.Column.{Column}
 use Rattle.sql_tokens.specs.Tokens.{HasTokens}
 use Rattle.sql_tokens.specs.declared.token.Token as tokens

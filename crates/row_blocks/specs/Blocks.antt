@@ -2,7 +2,7 @@
 use Rattle.std.specs.Prelude.{◌≡◌, ◌≤◌, ℕ, List, map, length, slice_index_or}
 use Rattle.std.specs.List.{range_with_len}
 use Rattle.table_core.specs.declared.cell.Cell.{Cell}
-use Rattle.table_core.specs.declared.limits.TheConstants.{MOST_COLUMNS}
+use Rattle.table_sets.specs.declared.limits.TheConstants.{MOST_COLUMNS}
 use Rattle.row_blocks.specs.declared.lane.Lane.{Lane}
 use Rattle.row_blocks.specs.declared.block.TheConstants.{MOST_BLOCK_ROWS}
 use Rattle.row_blocks.specs.Lanes.{lane_cell, no_lane}

@@ -2,7 +2,7 @@
 ghost use Rattle.std.specs.Prelude.{◌≡◌, ◌<◌, ◌≤◌, ◌==◌, ℕ, length, if◌then◌else◌};
 ghost use Rattle.std.specs.Int.{bit_at};
 ghost use Rattle.table_core.specs.declared.cell.Cell.TheVariants.{Null};
-ghost use Rattle.table_core.specs.declared.limits.TheConstants.{MOST_COLUMNS};
+ghost use Rattle.table_sets.specs.declared.limits.TheConstants.{MOST_COLUMNS};
 ghost use Rattle.row_blocks.specs.Lanes.{lane_cell};
 ghost use Rattle.row_blocks.specs.Blocks.{lane_at, lane_in, row_at, row_of};
 

@@ -2,7 +2,7 @@
 use Rattle.std.proofs.Common.{◌≡◌, ◌<◌, ℕ, List, length, map, All, Option, Result, Ok, Err, refl, arith, inl, inr}
 use Rattle.std.specs.Prelude.{IfErr, IfOk, is_some}
 use Rattle.std.specs.List.{AllZip}
-use Rattle.csv_load.specs.Judged.{Fields}
+use Rattle.csv_meaning.specs.Judged.{Fields}
 use Rattle.query_gather.specs.Answer.{IsAnswer}
 use Rattle.query_gather.specs.declared.answer.Answer.{Answer}
 use Rattle.run_output.specs.declared.stop.Stop.{Stop}
@@ -16,10 +16,10 @@ use Rattle.piece_format.specs.Shape.{pieces}
 use Rattle.table_pieces.specs.Putting.{ArePut}
 use Rattle.table_pieces.proofs.Zoned.{count_zones}
 use Rattle.run_inputs.specs.declared.inputs.Inputs.{Inputs}
-use Rattle.batch_run.specs.Lost.{Tells}
-use Rattle.batch_run.specs.Registering.{RegistersInOrder}
-use Rattle.batch_run.specs.Story.{IsStoryOver, counts}
-use Rattle.batch_run.specs.Taken.{IsTakenBy, TookNeed}
+use Rattle.batch_answers.specs.Lost.{Tells}
+use Rattle.batch_answers.specs.Registering.{RegistersInOrder}
+use Rattle.batch_answers.specs.Story.{IsStoryOver, counts}
+use Rattle.batch_answers.specs.Taken.{IsTakenBy, TookNeed}
 use Rattle.run_output.specs.Answers.{printed}
 use Rattle.run_output.specs.Outcomes.{ComeTo, losses, plans_of}
 use Rattle.run_output.specs.Output.{IsOutput}

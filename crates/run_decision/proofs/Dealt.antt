@@ -5,8 +5,8 @@ use Rattle.std.specs.List.{AllByRecursion}
 use Rattle.std.proofs.lemmas.Bool.{cases_eq}
 use Rattle.std.proofs.lemmas.List.Elements.{All-from_recursion, recursion_from_All}
 use Rattle.std.proofs.lemmas.List.Sorted.{IsPermutation-append, IsPermutation-refl, IsPermutation-trans}
-use Rattle.table_core.specs.Sets.{numbers_below}
-use Rattle.table_core.proofs.Members.{numbers-rise}
+use Rattle.table_sets.specs.Sets.{numbers_below}
+use Rattle.table_sets.proofs.Members.{numbers-rise}
 use Rattle.filter_zones.specs.Possible.{needed}
 use Rattle.filter_zones.specs.declared.zone.ChunkZones.{ChunkZones}
 use Rattle.scan_story.specs.declared.cause.Cause.{Cause}
@@ -28,8 +28,8 @@ use Rattle.batch_plan.proofs.Parted.{OfParts, each_part}
 use Rattle.batch_plan.specs.Scans.{need_of, needs, scan_number, scans}
 use Rattle.batch_plan.specs.declared.task.Task.{Task}
 use Rattle.batch_plan.proofs.Rises.{is_rising}
-use Rattle.batch_run.specs.Lost.{cause_from, cause_of_query, or_first}
-use Rattle.batch_run.specs.Taken.{TookNeed}
+use Rattle.batch_answers.specs.Lost.{cause_from, cause_of_query, or_first}
+use Rattle.batch_answers.specs.Taken.{TookNeed}
 use Rattle.run_decision.specs.Running.{TookEachOnce, delivered_to}
 use Rattle.run_decision.proofs.Permuted.{same_numbers}
 

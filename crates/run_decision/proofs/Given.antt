@@ -6,9 +6,9 @@ use Rattle.std.specs.List.{AllByRecursion}
 use Rattle.std.proofs.lemmas.List.{length-map}
 use Rattle.command_words.specs.Limits.{IsFrom, IsWithinLimits}
 use Rattle.command_words.specs.Options.{Request}
-use Rattle.csv_load.specs.Loaded.{IsLoaded}
-use Rattle.csv_load.specs.Meaning.{table_of}
-use Rattle.csv_load.specs.Judged.{Fields}
+use Rattle.csv_meaning.specs.Loaded.{IsLoaded}
+use Rattle.csv_meaning.specs.Meaning.{table_of}
+use Rattle.csv_meaning.specs.Judged.{Fields}
 use Rattle.csv_load.specs.Rows.{table_records}
 use Rattle.piece_format.specs.Shape.{groups_in}
 use Rattle.piece_format.specs.declared.layout.Layout.{Layout}
@@ -23,7 +23,7 @@ use Rattle.run_inputs.specs.Ending.{AreInputs}
 use Rattle.run_inputs.specs.Order.{batch_stop, first_stop, frames_given, stop_in, table_stop}
 use Rattle.run_inputs.specs.Statements.{part, spans_in, statements_in}
 use Rattle.run_inputs.specs.declared.inputs.Inputs.{Inputs}
-use Rattle.batch_run.specs.Tasks.{IsPlanOfTable}
+use Rattle.batch_answers.specs.Tasks.{IsPlanOfTable}
 use Rattle.run_output.specs.Outcomes.{ComeTo, ComesTo, plans_of}
 use Rattle.run_output.specs.declared.outcome.Outcome.{Outcome}
 use Rattle.run_output.specs.declared.outcome.Outcome.TheVariants as outcome

@@ -14,7 +14,7 @@ use Rattle.query_gather.specs.declared.answer.Answer.{Answer}
 use Rattle.query_gather.specs.declared.answer.Answer.TheVariants as answer
 use Rattle.batch_plan.specs.Scans.{Scan, needs, scan_number, scans, scans_from, scans_from_part}
 use Rattle.batch_plan.specs.declared.task.Task.{Task}
-use Rattle.batch_run.specs.Lost.{IsLostBy, cause_from, cause_of_query, stop_of}
+use Rattle.batch_answers.specs.Lost.{IsLostBy, cause_from, cause_of_query, stop_of}
 use Rattle.run_output.specs.Outcomes.{loss_of, losses}
 use Rattle.run_output.specs.declared.outcome.Outcome.{Outcome}
 use Rattle.run_output.specs.declared.outcome.Outcome.TheVariants as outcome

@@ -1,10 +1,10 @@
 -- The stops that come before a batch runs.
 use Rattle.std.proofs.Common.{◌≡◌, ◌≢◌, ◌≤◌, ◌*◌, ℕ, List, length, Option, Some, None, nat_lt, refl, subst, cond, arith, Bool, true, false, inl, inr, ◌⊎◌}
-use Rattle.csv_load.specs.Meaning.{Values, table_of}
-use Rattle.csv_load.specs.Judged.{or_else, refusal_of}
+use Rattle.csv_meaning.specs.Meaning.{Values, table_of}
+use Rattle.csv_meaning.specs.Judged.{or_else, refusal_of}
 use Rattle.csv_load.specs.Rows.{table_records}
-use Rattle.csv_load.specs.declared.refusal.LoadRefusal.{LoadRefusal}
-use Rattle.csv_load.specs.declared.refusal.LoadRefusal.TheVariants as refusal
+use Rattle.csv_meaning.specs.declared.refusal.LoadRefusal.{LoadRefusal}
+use Rattle.csv_meaning.specs.declared.refusal.LoadRefusal.TheVariants as refusal
 use Rattle.command_words.specs.Options.{Request}
 use Rattle.run_output.specs.Stops.{status_of}
 use Rattle.run_output.specs.declared.stop.Stop.{Stop}

@@ -3,7 +3,7 @@ use Rattle.std.proofs.Common.{◌≡◌, ◌+◌, ◌*◌, ◌≤◌, ℕ, List,
 use Rattle.std.specs.List.{AllByRecursion, AllZip}
 use Rattle.std.proofs.Math.Nat.{mul-le-mul}
 use Rattle.std.proofs.lemmas.List.Elements.{All-nil, All-cons}
-use Rattle.table_core.specs.Sets.{Rising}
+use Rattle.table_sets.specs.Sets.{Rising}
 use Rattle.sql_bind.specs.declared.plan.Plan.{Plan}
 use Rattle.query_gather.specs.declared.answer.Answer.{Answer}
 use Rattle.batch_plan.specs.declared.task.Task.{Task}

@@ -1,15 +1,15 @@
 -- What a batch comes to before its output is made.
 use Rattle.std.specs.Prelude.{◌≡◌, ◌⊎◌, List, [], Option, Some, None}
 use Rattle.std.specs.List.{AllZip}
-use Rattle.csv_load.specs.Judged.{Fields}
+use Rattle.csv_meaning.specs.Judged.{Fields}
 use Rattle.table_core.specs.declared.schema.Column.{Column}
 use Rattle.scan_story.specs.declared.entry.Entry.{Entry}
 use Rattle.query_gather.specs.Answer.{CanBeWritten, IsAnswer}
 use Rattle.query_gather.specs.declared.answer.Answer.{Answer}
 use Rattle.run_inputs.specs.declared.inputs.Inputs.{Inputs}
-use Rattle.batch_run.specs.Lost.{Tells}
-use Rattle.batch_run.specs.declared.ran.Ran.{Ran}
-use Rattle.batch_run.specs.declared.taken.Taken.{Taken}
+use Rattle.batch_answers.specs.Lost.{Tells}
+use Rattle.batch_answers.specs.declared.ran.Ran.{Ran}
+use Rattle.batch_answers.specs.declared.taken.Taken.{Taken}
 use Rattle.run_output.specs.Outcomes.{plans_of}
 use Rattle.run_output.specs.declared.outcome.Outcome.{Outcome}
 use Rattle.run_output.specs.declared.stop.Stop.{Stop}

@@ -1,6 +1,6 @@
 -- What is counted of a story.
 use Rattle.std.specs.Prelude.{◌≡◌, ◌≤◌, ◌<◌, ◌+◌, ℕ, [], ◌∷◌}
-use Rattle.table_core.specs.Sets.{has}
+use Rattle.table_sets.specs.Sets.{has}
 use Rattle.scan_story.specs.declared.entry.Entry.TheVariants.{Evict}
 use Rattle.scan_story.specs.Spent.{deliveries, reads}
 use Rattle.scan_story.specs.Views.{History, is_stopped}

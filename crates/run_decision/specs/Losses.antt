@@ -3,7 +3,7 @@ use Rattle.std.specs.Prelude.{◌≡◌, ◌≢◌, ◌⊎◌, ◌+◌, ℕ, Lis
 use Rattle.scan_story.specs.Views.{History}
 use Rattle.scan_story.specs.declared.cause.Cause.{Cause}
 use Rattle.scan_story.specs.declared.cause.Cause.TheVariants as cause
-use Rattle.batch_run.specs.Lost.{IsLostBy, cause_of_query}
+use Rattle.batch_answers.specs.Lost.{IsLostBy, cause_of_query}
 use Rattle.run_output.specs.declared.outcome.Outcome.{Outcome}
 use Rattle.run_output.specs.declared.outcome.Outcome.TheVariants as outcome
 

@@ -22,11 +22,11 @@ use Rattle.run_inputs.specs.declared.inputs.Inputs.{Inputs}
 use Rattle.batch_plan.specs.Scans.{Scan, scan_number, scans}
 use Rattle.batch_plan.specs.Setting.{batch_setting}
 use Rattle.batch_plan.specs.declared.task.Task.{Task}
-use Rattle.batch_run.specs.Lost.{Tells, cause_of_query}
-use Rattle.batch_run.specs.Registering.{RegistersInOrder}
-use Rattle.batch_run.specs.Story.{IsStoryOver, counts}
-use Rattle.batch_run.specs.Taken.{IsTakenBy, TookNeed}
-use Rattle.batch_run.specs.Tasks.{CanBeLoaded}
+use Rattle.batch_answers.specs.Lost.{Tells, cause_of_query}
+use Rattle.batch_answers.specs.Registering.{RegistersInOrder}
+use Rattle.batch_answers.specs.Story.{IsStoryOver, counts}
+use Rattle.batch_answers.specs.Taken.{IsTakenBy, TookNeed}
+use Rattle.batch_answers.specs.Tasks.{CanBeLoaded}
 use Rattle.run_output.specs.Answers.{printed}
 use Rattle.run_output.specs.Outcomes.{ComeTo, losses, plans_of}
 use Rattle.run_output.specs.Output.{IsOutput}

@@ -2,7 +2,7 @@
 use Rattle.std.specs.Prelude.{ℕ, List}
 use Rattle.scan_story.specs.declared.entry.Entry.{Entry}
 use Rattle.scan_story.specs.declared.setting.PolicyName.{PolicyName}
-use Rattle.batch_run.specs.declared.taken.Taken.{Taken}
+use Rattle.batch_answers.specs.declared.taken.Taken.{Taken}
 use Rattle.run_decision.specs.Devices.{DepotAt}
 
 -- the work of a run: the name and the first cursor of its policy, its depot before and after, the story of its workers, the

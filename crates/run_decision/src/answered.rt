@@ -1,6 +1,7 @@
 // What a batch comes to.
 
-use batch_run::{Answer, Ran};
+use batch_answers::Ran;
+use query_gather::Answer;
 use run_output::Outcome;
 use table_core::{Dict, Schema};
 

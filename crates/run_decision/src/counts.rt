@@ -1,6 +1,6 @@
 // The counts of a story.
 ghost use Rattle.std.specs.Prelude.{◌≡◌, ◌<◌, ◌+◌, ◌-◌, ◌^◌, ◌||◌, ◌==◌, ◌∷◌, [], ℕ, length};
-ghost use Rattle.table_core.specs.Sets.{has};
+ghost use Rattle.table_sets.specs.Sets.{has};
 ghost use Rattle.scan_story.specs.Views.{History, past};
 ghost use Rattle.run_decision.specs.Counts.{AreCounts, AreFew};
 

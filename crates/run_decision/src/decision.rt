@@ -1,7 +1,7 @@
 // What a run decides before it writes a byte.
 
 use crate::output::Output;
-use batch_run::Ran;
+use batch_answers::Ran;
 use run_output::Stop;
 
 /// What a run decides before it writes a byte.

@@ -1,9 +1,9 @@
-//! From what a run is given to its answers: the batch runs on its workers, and the text of its answers is made, or it
-//! is said why there is none. What a story spent is counted here too.
+//! What a run decides before it writes a byte, of what its batch came to: the statements as tasks, the text of the answers with
+//! what is shown behind them, and what a story spent. It knows nothing of the workers: `coop_run` runs a batch.
 //!
-//!     let decision = decide(&rt, alloc, keys, &request, &mut shelf, depot, Relevance, &NoGate);
-//!     let reads = decision.ran.as_ref().map(|ran| Counts::of(&ran.story).reads);
-//!     match decision.ending {
+//!     let tasks = tasks_of(alloc, &inputs.outcomes)?;
+//!     let reads = Counts::of(&ran.story).reads;
+//!     match output_of(alloc, &outcomes, &answers, &schema, &dicts, totals, story) {
 //!         Ok(Output { status, text }) => write(status, text),
 //!         Err(stop) => write(stop.status(), stop.line()),
 //!     }
@@ -12,18 +12,17 @@
 #![tactic(auto)]
 
 mod answered;
-mod answering;
 mod counts;
-mod deciding;
 mod decision;
 mod laws;
 mod output;
+mod showing;
 mod tasks;
 
 pub use answered::Answered;
-pub use answering::answer;
 pub use counts::Counts;
-pub use deciding::decide;
 pub use decision::Decision;
 pub use laws::lost_for_memory_are_queries;
 pub use output::Output;
+pub use showing::{output_of, totals_of, trace_of};
+pub use tasks::tasks_of;

@@ -2,7 +2,7 @@
 ghost use Rattle.std.specs.Prelude.{◌≡◌, ◌≤◌, ◌++◌, [], ◌∷◌, IfOk, OnOk, length};
 ghost use Rattle.run_decision.specs.Tasks.{tasks_in};
 
-use batch_run::Task;
+use batch_plan::Task;
 use run_output::Outcome;
 use std::alloc::{AllocError, Global};
 

@@ -1,18 +1,18 @@
 -- Why a run stops before its batch runs: the first refusal in the order of the work.
 use Rattle.std.specs.Prelude.{◌+◌, ◌*◌, ℕ, nat_lt, min, List, length, Option, Some, None, if◌then◌else◌}
 use Rattle.command_words.specs.Options.{Request}
-use Rattle.csv_load.specs.Meaning.{Values, table_of}
-use Rattle.csv_load.specs.Judged.{or_else, refusal_of}
+use Rattle.csv_meaning.specs.Meaning.{Values, table_of}
+use Rattle.csv_meaning.specs.Judged.{or_else, refusal_of}
 use Rattle.csv_load.specs.Rows.{table_records}
-use Rattle.csv_load.specs.declared.limits.TheConstants.{MOST_TEXT_BYTES}
-use Rattle.csv_load.specs.declared.refusal.LoadRefusal.{LoadRefusal}
-use Rattle.csv_load.specs.declared.refusal.LoadRefusal.TheVariants as refusal
+use Rattle.csv_meaning.specs.declared.limits.TheConstants.{MOST_TEXT_BYTES}
+use Rattle.csv_meaning.specs.declared.refusal.LoadRefusal.{LoadRefusal}
+use Rattle.csv_meaning.specs.declared.refusal.LoadRefusal.TheVariants as refusal
 use Rattle.piece_format.specs.Shape.{groups_in, word_count}
 use Rattle.piece_format.specs.declared.layout.Layout.{Layout}
 use Rattle.run_output.specs.declared.stop.Stop.{Stop}
 use Rattle.run_output.specs.declared.stop.Stop.TheVariants as stop
 use Rattle.table_core.specs.Chunk.{chunk_count}
-use Rattle.table_core.specs.declared.limits.TheConstants.{MOST_CHUNKS}
+use Rattle.table_sets.specs.declared.limits.TheConstants.{MOST_CHUNKS}
 use Rattle.run_inputs.specs.Statements.{spans_in}
 use Rattle.run_inputs.specs.declared.limits.TheConstants.{MOST_BATCH_BYTES, MOST_POOL_WORDS, MOST_SCANS, MOST_STATEMENTS}
 

@@ -5,7 +5,7 @@ use Rattle.std.specs.List.{AllByRecursion, flat_map}
 use Rattle.std.proofs.lemmas.Bool.{cases_Bool, false≢true, eqb-true}
 use Rattle.std.proofs.lemmas.List.{get_or_default}
 use Rattle.table_core.specs.Fitting.{kind_at}
-use Rattle.table_core.specs.Sets.{has}
+use Rattle.table_sets.specs.Sets.{has}
 use Rattle.table_core.specs.declared.schema.Column.{Column}
 use Rattle.table_core.specs.declared.schema.Kind.TheVariants.{Int}
 use Rattle.table_core.specs.Answer as answers

@@ -1,6 +1,6 @@
 -- How many members a set has.
 use Rattle.std.proofs.Common.{◌+◌, ◌≤◌, ◌*◌, ◌∷◌, [], ℕ, List, length, arith}
-use Rattle.table_core.specs.Sets.{Rising}
+use Rattle.table_sets.specs.Sets.{Rising}
 use Rattle.std.proofs.Math.Nat.{mul-le-mul}
 
 pub members_few : (start : ℕ) (xs : List ℕ) (end : ℕ) → Rising start xs end → length xs + start ≤ end

@@ -1,6 +1,6 @@
 // The terms of a run.
 ghost use Rattle.std.specs.Prelude.{◌≡◌, ◌≤◌, ◌*◌, All, IfOk, IfSome, length, map};
-ghost use Rattle.table_core.specs.Sets.{Rising};
+ghost use Rattle.table_sets.specs.Sets.{Rising};
 ghost use Rattle.filter_zones.specs.Truth.{FitsRow};
 ghost use Rattle.piece_format.specs.Shape.{IsShape, groups};
 ghost use Rattle.scan_story.specs.Setting.{HasRoom, IsSetting, first_cursor};

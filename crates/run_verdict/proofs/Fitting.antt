@@ -13,7 +13,7 @@ use Rattle.scan_story.specs.Causes.{cause_by, cause_of, or_else}
 use Rattle.scan_story.specs.Reading.{Fits}
 use Rattle.scan_story.specs.Views.{History, past}
 use Rattle.batch_plan.specs.Scans.{scan_number}
-use Rattle.batch_run.specs.Lost.{cause_from, cause_of_query, or_first}
+use Rattle.batch_answers.specs.Lost.{cause_from, cause_of_query, or_first}
 use Rattle.plain_answers.specs.Parts.{FitsCause}
 
 -- the numbers of the cause are few, where there is one

@@ -7,7 +7,7 @@ use Rattle.std.proofs.lemmas.List.Elements.{All-filter}
 use Rattle.table_core.specs.Fitting.{FitsRow}
 use Rattle.table_core.specs.declared.cell.Cell.{Cell}
 use Rattle.table_core.specs.declared.schema.Column.{Column}
-use Rattle.csv_load.specs.Judged.{Fields}
+use Rattle.csv_meaning.specs.Judged.{Fields}
 use Rattle.filter_zones.specs.Truth as codes
 use Rattle.filter_zones.specs.declared.cond.Cond.{Cond}
 use Rattle.piece_format.specs.Shape.{IsShape, groups}
@@ -21,9 +21,9 @@ use Rattle.query_gather.proofs.Written.{can_be_written}
 use Rattle.table_pieces.specs.Shaping.{FitsDicts}
 use Rattle.batch_plan.specs.Setting.{AreOptions, NamesColumns}
 use Rattle.batch_plan.specs.declared.task.Task.{Task}
-use Rattle.batch_run.specs.Tasks.{FitsWhere, IsPlanOfTable}
-use Rattle.batch_run.proofs.Plans.{plan_fits}
-use Rattle.batch_run.proofs.Tables.{dicts_rise, fits_dicts, is_shape, where_fits}
+use Rattle.batch_answers.specs.Tasks.{FitsWhere, IsPlanOfTable}
+use Rattle.batch_answers.proofs.Plans.{plan_fits}
+use Rattle.batch_answers.proofs.Tables.{dicts_rise, fits_dicts, is_shape, where_fits}
 use Rattle.run_output.specs.Answers as printing
 use Rattle.run_output.specs.Outcomes.{plans_of}
 use Rattle.run_output.specs.declared.outcome.Outcome.{Outcome}

@@ -11,7 +11,7 @@ use Rattle.query_gather.specs.Answer.{CanBeWritten, IsAnswer, is_stopped}
 use Rattle.query_gather.specs.declared.answer.Answer.{Answer}
 use Rattle.query_gather.specs.declared.answer.Answer.TheVariants as answers
 use Rattle.batch_plan.specs.declared.task.Task.{Task}
-use Rattle.batch_run.specs.Lost.{IsLostBy, cause_of_query, stop_of}
+use Rattle.batch_answers.specs.Lost.{IsLostBy, cause_of_query, stop_of}
 use Rattle.run_output.specs.Outcomes.{loss_of, losses, plans_of}
 use Rattle.run_output.specs.declared.outcome.Outcome.{Outcome}
 use Rattle.run_output.specs.declared.outcome.Outcome.TheVariants as outcome

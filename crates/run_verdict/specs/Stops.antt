@@ -6,7 +6,7 @@ use Rattle.scan_story.specs.declared.cause.Cause.TheVariants as cause
 use Rattle.query_gather.specs.declared.answer.Answer.{Answer}
 use Rattle.query_gather.specs.declared.answer.Answer.TheVariants as answers
 use Rattle.batch_plan.specs.declared.task.Task.{Task}
-use Rattle.batch_run.specs.Lost.{cause_of_query}
+use Rattle.batch_answers.specs.Lost.{cause_of_query}
 
 -- as the story says; where it doesn't stop the query, a line says that memory ran out
 abbrev pub stop_for : Option Cause → Bool → Option Cause

@@ -2,9 +2,9 @@
 ghost use Rattle.std.specs.Prelude.{◌≡◌, ◌≤◌, ◌++◌, [], ◌∷◌, All, IfOk, List, OnOk, length};
 ghost use Rattle.std.specs.List.{AllByRecursion, AllZip};
 ghost use Rattle.table_core.specs.Fitting.{FitsRow};
-ghost use Rattle.csv_load.specs.Judged.{Fields};
-ghost use Rattle.table_core.specs.declared.limits.TheConstants.{MOST_ROWS};
-ghost use Rattle.batch_run.specs.Tasks.{IsPlanOfTable};
+ghost use Rattle.csv_meaning.specs.Judged.{Fields};
+ghost use Rattle.table_sets.specs.declared.limits.TheConstants.{MOST_ROWS};
+ghost use Rattle.batch_answers.specs.Tasks.{IsPlanOfTable};
 ghost use Rattle.run_output.specs.Outcomes.{plans_of};
 ghost use Rattle.run_output.specs.declared.outcome.Outcome.{Outcome as OutcomeOf};
 ghost use Rattle.run_verdict.specs.Plain.{AddsAnswer, ArePlain};

@@ -1,7 +1,7 @@
 // Why a story stopped a query.
 ghost use Rattle.std.specs.Prelude.{◌≡◌, ◌≤◌, ◌*◌};
 ghost use Rattle.scan_story.specs.Views.{past};
-ghost use Rattle.batch_run.specs.Lost as spec;
+ghost use Rattle.batch_answers.specs.Lost as spec;
 
 use batch_plan::scan_number;
 use output_parts::cause_of;

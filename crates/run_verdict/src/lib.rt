@@ -16,8 +16,6 @@ mod judging;
 mod laws;
 mod reading;
 mod stops;
-mod summary;
-mod tasks;
 mod verdict;
 mod writing;
 

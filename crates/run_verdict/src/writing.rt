@@ -7,8 +7,8 @@ ghost use Rattle.run_output.specs.Answers.{NamesColumns};
 ghost use Rattle.run_output.specs.Outcomes.{plans_of};
 ghost use Rattle.run_verdict.specs.Reading.{text_with};
 
-use crate::summary::totals_of;
 use query_gather::Answer;
+use run_decision::totals_of;
 use run_inputs::Inputs;
 use run_output::output_text;
 use scan_story::Entry;

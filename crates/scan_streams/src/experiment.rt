@@ -1,7 +1,7 @@
 // What is played.
 ghost use Rattle.std.specs.Prelude.{◌≡◌, ◌≤◌, ◌+◌, ◌-◌, ◌/◌, IfOk};
 ghost use Rattle.command_words.specs.declared.limits.TheConstants.{MOST_FRAMES, MOST_GENERATED_ROWS, MOST_WORKERS};
-ghost use Rattle.table_core.specs.declared.limits.TheConstants.{MOST_CHUNK_ROWS};
+ghost use Rattle.table_sets.specs.declared.limits.TheConstants.{MOST_CHUNK_ROWS};
 ghost use Rattle.scan_streams.specs.declared.experiment.TheConstants.{MOST_QUERIES};
 
 use crate::kind::Kind;
@@ -44,7 +44,7 @@ pub(crate) struct Experiment {
 
 impl Experiment {
     ghost use Rattle.command_words.specs.Limits.{IsFrom, IsWithinLimits};
-    ghost use Rattle.coop_run.specs.Settings.{asked_in_settings};
+    ghost use Rattle.run_promises.specs.Settings.{asked_in_settings};
 
     /// How many chunks the table has.
     pub(crate) fn chunks(&self) -> u32

@@ -2,7 +2,7 @@
 use Rattle.std.proofs.Common.{◌≡◌, ◌+◌, ◌<◌, ◌≤◌, ℕ, List, [], ◌∷◌, length, map, refl, arith, inl, inr}
 use Rattle.std.specs.Prelude.{Bool, false, ◌==◌}
 use Rattle.std.proofs.lemmas.Bool.{cases_lt, lt-ltb, le-ltb, ne_eqb}
-use Rattle.table_core.specs.Sets.{has, numbers_below, Rising, AreMembers}
+use Rattle.table_sets.specs.Sets.{has, numbers_below, Rising, AreMembers}
 use Rattle.table_core.specs.declared.schema.Column.{Column}
 use Rattle.filter_zones.proofs.Sets.{members_are}
 use Rattle.sql_bind.specs.declared.places.Place as code

@@ -5,8 +5,8 @@ use Rattle.std.specs.List.{AllByRecursion}
 use Rattle.std.proofs.lemmas.Bool.{cases_Bool, false≢true, lt-ltb, eq-eqb, eqb-true}
 use Rattle.std.proofs.Math.Bool.{or-true}
 use Rattle.std.proofs.lemmas.List.Elements.{All-from_recursion, All-append, All-weaker}
-use Rattle.table_core.specs.Sets.{has, numbers_below}
-use Rattle.table_core.proofs.Members.{has-numbers}
+use Rattle.table_sets.specs.Sets.{has, numbers_below}
+use Rattle.table_sets.proofs.Members.{has-numbers}
 use Rattle.table_core.specs.declared.schema.Column.{Column}
 use Rattle.filter_zones.specs.declared.cond.Cond.{Cond}
 use Rattle.filter_zones.specs.declared.cond.Cond.TheVariants as cond

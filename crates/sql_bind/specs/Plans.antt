@@ -1,8 +1,8 @@
 -- A query with its names as columns.
 use Rattle.std.specs.Prelude.{◌≡◌, ℕ, suc, Bool, if◌then◌else◌, ◌==◌, List, [], ◌∷◌, map, Option, Some, None, option_map}
 use Rattle.std.specs.List.{flat_map, list_any}
-use Rattle.table_core.specs.Sets.{numbers_below}
-use Rattle.table_core.specs.declared.limits.TheConstants.{MOST_COLUMNS}
+use Rattle.table_sets.specs.Sets.{numbers_below}
+use Rattle.table_sets.specs.declared.limits.TheConstants.{MOST_COLUMNS}
 use Rattle.table_core.specs.declared.schema.Column.{Column}
 use Rattle.agg_groups.specs.declared.item.Item.{Item}
 use Rattle.agg_groups.specs.declared.item.Item.TheVariants.{CountAll, Count, Sum, Min, Max, Key}

@@ -1,6 +1,6 @@
 -- Which columns a plan reads.
 use Rattle.std.specs.Prelude.{◌≡◌, ◌<◌, ℕ, true, All, Option, Some, None}
-use Rattle.table_core.specs.Sets.{has}
+use Rattle.table_sets.specs.Sets.{has}
 use Rattle.filter_zones.specs.declared.cond.Cond.{Cond}
 use Rattle.filter_zones.specs.declared.cond.Cond.TheVariants as cond
 use Rattle.agg_groups.specs.declared.item.Item.{Item}

@@ -2,7 +2,7 @@
 use Rattle.std.specs.Prelude.{ℕ, Bool, true, false, if◌then◌else◌, List, map, Option, Some, None, is_none, option_map, codes}
 use Rattle.std.specs.List.{find}
 use Rattle.std.specs.Str.{bytes_eq}
-use Rattle.table_core.specs.Sets.{has}
+use Rattle.table_sets.specs.Sets.{has}
 use Rattle.table_core.specs.declared.schema.Column.{Column}
 use Rattle.table_core.specs.declared.schema.Kind.{Kind}
 use Rattle.table_core.specs.declared.schema.Kind.TheVariants as kind

@@ -1,6 +1,6 @@
 // The columns that a query names.
 ghost use Rattle.std.specs.Prelude.{◌≡◌, ◌<◌, ◌≤◌, ◌||◌, ◌==◌, ℕ, length, map};
-ghost use Rattle.table_core.specs.Sets.{AreMembers, has};
+ghost use Rattle.table_sets.specs.Sets.{AreMembers, has};
 ghost use Rattle.sql_bind.specs.Places.{place_seen};
 ghost use Rattle.sql_bind.specs.Plans as spec;
 

@@ -1,5 +1,5 @@
 -- What was delivered to a query: chunks of its need, each once, and all of them where it has ended.
-use Rattle.std.proofs.Common.{◌≡◌, ◌<◌, ◌≤◌, ◌+◌, ◌∷◌, [], ◌==◌, ◌&&◌, ◌||◌, not, ℕ, Bool, true, false, if◌then◌else◌, List, length, nat_lt, refl, sym, ◌∙◌, ap, subst, arith}
+use Rattle.std.proofs.Common.{◌≡◌, ◌<◌, ◌≤◌, ◌+◌, ◌++◌, ◌∷◌, [], ◌==◌, ◌&&◌, ◌||◌, not, ℕ, Bool, true, false, if◌then◌else◌, List, length, nat_lt, refl, sym, ◌∙◌, ap, subst, arith}
 use Rattle.std.specs.List.{list_any}
 use Rattle.scan_story.specs.declared.entry.Entry.{Entry}
 use Rattle.scan_story.specs.declared.entry.Entry.TheVariants.{Deliver, End, Evict, Failed, Fill, Filled, Plan, Register, Release, Stop}
@@ -40,6 +40,28 @@ delivered_is (Failed w r p why ∷ h) q c = delivered_is h q c
 delivered_is (Release w r d ∷ h) q c = delivered_is h q c
 delivered_is (Stop w r ∷ h) q c = delivered_is h q c
 delivered_is (End w r ∷ h) q c = delivered_is h q c
+
+-- what two stories delivered, one behind the other
+delivered_first : (q : ℕ) (e : Entry) (xs ys : List Entry) → chunks_delivered (xs ++ ys) q ≡ chunks_delivered xs q ++ chunks_delivered ys q
+    → chunks_delivered (e ∷ xs ++ ys) q ≡ chunks_delivered (e ∷ xs) q ++ chunks_delivered ys q
+delivered_first q (Deliver w r c) xs ys is =
+    elim (r == q) as (λ t. (if t then c ∷ chunks_delivered (xs ++ ys) q else chunks_delivered (xs ++ ys) q) ≡ (if t then c ∷ chunks_delivered xs q else chunks_delivered xs q) ++ chunks_delivered ys q) [
+      | true ↦ ap (λ (l : List ℕ). c ∷ l) is
+      | false ↦ is
+    ]
+delivered_first q (Register w r) xs ys is = is
+delivered_first q (Plan w r c) xs ys is = is
+delivered_first q (Evict w c) xs ys is = is
+delivered_first q (Fill w f p) xs ys is = is
+delivered_first q (Filled w f p) xs ys is = is
+delivered_first q (Failed w r p why) xs ys is = is
+delivered_first q (Release w r c) xs ys is = is
+delivered_first q (Stop w r) xs ys is = is
+delivered_first q (End w r) xs ys is = is
+
+pub delivered_append : (q : ℕ) (xs ys : List Entry) → chunks_delivered (xs ++ ys) q ≡ chunks_delivered xs q ++ chunks_delivered ys q
+delivered_append q [] ys = refl
+delivered_append q (e ∷ es) ys = delivered_first q e es ys (delivered_append q es ys)
 
 -- what a Deliver may deliver: a chunk of the table that is needed, and wholly in frames
 pub record Ready (s : Setting) (h : History) (q c : ℕ) : Type 0 where

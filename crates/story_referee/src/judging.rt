@@ -15,7 +15,7 @@ use crate::ruling::{Reason, Ruling};
 use crate::terms::Terms;
 use scan_story::Entry;
 use std::alloc::Global;
-use table_core::Memory;
+use table_sets::Memory;
 
 impl Referee<'_> {
     // Why the entry may not come; `None` where it may.

@@ -33,5 +33,5 @@ pub use judging::judge;
 pub use rank::{Choice, Rank, beats};
 pub use rule::Rule;
 pub use ruling::{Better, Reason, Ruling};
-pub use table_core::Memory;
+pub use table_sets::Memory;
 pub use terms::Terms;

@@ -5,7 +5,7 @@ ghost use Rattle.chunk_interest.specs.Fresh.{wanted};
 
 use chunk_interest::Need;
 use std::alloc::Global;
-use table_core::Memory;
+use table_sets::Memory;
 
 /// The same needs once more.
 pub fn copied(alloc: Global, needs: &[Need]) -> Result<Vec<Need>, Memory>

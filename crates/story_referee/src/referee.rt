@@ -23,7 +23,7 @@ use chunk_interest::Need;
 use interest_book::Book;
 use scan_story::{Entry, Hold, Load};
 use std::alloc::Global;
-use table_core::Memory;
+use table_sets::Memory;
 
 fn registers(q: u32, entry: &Entry) -> bool
     ensures { result ≡ registers q entry.now }

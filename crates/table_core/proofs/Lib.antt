@@ -1,6 +1,5 @@
 pub mod Columns
 pub mod Cutting
-pub mod Members
 pub mod Nulls
 pub mod Rising
 pub mod Lists

@@ -6,8 +6,8 @@ use Rattle.std.proofs.lemmas.List.FromFn.{get_or-map-range_with_len, length-map-
 use Rattle.std.proofs.Math.Seq.{get_or-append_seam}
 use Rattle.std.specs.List.{range_with_len}
 use Rattle.table_core.specs.Numbers.{AreNullBits, number_at, number_or_zero, numbers_of}
-use Rattle.table_core.specs.Sets.{bit_of}
-use Rattle.table_core.proofs.Members.{bit_of-insert, no_bits}
+use Rattle.table_sets.specs.Sets.{bit_of}
+use Rattle.table_sets.proofs.Members.{bit_of-insert, no_bits}
 
 -- one more word of zeros changes no bit
 get_or-zero : (words : List ℕ) (k : ℕ) → ◌≡◌ {A = ℕ} (get_or (words ++ 0 ∷ []) k 0) (get_or words k 0)

@@ -4,7 +4,6 @@ pub mod Codes
 pub mod Columns
 pub mod Numbers
 pub mod Dict
-pub mod Sets
 pub mod Table
 pub mod Texts
 pub mod Value

@@ -1,7 +1,7 @@
 -- Numbers or none: values beside null bits.
 use Rattle.std.specs.Prelude.{◌≡◌, ◌≤◌, ◌*◌, ℕ, ℤ, pos, true, false, Option, Some, None, List, length, map, slice_index_or, if◌then◌else◌}
 use Rattle.std.specs.List.{range_with_len}
-use Rattle.table_core.specs.Sets.{bit_of}
+use Rattle.table_sets.specs.Sets.{bit_of}
 
 -- a number, or none where its null bit is set
 abbrev pub number_at : List ℤ → List ℕ → ℕ → Option ℤ

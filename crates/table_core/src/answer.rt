@@ -11,11 +11,11 @@ ghost use Rattle.table_core.specs.Answer.{AreCellsOf, IsColumn, answer, dict_at,
 use crate::bytes::Bytes;
 use crate::cell::Cell;
 use crate::dict::Dict;
-use crate::memory::Memory;
 use crate::schema::{Column, Schema};
 use crate::value_text::{write_number, write_quoted, write_value};
 use itoa::Buffer;
 use std::alloc::Global;
+use table_sets::Memory;
 
 // Puts the text of a cell without a column, as a count, at the end.
 fn write_plain(out: &mut Bytes, cell: Cell) -> Result<(), Memory>

@@ -1,5 +1,5 @@
-//! What a table is: typed cells, the columns they stand in, dictionaries of texts, sets of chunks and columns,
-//! the text of a value and of an answer, and the words and limits that all crates above share.
+//! What a table is: typed cells, the columns they stand in, dictionaries of texts, the text of a value and of an answer.
+//! The sets and limits of table_sets are handed on.
 //!
 //!     let (kind, dict) = (Kind::Dec { places: 2 }, Dict::new(alloc));
 //!     let schema = Schema::new(vec![in alloc; Column { name, kind }]?);
@@ -20,34 +20,28 @@ mod bytes;
 mod cell;
 mod cells;
 mod chunk;
-mod chunk_set;
 mod codes;
-mod column_set;
 mod dict;
-mod limits;
-mod memory;
 mod numbers;
 mod op;
 mod schema;
 mod table;
 mod texts;
 mod value_text;
-mod words;
 
 pub use answer::text_of_answer;
 pub use bytes::Bytes;
 pub use cell::{Cell, cell_order};
 pub use cells::Cells;
 pub use chunk::{chunk_count, chunk_span};
-pub use chunk_set::ChunkSet;
 pub use codes::Codes;
-pub use column_set::ColumnSet;
 pub use dict::Dict;
-pub use limits::{MOST_CHUNK_ROWS, MOST_CHUNKS, MOST_COLUMNS, MOST_PLACES, MOST_ROWS};
-pub use memory::Memory;
 pub use numbers::Numbers;
 pub use op::Op;
 pub use schema::{Column, Kind, Schema};
 pub use table::Table;
+pub use table_sets::{
+    ChunkSet, ColumnSet, MOST_CHUNK_ROWS, MOST_CHUNKS, MOST_COLUMNS, MOST_PLACES, MOST_ROWS, Memory,
+};
 pub use texts::Texts;
 pub use value_text::{places_of_kind, write_number, write_quoted, write_value};

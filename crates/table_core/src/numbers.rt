@@ -1,7 +1,7 @@
 // Whole numbers or none, by place.
 ghost use Rattle.std.specs.Prelude.{◌≡◌, ◌<◌, ◌≤◌, ◌*◌, ◌++◌, ◌∷◌, [], ℕ, ℤ, List, Option, None, is_none, IfOk, OnOk, OnErr, length, slice_index_or};
 ghost use Rattle.table_core.specs.Numbers.{AreNullBits, number_or_zero, numbers_of};
-ghost use Rattle.table_core.specs.Sets.{bit_of};
+ghost use Rattle.table_sets.specs.Sets.{bit_of};
 
 use std::alloc::{AllocError, Global};
 use std::marker::Model;

@@ -6,9 +6,9 @@ ghost use Rattle.table_core.specs.Writing.{GrewByPrefix};
 use crate::bytes::Bytes;
 use crate::cell::Cell;
 use crate::dict::Dict;
-use crate::memory::Memory;
 use crate::schema::Kind;
 use itoa::Buffer;
+use table_sets::Memory;
 
 /// The digits after the point of a column's numbers: 0 but for a DEC column.
 pub fn places_of_kind(kind: Kind) -> u32

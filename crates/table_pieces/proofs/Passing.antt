@@ -7,7 +7,7 @@ use Rattle.std.proofs.lemmas.Grind.{flat_map-append}
 use Rattle.std.proofs.lemmas.List.{append-nil, take_all}
 use Rattle.std.proofs.lemmas.List.Elements.{All-head, All-tail, filter-append}
 use Rattle.table_core.specs.Chunk.{chunk, chunk_count}
-use Rattle.table_core.specs.Sets.{numbers_below}
+use Rattle.table_sets.specs.Sets.{numbers_below}
 use Rattle.table_pieces.proofs.Chunks.{count-room, take-chunk}
 
 none_passes : {X : Type 0} (passes : X → Bool) (xs : List X) → All (λ x. passes x ≡ false) xs → filter passes xs ≡ []

@@ -5,9 +5,9 @@ use Rattle.std.proofs.lemmas.Bool.{cases_Bool, false≢true, lt-ltb}
 use Rattle.std.proofs.lemmas.List.Elements.{All-drop, All-from_get_or, All-take}
 use Rattle.std.proofs.lemmas.List.FromFn.{get_or-map-range_with_len, length-map-range_with_len}
 use Rattle.table_core.specs.Chunk.{chunk, chunk_count, chunk_end}
-use Rattle.table_core.specs.Sets.{has}
+use Rattle.table_sets.specs.Sets.{has}
 use Rattle.table_core.specs.declared.cell.Cell.{Cell}
-use Rattle.table_core.proofs.Members.{has-numbers}
+use Rattle.table_sets.proofs.Members.{has-numbers}
 use Rattle.piece_format.specs.Shape.{TableShape, chunks}
 use Rattle.filter_zones.specs.Possible.{FitsZones, chunk_at, is_needed, needed}
 use Rattle.filter_zones.specs.Truth.{FitsRow, truth_of}

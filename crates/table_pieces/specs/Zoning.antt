@@ -2,7 +2,7 @@
 use Rattle.std.specs.Prelude.{◌≡◌, ◌≢◌, ◌<◌, ℕ, Bool, true, false, List, length, map, filter, All, Option, IfSome}
 use Rattle.std.specs.List.{flat_map, range_with_len}
 use Rattle.table_core.specs.Chunk.{chunk}
-use Rattle.table_core.specs.Sets.{has}
+use Rattle.table_sets.specs.Sets.{has}
 use Rattle.table_core.specs.declared.cell.Cell.{Cell}
 use Rattle.piece_format.specs.Shape.{TableShape, chunks}
 use Rattle.filter_zones.specs.Possible.{chunk_at}

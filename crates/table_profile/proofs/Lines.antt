@@ -1,6 +1,6 @@
 -- The lines of the columns from a place on.
 use Rattle.std.proofs.Common.{◌≡◌, ◌<◌, ◌+◌, ℕ, zero, suc, List, [], ◌∷◌, ◌++◌, length, get_or, drop, refl, arith}
-use Rattle.csv_load.specs.Judged.{Fields}
+use Rattle.csv_meaning.specs.Judged.{Fields}
 use Rattle.table_core.specs.declared.schema.Column.{Column}
 use Rattle.table_profile.specs.declared.profile.ColumnProfile.{ColumnProfile}
 use Rattle.table_profile.specs.Text.{column_line, column_lines}

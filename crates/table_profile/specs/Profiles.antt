@@ -1,8 +1,8 @@
 -- The profile of a table: what is told of each of its columns.
 use Rattle.std.specs.Prelude.{◌≡◌, ◌<◌, ℕ, List, length, Option, Some, None, slice_index_or}
-use Rattle.csv_load.specs.Judged.{Fields}
-use Rattle.csv_load.specs.Loaded.{IsLoaded}
-use Rattle.csv_load.specs.declared.loading.Loaded.{Loaded}
+use Rattle.csv_meaning.specs.Judged.{Fields}
+use Rattle.csv_meaning.specs.Loaded.{IsLoaded}
+use Rattle.csv_meaning.specs.declared.loaded.Loaded.{Loaded}
 use Rattle.table_core.specs.Fitting.{dict_at, kind_at}
 use Rattle.table_core.specs.Value.{Value}
 use Rattle.table_core.specs.declared.schema.Kind.{Kind}

@@ -3,7 +3,7 @@ use Rattle.std.specs.Prelude.{◌≡◌, ◌+◌, ◌-◌, ◌*◌, ◌<◌, ◌
 use Rattle.table_core.specs.Value.{Value, none, number, text}
 use Rattle.table_core.specs.declared.schema.Kind.{Kind}
 use Rattle.table_core.specs.declared.schema.Kind.TheVariants.{Text}
-use Rattle.csv_load.specs.Number.{number_read}
+use Rattle.csv_meaning.specs.Number.{number_read}
 use Rattle.table_profile.specs.declared.reason.Reason.{Reason}
 use Rattle.table_profile.specs.declared.reason.Reason.TheVariants.{Strangers, Mixed}
 use Rattle.table_profile.specs.Values.{there_in}

@@ -1,6 +1,6 @@
 -- Which profiles can be written: their codes can be read in the dictionaries.
 use Rattle.std.specs.Prelude.{◌≡◌, ◌<◌, ℕ, List, length, Option, Some, None, IfSome, slice_index_or}
-use Rattle.csv_load.specs.Judged.{Fields}
+use Rattle.csv_meaning.specs.Judged.{Fields}
 use Rattle.table_core.specs.Fitting.{dict_at}
 use Rattle.table_core.specs.Value.{IsCellOf}
 use Rattle.table_core.specs.declared.schema.Column.{Column}

@@ -3,7 +3,7 @@ ghost use Rattle.std.specs.Prelude.{◌≡◌, ◌<◌, ◌≤◌, [], All, IfNo
 ghost use Rattle.filter_zones.specs.Truth.{cell_at};
 ghost use Rattle.table_core.specs.Value.{IsCellOf, value_in};
 ghost use Rattle.table_core.specs.declared.cell.Cell.TheVariants.{Code};
-ghost use Rattle.table_core.specs.declared.limits.TheConstants.{MOST_ROWS};
+ghost use Rattle.table_sets.specs.declared.limits.TheConstants.{MOST_ROWS};
 ghost use Rattle.table_profile.specs.Values as values;
 ghost use Rattle.table_profile.specs.Reasons as spec;
 

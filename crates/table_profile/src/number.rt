@@ -1,6 +1,6 @@
 // Whether a field spells a number.
 ghost use Rattle.std.specs.Prelude.{◌≡◌, ◌≤◌, ◌<◌, ◌^◌, length, is_some, MatchOption};
-ghost use Rattle.csv_load.specs.Number.{digits_from, is_whole_part, made, rest_read, unsigned_read};
+ghost use Rattle.csv_meaning.specs.Number.{digits_from, is_whole_part, made, rest_read, unsigned_read};
 ghost use Rattle.table_profile.specs.Reasons as spec;
 
 /// What the digits at the front are worth after `start`, and what follows them; None where that is beyond 2^63.

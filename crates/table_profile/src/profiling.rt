@@ -4,7 +4,7 @@ ghost use Rattle.filter_zones.specs.Truth.{cell_at};
 ghost use Rattle.filter_zones.specs.Zone.{Covers, CoversRow, IsZone, column_of, zone_at};
 ghost use Rattle.table_core.specs.Fitting.{dict_at};
 ghost use Rattle.table_core.specs.Value.{FitsColumn, IsCellOf};
-ghost use Rattle.table_core.specs.declared.limits.TheConstants.{MOST_ROWS};
+ghost use Rattle.table_sets.specs.declared.limits.TheConstants.{MOST_ROWS};
 ghost use Rattle.table_profile.specs.Values.{column_values, there_in};
 ghost use Rattle.table_profile.specs.Reasons.{IsReason};
 ghost use Rattle.table_profile.specs.Profiles as spec;

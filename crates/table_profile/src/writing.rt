@@ -1,7 +1,7 @@
 // The lines of a profile.
 ghost use Rattle.std.specs.Prelude.{◌≡◌, ◌≤◌, ◌<◌, ◌++◌, ℕ, All, IfOk, IfSome, OnOk, length, slice_index_or};
 ghost use Rattle.table_core.specs.Value.{IsCellOf, places_of};
-ghost use Rattle.table_core.specs.declared.limits.TheConstants.{MOST_COLUMNS, MOST_ROWS};
+ghost use Rattle.table_sets.specs.declared.limits.TheConstants.{MOST_COLUMNS, MOST_ROWS};
 ghost use Rattle.table_profile.specs.Written.{AreWritable, IsReadable, IsReasonOf};
 ghost use Rattle.table_profile.specs.declared.profile.ColumnProfile.{ColumnProfile};
 ghost use Rattle.table_core.specs.Fitting.{dict_at};

@@ -1,13 +1,13 @@
 // A batch of texts.
 ghost use Rattle.std.specs.Prelude.{◌≡◌, ◌≤◌, ◌*◌, ◌^◌, All, IfOk, length, map};
 ghost use Rattle.std.specs.Bool.{OnTrue};
-ghost use Rattle.table_core.specs.Sets.{Rising};
+ghost use Rattle.table_sets.specs.Sets.{Rising};
 ghost use Rattle.table_core.specs.Value.{places_of};
 ghost use Rattle.table_core.specs.Chunk.{chunk_count as chunks_of};
 ghost use Rattle.piece_format.specs.Shape.{IsShape, frame_words as words_of, groups as groups_of};
 ghost use Rattle.table_pieces.specs.Shaping as spec;
 ghost use Rattle.batch_plan.specs.Setting.{AreOptions};
-ghost use Rattle.batch_run.specs.Tasks.{CanBeLoaded, IsPlanOfTable};
+ghost use Rattle.batch_answers.specs.Tasks.{CanBeLoaded, IsPlanOfTable};
 
 use batch_run::{BatchEnd, BatchRefusal, Options, Task, run_batch};
 use coop_outside::{Depot, MemDepot};

@@ -8,7 +8,7 @@ use Rattle.trial_book.specs.Begun.{begins_some}
 use Rattle.scan_story.specs.declared.setting.Need as asked
 use Rattle.scan_story.specs.Counting.{has}
 use Rattle.scan_story.specs.Setting.{IsRising, AreDistinct}
-use Rattle.table_core.specs.Sets.{Rising}
+use Rattle.table_sets.specs.Sets.{Rising}
 use Rattle.chunk_interest.specs.declared.need.Need.{Need}
 use Rattle.chunk_interest.specs.Fresh.{as_need}
 use Rattle.chunk_interest.proofs.Below.{equal_number, other_number, true_false, either}

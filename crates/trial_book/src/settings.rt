@@ -2,7 +2,7 @@
 ghost use Rattle.std.specs.Prelude.{◌≡◌, ◌==◌, ◌≤◌, [], not, IfOk, IfSome, IsTrue};
 ghost use Rattle.std.specs.List.{list_any};
 ghost use Rattle.scan_story.specs.Setting.{IsNeed, IsRising, AreColumns};
-ghost use Rattle.table_core.specs.Sets.{Rising};
+ghost use Rattle.table_sets.specs.Sets.{Rising};
 ghost use Rattle.chunk_interest.specs.Fresh.{as_need};
 ghost use Rattle.interest_book.specs.Stands.{Stands};
 ghost use Rattle.trial_book.specs.Fits.{IsFit, AreFit};

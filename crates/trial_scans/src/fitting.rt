@@ -5,7 +5,7 @@ ghost use Rattle.std.specs.Option.{option_copied};
 ghost use Rattle.scan_story.specs.Counting.{has};
 ghost use Rattle.scan_story.specs.Setting.{HasRoom, need_of, worker_of};
 ghost use Rattle.piece_format.specs.Shape as shapes;
-ghost use Rattle.cscan.specs.Rows.{ReadsColumns};
+ghost use Rattle.cscan.specs.Scans.{ReadsColumns};
 ghost use Rattle.cscan.specs.Scans.{HasColumns, reads_column};
 ghost use Rattle.trial_scans.specs.Trials.{FitEachOther};
 

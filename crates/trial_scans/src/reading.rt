@@ -1,7 +1,7 @@
 //! The rows of a held chunk, read.
 ghost use Rattle.std.specs.Prelude.{◌≡◌, ◌<◌, ◌%◌, Some, length};
 ghost use Rattle.piece_format.specs.Shape.{TableShape};
-ghost use Rattle.cscan.specs.Rows.{ReadsColumns};
+ghost use Rattle.cscan.specs.Scans.{ReadsColumns};
 ghost use Rattle.cscan.specs.Scans.{IsScan};
 
 use crate::notes::Notes;

@@ -4,7 +4,7 @@ ghost use Rattle.abm_policy.specs.Depots.{depot_view};
 ghost use Rattle.abm_policy.specs.Sound.{start_of};
 ghost use Rattle.scan_story.specs.MayFollow.{MayRegister};
 ghost use Rattle.scan_story.specs.Views.{past};
-ghost use Rattle.cscan.specs.Rows.{ReadsColumns};
+ghost use Rattle.cscan.specs.Scans.{ReadsColumns};
 ghost use Rattle.cscan.specs.Scans.{Fits, HasColumns, IsOver, IsSameScan};
 ghost use Rattle.cscan.specs.Stations.{IsSeated};
 ghost use Rattle.trial_scans.specs.Trials.{MayGoOn, StandsAt, under};

@@ -1,6 +1,6 @@
 //! Steps of a scan.
 ghost use Rattle.std.specs.Prelude.{◌≡◌, length};
-ghost use Rattle.cscan.specs.Rows.{ReadsColumns};
+ghost use Rattle.cscan.specs.Scans.{ReadsColumns};
 ghost use Rattle.cscan.specs.Scans.{IsOver, IsSameScan};
 ghost use Rattle.trial_scans.specs.Trials.{MayGoOn, StandsAt};
 

@@ -1,5 +1,5 @@
 use Rattle.std.proofs.Common.{◌≡◌, ◌∙◌, ◌∷◌, ◌++◌, [], sym, ap, arith}
-use Rattle.table_core.specs.Sets.{has, numbers_below}
+use Rattle.table_sets.specs.Sets.{has, numbers_below}
 use Rattle.batch_plan.proofs.Dealt.{fails, none_below, passes}
 use Rattle.batch_notes.proofs.Found.{members_below}
 use Rattle.batch_notes.proofs.members.members_of.Goals as goal

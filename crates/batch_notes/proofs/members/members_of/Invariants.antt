@@ -1,5 +1,5 @@
 use Rattle.std.proofs.Common.{◌≡◌}
-use Rattle.table_core.specs.Sets.{has, numbers_below}
+use Rattle.table_sets.specs.Sets.{has, numbers_below}
 use Rattle.batch_notes.proofs.members.members_of.Given as goal
 
 abbrev pub invariant-loop-column : goal.invariant-loop-column

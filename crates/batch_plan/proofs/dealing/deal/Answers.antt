@@ -1,7 +1,7 @@
 use Rattle.std.proofs.Common.{◌≡◌, ◌+◌, ◌%◌, ◌&&◌, ◌∙◌, true, false, length, refl, sym, ap, arith, eq-eqb}
 use Rattle.std.proofs.lemmas.Bool.{ne_eqb, le-ltb}
 use Rattle.std.specs.Prelude.{nat_lt}
-use Rattle.table_core.specs.Sets.{has}
+use Rattle.table_sets.specs.Sets.{has}
 use Rattle.filter_zones.proofs.Sets.{members_are}
 use Rattle.batch_plan.specs.Deal.{place, is_dealt}
 use Rattle.batch_plan.proofs.Dealt.{none_below, grown, as_before, more_placed, not_placed, all_shared}

@@ -1,6 +1,6 @@
 use Rattle.std.proofs.Common.{◌≡◌, ◌≤◌, ℕ}
 use Rattle.std.specs.Prelude.{◌&&◌, nat_lt}
-use Rattle.table_core.specs.Sets.{has}
+use Rattle.table_sets.specs.Sets.{has}
 use Rattle.batch_plan.specs.Deal.{place, is_dealt}
 use Rattle.batch_plan.proofs.dealing.deal.Given as goal
 

@@ -1,6 +1,6 @@
 use Rattle.std.proofs.Common.{◌≡◌, ◌*◌, ◌++◌, length, take, drop}
 use Rattle.std.specs.List.{All}
-use Rattle.table_core.specs.Sets.{AreMembers}
+use Rattle.table_sets.specs.Sets.{AreMembers}
 use Rattle.batch_plan.specs.declared.task.Task.{Task}
 use Rattle.batch_plan.specs.Scans.{needs, scans, scans_from}
 use Rattle.batch_plan.proofs.needs.needs_of.Given as goal

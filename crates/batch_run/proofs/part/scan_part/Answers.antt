@@ -1,5 +1,5 @@
 use Rattle.std.proofs.Common.{◌≡◌, ◌∙◌, [], ℕ, List, refl, sym, ap, subst}
-use Rattle.table_core.specs.Sets as sets
+use Rattle.table_sets.specs.Sets as sets
 use Rattle.story_laws.specs.Lists.{NoneTwice}
 use Rattle.story_laws.specs.Queries.{chunks_delivered}
 use Rattle.piece_format.specs.Shape.{IsShape, TableShape}

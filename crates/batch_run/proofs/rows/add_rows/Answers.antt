@@ -9,10 +9,10 @@ use Rattle.row_blocks.proofs.Rows.{length-row}
 use Rattle.top_rows.specs.Blocks.{numbered_rows}
 use Rattle.top_rows.specs.Rows.{Numbered}
 use Rattle.query_gather.specs.Partial.{MayJoin, Stands, matching}
-use Rattle.cscan.specs.declared.given.Given.{Given}
-use Rattle.cscan.specs.Rows.{FitColumns, HasCellsOf}
+use Rattle.frame_rows.specs.declared.given.Given.{Given}
+use Rattle.frame_rows.specs.Rows.{FitColumns, HasCellsOf}
 use Rattle.cscan.specs.Scans.{IsOut}
-use Rattle.cscan.specs.Tables.{HoldsTable}
+use Rattle.frame_rows.specs.Tables.{HoldsTable}
 use Rattle.batch_run.proofs.Gathering.{GatheredFirst, gathered_block, gathered_chunk}
 use Rattle.batch_run.proofs.Reading.{chunk_long, read_agrees, read_fits}
 use Rattle.batch_run.proofs.rows.add_rows.Goals as goal

@@ -1,8 +1,8 @@
 use Rattle.std.proofs.Common.{◌<◌, length, sym, ap, subst, arith}
 use Rattle.frame_pool.specs.Berths.{HasRoom}
 use Rattle.piece_format.specs.Bytes.{word_of}
-use Rattle.cscan.specs.Tables.{first_words}
-use Rattle.cscan.proofs.Words.{length-first}
+use Rattle.frame_rows.specs.Tables.{first_words}
+use Rattle.frame_rows.proofs.Words.{length-first}
 use Rattle.cscan.proofs.filling.put_all.Goals as goal
 
 pub put-requires-clause-room : goal.put-requires-clause-room

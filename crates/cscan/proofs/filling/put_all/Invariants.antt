@@ -1,7 +1,7 @@
 use Rattle.std.proofs.Common.{◌≡◌}
 use Rattle.piece_format.specs.Bytes.{word_of}
 use Rattle.cscan.specs.Reads.{with_words}
-use Rattle.cscan.specs.Tables.{first_words}
+use Rattle.frame_rows.specs.Tables.{first_words}
 use Rattle.cscan.proofs.filling.put_all.Given as goal
 
 abbrev pub invariant-loop-i : goal.invariant-loop-i

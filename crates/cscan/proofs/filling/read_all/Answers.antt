@@ -2,7 +2,7 @@ use Rattle.std.proofs.Common.{◌∙◌, ◌<◌, ℕ, length, arith, sym, subst
 use Rattle.coop_outside.specs.Pieces.{Stored}
 use Rattle.frame_pool.specs.Berths.{BerthView, IsAt, IsBlank}
 use Rattle.piece_format.specs.Shape.{pieces}
-use Rattle.cscan.specs.Tables.{TellAlike}
+use Rattle.frame_rows.specs.Tables.{TellAlike}
 use Rattle.cscan.proofs.Tickets.{reports_since}
 use Rattle.cscan.proofs.filling.read_all.Goals as goal
 use Rattle.cscan.proofs.filling.read_all.Goals.{After-at-slot}

@@ -5,8 +5,8 @@ use Rattle.frame_pool.specs.Berths.{BerthView, IsAt, IsIdleAt, IsOf, IsWhole, fi
 use Rattle.frame_pool.specs.Views.{filling, pinned}
 use Rattle.piece_format.specs.Bytes.{word_of}
 use Rattle.piece_format.proofs.Sizes.{words-within}
-use Rattle.cscan.specs.Tables.{first_words}
-use Rattle.cscan.proofs.Tables.{holds_piece, whole_words}
+use Rattle.frame_rows.specs.Tables.{first_words}
+use Rattle.frame_rows.proofs.Tables.{holds_piece, whole_words}
 use Rattle.cscan.proofs.filling.read_in.Goals as goal
 use Rattle.cscan.proofs.filling.read_in.Goals.{After-claim, Start}
 

@@ -12,7 +12,7 @@ use Rattle.abm_policy.specs.Waiting.{IsLoadedStill, WentOn}
 use Rattle.abm_policy.proofs.Meanwhile.{loads_stay, runs_stay}
 use Rattle.baton.specs.Passes.{PassView}
 use Rattle.cscan.specs.declared.filling.Failure.{Failure}
-use Rattle.cscan.specs.Tables.{TellAlike}
+use Rattle.frame_rows.specs.Tables.{TellAlike}
 use Rattle.cscan.proofs.Passing.{waits_again, went_on_since}
 use Rattle.cscan.proofs.Stories.{adds_these, went_turn}
 use Rattle.cscan.proofs.Tickets.{if_err, may_report, on_ok, ticket_there}

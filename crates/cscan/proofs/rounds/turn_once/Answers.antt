@@ -18,9 +18,9 @@ use Rattle.abm_policy.specs.Waiting.{WentOn}
 use Rattle.abm_policy.proofs.Meanwhile.{turns_stay}
 use Rattle.baton.specs.Passes.{PassView, Went}
 use Rattle.baton.proofs.Turns.{went_on}
-use Rattle.cscan.specs.declared.given.Given.{Given}
+use Rattle.frame_rows.specs.declared.given.Given.{Given}
 use Rattle.cscan.specs.Answers.{AreOfLoads}
-use Rattle.cscan.specs.Pins.{AreFrames}
+use Rattle.frame_rows.specs.Pins.{AreFrames}
 use Rattle.cscan.specs.Stations.{Waits}
 use Rattle.cscan.specs.Scans.{IsAt, IsAtRest, IsGiven}
 use Rattle.cscan.proofs.Passing.{waits_again, went_on_since}

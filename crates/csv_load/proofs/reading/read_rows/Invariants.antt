@@ -1,8 +1,8 @@
 use Rattle.std.proofs.Common.{◌≡◌, ◌+◌, ◌≤◌, length}
 use Rattle.std.specs.Prelude.{All}
 use Rattle.csv_load.specs.Rows.{table_records}
-use Rattle.csv_load.specs.Judged.{refusal_of, first_bad_row}
-use Rattle.table_core.specs.declared.limits.TheConstants.{MOST_ROWS}
+use Rattle.csv_meaning.specs.Judged.{refusal_of, first_bad_row}
+use Rattle.table_sets.specs.declared.limits.TheConstants.{MOST_ROWS}
 use Rattle.csv_load.proofs.Rowwise.{SoFar}
 use Rattle.csv_load.proofs.reading.read_rows.Given as goal
 

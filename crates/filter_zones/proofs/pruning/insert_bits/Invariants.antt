@@ -1,5 +1,5 @@
 use Rattle.std.proofs.Common.{◌≡◌, ◌+◌, ◌≤◌, ◌<◌, ℕ, false}
-use Rattle.table_core.specs.Sets.{has}
+use Rattle.table_sets.specs.Sets.{has}
 use Rattle.filter_zones.specs.Masks.{is_set}
 use Rattle.filter_zones.proofs.pruning.insert_bits.Given as goal
 

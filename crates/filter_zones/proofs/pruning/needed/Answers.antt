@@ -2,8 +2,8 @@ use Rattle.std.proofs.Common.{◌≡◌, ◌<◌, ◌+◌, ◌-◌, ℕ, length,
 use Rattle.std.specs.Prelude.{◌&&◌, nat_lt, option_copied, []}
 use Rattle.std.proofs.lemmas.Bool.{cases_lt, lt-ltb, le-ltb}
 use Rattle.std.proofs.lemmas.List.{get_or-take, get_or-drop, length-take-le, length-drop}
-use Rattle.table_core.specs.Sets.{has}
-use Rattle.table_core.specs.declared.limits.TheConstants.{MOST_CHUNKS}
+use Rattle.table_sets.specs.Sets.{has}
+use Rattle.table_sets.specs.declared.limits.TheConstants.{MOST_CHUNKS}
 use Rattle.filter_zones.specs.Possible.{is_needed, chunk_at}
 use Rattle.filter_zones.proofs.Law.{none_outside}
 use Rattle.filter_zones.proofs.Sets.{members_are}

@@ -1,6 +1,6 @@
 use Rattle.std.proofs.Common.{◌≡◌, ◌-◌, ◌≤◌, ℕ, length}
 use Rattle.std.specs.Prelude.{◌&&◌, nat_lt, option_copied}
-use Rattle.table_core.specs.Sets.{has}
+use Rattle.table_sets.specs.Sets.{has}
 use Rattle.filter_zones.specs.Possible.{is_needed, chunk_at}
 use Rattle.filter_zones.proofs.pruning.needed.Given as goal
 

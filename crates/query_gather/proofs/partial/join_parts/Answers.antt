@@ -6,7 +6,7 @@ use Rattle.query_gather.specs.Partial.{IsAlike, joined, row_count, rows_of_all}
 use Rattle.query_gather.proofs.Alike.{alike_on}
 use Rattle.query_gather.proofs.Joining.{IsPartly, front, partly_more}
 use Rattle.query_gather.proofs.partial.join_parts.Goals as goal
-use Rattle.table_core.specs.declared.limits.TheConstants.{MOST_ROWS}
+use Rattle.table_sets.specs.declared.limits.TheConstants.{MOST_ROWS}
 
 pub loop-rest-preserved : goal.loop-rest-preserved
 loop-rest-preserved c =

@@ -1,6 +1,6 @@
 use Rattle.std.specs.Prelude.{◌≤◌, ◌+◌, ◌++◌, List, length, All}
 use Rattle.table_core.specs.declared.cell.Cell.{Cell}
-use Rattle.table_core.specs.declared.limits.TheConstants.{MOST_ROWS}
+use Rattle.table_sets.specs.declared.limits.TheConstants.{MOST_ROWS}
 use Rattle.top_rows.specs.Rows.{Numbered}
 use Rattle.query_gather.specs.Partial.{IsAlike, MayJoinAll, StandForEach, Stands, joined, row_count, rows_of_all}
 use Rattle.query_gather.proofs.Joining.{IsPartly}

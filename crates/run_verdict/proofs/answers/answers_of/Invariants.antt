@@ -2,8 +2,8 @@ use Rattle.std.proofs.Common.{◌++◌, List, length}
 use Rattle.std.specs.Prelude.{All}
 use Rattle.std.specs.List.{AllByRecursion}
 use Rattle.table_core.specs.Fitting.{FitsRow}
-use Rattle.csv_load.specs.Judged.{Fields}
-use Rattle.batch_run.specs.Tasks.{IsPlanOfTable}
+use Rattle.csv_meaning.specs.Judged.{Fields}
+use Rattle.batch_answers.specs.Tasks.{IsPlanOfTable}
 use Rattle.query_gather.specs.declared.answer.Answer.{Answer}
 use Rattle.run_output.specs.Outcomes.{plans_of}
 use Rattle.run_verdict.specs.Plain.{ArePlain}

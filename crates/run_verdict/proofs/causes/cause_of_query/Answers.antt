@@ -4,7 +4,7 @@ use Rattle.scan_story.specs.declared.cause.Cause.{Cause}
 use Rattle.scan_story.specs.Causes.{cause_of}
 use Rattle.scan_story.specs.Views.{past}
 use Rattle.batch_plan.specs.Scans.{scan_number}
-use Rattle.batch_run.specs.Lost.{cause_from, or_first}
+use Rattle.batch_answers.specs.Lost.{cause_from, or_first}
 use Rattle.run_verdict.proofs.causes.cause_of_query.Goals as goal
 
 pub loop-part-preserved : goal.loop-part-preserved

@@ -1,6 +1,6 @@
 use Rattle.std.proofs.Common.{◌≡◌, ◌-◌}
 use Rattle.scan_story.specs.Views.{past}
-use Rattle.batch_run.specs.Lost.{cause_from, cause_of_query}
+use Rattle.batch_answers.specs.Lost.{cause_from, cause_of_query}
 use Rattle.run_verdict.proofs.causes.cause_of_query.Given as goal
 
 -- none of the parts before this one was stopped

@@ -1,6 +1,6 @@
 use Rattle.std.proofs.Common.{◌≡◌, ◌≤◌, ◌*◌, List, length, map, rules, sym, subst, arith}
 use Rattle.std.specs.Prelude.{All, IfSome}
-use Rattle.table_core.specs.Sets.{Rising}
+use Rattle.table_sets.specs.Sets.{Rising}
 use Rattle.filter_zones.specs.Truth.{FitsRow}
 use Rattle.scan_story.specs.declared.setting.Setting.{Setting}
 use Rattle.story_referee.specs.Terms.{setting_of}

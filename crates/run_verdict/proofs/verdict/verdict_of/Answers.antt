@@ -11,7 +11,7 @@ use Rattle.scan_story.specs.declared.entry.Entry.{Entry}
 use Rattle.query_gather.specs.Answer.{CanBeWritten}
 use Rattle.query_gather.specs.declared.answer.Answer.{Answer}
 use Rattle.batch_plan.specs.declared.task.Task.{Task}
-use Rattle.batch_run.specs.Tasks.{IsPlanOfTable}
+use Rattle.batch_answers.specs.Tasks.{IsPlanOfTable}
 use Rattle.output_parts.specs.Ends.{BeginsAtLine}
 use Rattle.run_output.specs.Outcomes.{plans_of}
 use Rattle.run_output.specs.declared.outcome.Outcome.{Outcome}

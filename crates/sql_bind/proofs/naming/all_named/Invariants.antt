@@ -1,5 +1,5 @@
 use Rattle.std.proofs.Common.{◌≡◌, ◌<◌, ◌||◌, ℕ, length, map}
-use Rattle.table_core.specs.Sets.{has}
+use Rattle.table_sets.specs.Sets.{has}
 use Rattle.sql_bind.specs.Places.{place_seen}
 use Rattle.sql_bind.specs.Plans.{is_named}
 use Rattle.sql_bind.proofs.naming.all_named.Given as goal

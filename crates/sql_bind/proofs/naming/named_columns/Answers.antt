@@ -1,6 +1,6 @@
 use Rattle.std.proofs.Common.{◌≡◌, ◌∙◌, ◌||◌, ◌==◌, List, ℕ, length, map, sym, subst}
 use Rattle.std.proofs.lemmas.Bool.{eqb-true, false≢true, eq-eqb}
-use Rattle.table_core.specs.Sets.{has}
+use Rattle.table_sets.specs.Sets.{has}
 use Rattle.sql_bind.specs.Places.{place_seen}
 use Rattle.sql_bind.specs.Plans.{is_named}
 use Rattle.sql_bind.proofs.Named.{members_below, first_alone, none_named, some_named}

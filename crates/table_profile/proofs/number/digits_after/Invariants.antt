@@ -1,5 +1,5 @@
 use Rattle.std.proofs.Common.{◌≡◌, ◌≤◌, length}
-use Rattle.csv_load.specs.Number.{digits_from}
+use Rattle.csv_meaning.specs.Number.{digits_from}
 use Rattle.table_profile.proofs.number.digits_after.Given as goal
 
 abbrev pub invariant-loop-left : goal.invariant-loop-left

@@ -1,6 +1,6 @@
 use Rattle.std.proofs.Common.{◌≡◌, ◌≤◌, ◌+◌, ◌*◌, map, take}
 use Rattle.std.specs.Prelude.{All}
-use Rattle.table_core.specs.Sets.{Rising}
+use Rattle.table_sets.specs.Sets.{Rising}
 use Rattle.batch_plan.specs.declared.task.Task.{Task}
 use Rattle.trial_batches.proofs.batches.tasks_of.Given as goal
 

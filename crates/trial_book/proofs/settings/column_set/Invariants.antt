@@ -1,6 +1,6 @@
 use Rattle.std.proofs.Common.{◌≡◌, ◌≤◌, ◌||◌, ℕ}
 use Rattle.scan_story.specs.Counting.{has}
-use Rattle.table_core.specs.Sets.{Rising}
+use Rattle.table_sets.specs.Sets.{Rising}
 use Rattle.trial_book.proofs.settings.column_set.Given as goal
 
 abbrev pub invariant-loop-column : goal.invariant-loop-column

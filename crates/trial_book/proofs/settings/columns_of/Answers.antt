@@ -1,6 +1,6 @@
 use Rattle.std.proofs.Common.{◌<◌, length, arith, inr}
 use Rattle.scan_story.specs.Setting.{IsRising, AreColumns}
-use Rattle.table_core.specs.Sets.{Rising}
+use Rattle.table_sets.specs.Sets.{Rising}
 use Rattle.trial_book.proofs.Listed.{is_rising, all_below, some_weaker}
 use Rattle.trial_book.proofs.settings.columns_of.Goals as goal
 

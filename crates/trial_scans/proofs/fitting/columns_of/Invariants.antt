@@ -1,4 +1,4 @@
-use Rattle.cscan.specs.Rows.{ReadsColumns}
+use Rattle.cscan.specs.Scans.{ReadsColumns}
 use Rattle.trial_scans.proofs.fitting.columns_of.Given as goal
 
 abbrev pub invariant-loop-x : goal.invariant-loop-x

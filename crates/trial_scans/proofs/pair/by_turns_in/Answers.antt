@@ -3,7 +3,7 @@ use Rattle.std.proofs.lemmas.List.Elements.{All-same}
 use Rattle.baton.specs.Passes.{IsFree}
 use Rattle.scan_story.specs.declared.origin.Start.{Start}
 use Rattle.scan_story.specs.Setting.{worker_of}
-use Rattle.cscan.specs.Rows.{ReadsColumns}
+use Rattle.cscan.specs.Scans.{ReadsColumns}
 use Rattle.cscan.specs.Scans.{HasColumns}
 use Rattle.trial_scans.proofs.Fresh.{may_begin, new_free}
 use Rattle.trial_scans.proofs.Scans.{on_true}

@@ -1,7 +1,7 @@
 use Rattle.std.proofs.Common.{◌≡◌, Some, arith, sym, ap, subst}
 use Rattle.scan_story.specs.declared.origin.Start.{Start}
 use Rattle.scan_story.specs.Setting.{worker_of}
-use Rattle.cscan.specs.Rows.{ReadsColumns}
+use Rattle.cscan.specs.Scans.{ReadsColumns}
 use Rattle.cscan.specs.Scans.{HasColumns}
 use Rattle.trial_scans.proofs.Fresh.{may_begin}
 use Rattle.trial_scans.proofs.Scans.{on_true}

@@ -3,7 +3,7 @@ use Rattle.std.specs.Prelude.{None, Vec}
 use Rattle.std.specs.Global.{Global}
 use Rattle.agg_groups.specs.declared.running.Running.{Running}
 use Rattle.table_core.specs.Lists.{lists}
-use Rattle.table_core.specs.declared.limits.TheConstants.{MOST_ROWS}
+use Rattle.table_sets.specs.declared.limits.TheConstants.{MOST_ROWS}
 use Rattle.agg_groups.specs.Table.{Placed, AllFit, AreSound, seen, first_over, plain_places}
 use Rattle.agg_groups.proofs.Shows.{all_shown_fit}
 use Rattle.agg_groups.proofs.table.GroupTable.result_rows.Goals as goal

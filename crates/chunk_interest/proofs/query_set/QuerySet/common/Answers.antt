@@ -1,8 +1,8 @@
 use Rattle.std.proofs.Common.{◌&&◌, ◌<◌, ◌^◌, ◌*◌, ◌≡◌, ◌∙◌, ℕ, length, ap, sym, subst, arith, refl, rules, get_or, bit_and}
 use Rattle.std.specs.Int.Count.{ones}
 use Rattle.std.proofs.lemmas.Nat.{ones-le}
-use Rattle.table_core.specs.Sets.{bit_of, numbers_below}
-use Rattle.table_core.proofs.Members.{count-word, numbers-rise}
+use Rattle.table_sets.specs.Sets.{bit_of, numbers_below}
+use Rattle.table_sets.proofs.Members.{count-word, numbers-rise}
 use Rattle.scan_story.specs.Counting.{has}
 use Rattle.chunk_interest.proofs.Below.{count_same}
 use Rattle.chunk_interest.proofs.Bits.{words_of_both, word_of_both, has_both, below_both, no_both}

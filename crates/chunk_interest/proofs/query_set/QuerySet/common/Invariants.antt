@@ -1,5 +1,5 @@
 use Rattle.std.proofs.Common.{◌*◌, ◌≡◌, ◌≤◌, length}
-use Rattle.table_core.specs.Sets.{bit_of, numbers_below}
+use Rattle.table_sets.specs.Sets.{bit_of, numbers_below}
 use Rattle.chunk_interest.proofs.Bits.{words_of_both}
 use Rattle.chunk_interest.proofs.query_set.QuerySet.common.Given as goal
 

@@ -1,6 +1,6 @@
 use Rattle.std.specs.Prelude.{replicate}
-use Rattle.table_core.specs.Sets.{bit_of}
-use Rattle.table_core.proofs.Members.{numbers-none, no_bits}
+use Rattle.table_sets.specs.Sets.{bit_of}
+use Rattle.table_sets.proofs.Members.{numbers-none, no_bits}
 use Rattle.chunk_interest.proofs.query_set.QuerySet.empty.Goals as goal
 
 pub returns : goal.returns

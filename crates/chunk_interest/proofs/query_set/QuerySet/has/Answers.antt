@@ -1,8 +1,8 @@
 use Rattle.std.proofs.Common.{refl}
 use Rattle.std.proofs.lemmas.Nat.Bits.{shr_and_one}
 use Rattle.std.proofs.lemmas.Bool.{lt-ltb, le-ltb}
-use Rattle.table_core.specs.Sets.{bit_of}
-use Rattle.table_core.proofs.Members.{has-numbers}
+use Rattle.table_sets.specs.Sets.{bit_of}
+use Rattle.table_sets.proofs.Members.{has-numbers}
 use Rattle.chunk_interest.proofs.query_set.QuerySet.has.Goals as goal
 
 pub returns-then-q-lt320 : goal.returns-then-q-lt320

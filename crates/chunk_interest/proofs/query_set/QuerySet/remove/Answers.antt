@@ -1,5 +1,5 @@
 use Rattle.std.proofs.Common.{arith}
-use Rattle.table_core.proofs.Members.{has-remove}
+use Rattle.table_sets.proofs.Members.{has-remove}
 use Rattle.chunk_interest.proofs.query_set.QuerySet.remove.Goals as goal
 
 pub returns : goal.returns

@@ -1,7 +1,7 @@
 use Rattle.std.proofs.Common.{◌<◌, ◌^◌, ◌*◌, ◌≡◌, ◌∙◌, ℕ, List, length, ap, arith, refl, rules, get_or}
 use Rattle.std.proofs.lemmas.Nat.{ones-le}
-use Rattle.table_core.specs.Sets.{bit_of, numbers_below}
-use Rattle.table_core.proofs.Members.{count-word, numbers-rise}
+use Rattle.table_sets.specs.Sets.{bit_of, numbers_below}
+use Rattle.table_sets.proofs.Members.{count-word, numbers-rise}
 use Rattle.scan_story.specs.Counting.{has, count_below}
 use Rattle.chunk_interest.proofs.Counting.{count_members}
 use Rattle.chunk_interest.proofs.query_set.QuerySet.size.Goals as goal

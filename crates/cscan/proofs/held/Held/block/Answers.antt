@@ -1,20 +1,20 @@
 use Rattle.std.proofs.Common.{◌≡◌, ◌∙◌, ◌<◌, ◌+◌, ℕ, true, Option, length, arith, ap, sym}
 use Rattle.scan_story.specs.Views.{past}
 use Rattle.table_core.specs.Chunk.{chunk as chunk_rows}
-use Rattle.table_core.specs.Sets.{has}
+use Rattle.table_sets.specs.Sets.{has}
 use Rattle.piece_format.specs.Cells.{cell_at}
 use Rattle.piece_format.specs.Shape.{chunk_of, pieces, rows_in}
 use Rattle.piece_format.specs.declared.layout.Layout.TheVariants as layouts
 use Rattle.piece_format.specs.declared.pieces.Piece.{Piece}
-use Rattle.cscan.specs.Blocks.{HasReadAll}
-use Rattle.cscan.specs.declared.given.Given.{Given}
-use Rattle.cscan.specs.Framed.{ArePinned}
-use Rattle.cscan.specs.Pins.{pins_of, slot_at}
+use Rattle.frame_rows.specs.Blocks.{HasReadAll}
+use Rattle.frame_rows.specs.declared.given.Given.{Given}
+use Rattle.frame_rows.specs.Framed.{ArePinned}
+use Rattle.frame_rows.specs.Pins.{pins_of, slot_at}
 use Rattle.cscan.specs.Scans.{IsGiven, slots_out}
-use Rattle.cscan.proofs.Blocks.{all_columns, begun_null}
-use Rattle.cscan.proofs.Rows.{of_columns, row_slot, slots_pinned}
+use Rattle.frame_rows.proofs.Blocks.{begun_null}
+use Rattle.cscan.proofs.Out.{all_columns, of_columns, row_slot, slots_pinned}
 use Rattle.cscan.proofs.Scanning.{given_out}
-use Rattle.cscan.proofs.Slots.{framed_slot, row_group, row_there}
+use Rattle.frame_rows.proofs.Slots.{framed_slot, row_group, row_there}
 use Rattle.cscan.proofs.held.Held.block.Goals as goal
 use Rattle.cscan.proofs.held.Held.block.Goals.{After-at, After-begin, After-put_slots, In-Row, Start}
 

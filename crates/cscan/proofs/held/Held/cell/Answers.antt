@@ -7,10 +7,10 @@ use Rattle.piece_format.specs.Cells.{cell_at}
 use Rattle.piece_format.specs.Shape.{chunk_of, groups, piece_at, rows_in}
 use Rattle.piece_format.specs.declared.pieces.Piece.{Piece}
 use Rattle.table_core.specs.Chunk.{chunk}
-use Rattle.cscan.specs.declared.given.Given.{Given}
-use Rattle.cscan.specs.Pins.{pins_of}
+use Rattle.frame_rows.specs.declared.given.Given.{Given}
+use Rattle.frame_rows.specs.Pins.{pins_of}
 use Rattle.cscan.specs.Scans.{IsGiven, slots_out}
-use Rattle.cscan.proofs.Pins.{pinned_at}
+use Rattle.frame_rows.proofs.Pins.{pinned_at}
 use Rattle.cscan.proofs.Scanning.{given_out, piece_read}
 use Rattle.cscan.proofs.held.Held.cell.Goals as goal
 use Rattle.cscan.proofs.held.Held.cell.Goals.{After-at-slot, Start}

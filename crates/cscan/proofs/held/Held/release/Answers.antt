@@ -6,8 +6,8 @@ use Rattle.scan_story.specs.Views.{past}
 use Rattle.abm_policy.specs.Waiting.{WentOn}
 use Rattle.abm_policy.proofs.Meanwhile.{holds_stay, runs_stay}
 use Rattle.baton.specs.Passes.{PassView}
-use Rattle.cscan.specs.declared.given.Given.{Given}
-use Rattle.cscan.specs.Pins.{AreFrames, pins_of}
+use Rattle.frame_rows.specs.declared.given.Given.{Given}
+use Rattle.frame_rows.specs.Pins.{AreFrames, pins_of}
 use Rattle.cscan.specs.Scans.{IsAt, IsGiven, hold_of, slots_out}
 use Rattle.cscan.proofs.Passing.{waits_again, went_on_since}
 use Rattle.cscan.proofs.Stories.{adds_these, went_turn}

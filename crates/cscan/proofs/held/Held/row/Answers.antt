@@ -5,14 +5,14 @@ use Rattle.piece_format.specs.Cells.{cell_at}
 use Rattle.piece_format.specs.Shape.{chunk_of, pieces, rows_in}
 use Rattle.piece_format.specs.declared.layout.Layout.TheVariants as layouts
 use Rattle.piece_format.specs.declared.pieces.Piece.{Piece}
-use Rattle.cscan.specs.Rows.{AreForPlaces}
-use Rattle.cscan.specs.declared.given.Given.{Given}
-use Rattle.cscan.specs.Framed.{ArePinned}
-use Rattle.cscan.specs.Pins.{pins_of, slot_at}
+use Rattle.frame_rows.specs.Rows.{AreForPlaces}
+use Rattle.frame_rows.specs.declared.given.Given.{Given}
+use Rattle.frame_rows.specs.Framed.{ArePinned}
+use Rattle.frame_rows.specs.Pins.{pins_of, slot_at}
 use Rattle.cscan.specs.Scans.{IsGiven, slots_out}
-use Rattle.cscan.proofs.Rows.{all_slots, of_columns, row_slot, slots_pinned}
+use Rattle.cscan.proofs.Out.{all_slots, of_columns, row_slot, slots_pinned}
 use Rattle.cscan.proofs.Scanning.{given_out}
-use Rattle.cscan.proofs.Slots.{framed_slot, row_group, row_there}
+use Rattle.frame_rows.proofs.Slots.{framed_slot, row_group, row_there}
 use Rattle.cscan.proofs.held.Held.row.Goals as goal
 use Rattle.cscan.proofs.held.Held.row.Goals.{After-at, After-read_slots, In-Row, Start}
 

@@ -1,6 +1,6 @@
 use Rattle.std.proofs.Common.{ℕ, Option, Some, sym, ap, subst}
 use Rattle.scan_story.specs.Views.{past}
-use Rattle.cscan.specs.declared.given.Given.{Given}
+use Rattle.frame_rows.specs.declared.given.Given.{Given}
 use Rattle.cscan.specs.Scans.{IsAt, IsAtRest, IsGiven, slots_out}
 use Rattle.cscan.specs.Stations.{IsSeated}
 use Rattle.cscan.proofs.Scanning.{may_turn}

@@ -8,7 +8,7 @@ use Rattle.story_laws.proofs.Active.{active_of}
 use Rattle.abm_policy.specs.Turns.{MayTurn}
 use Rattle.abm_policy.proofs.Meanwhile.{turns_stay}
 use Rattle.baton.specs.Passes.{PassView}
-use Rattle.cscan.specs.declared.given.Given.{Given}
+use Rattle.frame_rows.specs.declared.given.Given.{Given}
 use Rattle.cscan.specs.Scans.{IsAtRest, slots_out}
 use Rattle.cscan.specs.Stations.{IsSeated}
 use Rattle.cscan.proofs.Passing.{waits_again, went_on_since}

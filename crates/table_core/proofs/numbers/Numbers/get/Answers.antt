@@ -1,6 +1,6 @@
 use Rattle.std.proofs.Common.{◌∙◌, sym, ap, length, arith, rules, w64}
 use Rattle.std.proofs.lemmas.Int.{to_z-of_z}
-use Rattle.table_core.specs.Sets.{bit_of}
+use Rattle.table_sets.specs.Sets.{bit_of}
 use Rattle.table_core.proofs.Nulls.{inside, none-is, number-is}
 use Rattle.table_core.proofs.numbers.Numbers.get.Goals as goal
 

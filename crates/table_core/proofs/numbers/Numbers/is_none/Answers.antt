@@ -1,5 +1,5 @@
 use Rattle.std.proofs.Common.{◌∙◌, ap, length, arith}
-use Rattle.table_core.specs.Sets.{bit_of}
+use Rattle.table_sets.specs.Sets.{bit_of}
 use Rattle.table_core.proofs.Nulls.{inside, none-at}
 use Rattle.table_core.proofs.numbers.Numbers.is_none.Goals as goal
 

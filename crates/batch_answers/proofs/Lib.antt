@@ -1,0 +1,5 @@
+pub mod Plans
+pub mod Tables
+pub mod Faultless
+pub mod Noted
+pub mod Results

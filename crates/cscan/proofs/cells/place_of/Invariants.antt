@@ -1,6 +1,0 @@
-use Rattle.std.proofs.Common.{◌≢◌, ◌<◌, ℕ}
-use Rattle.cscan.specs.Pins.{slot_at}
-use Rattle.cscan.proofs.cells.place_of.Given as goal
-
-abbrev pub invariant-loop-i : goal.invariant-loop-i
-invariant-loop-i l = (k : ℕ) → k < l.i → (slot_at l.slots k).1 ≢ l.piece

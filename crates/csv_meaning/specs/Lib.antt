@@ -1,0 +1,5 @@
+pub mod Number
+pub mod Kinds
+pub mod Judged
+pub mod Meaning
+pub mod Loaded

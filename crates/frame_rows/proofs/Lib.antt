@@ -1,0 +1,6 @@
+pub mod Pins
+pub mod Words
+pub mod Tables
+pub mod Rows
+pub mod Slots
+pub mod Blocks

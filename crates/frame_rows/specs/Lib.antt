@@ -1,0 +1,5 @@
+pub mod Pins
+pub mod Tables
+pub mod Rows
+pub mod Framed
+pub mod Blocks
