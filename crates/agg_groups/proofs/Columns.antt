@@ -18,8 +18,8 @@ use Rattle.row_blocks.specs.Chosen.{chosen, chosen_from}
 use Rattle.row_blocks.specs.Lanes.{lane_cell, is_null_at, held, word_at}
 use Rattle.row_blocks.proofs.Chosen.{chosen-append, chosen-same, length-chosen}
 use Rattle.row_blocks.proofs.Rows.{cell-row, length-rows}
-use Rattle.agg_groups.specs.Cells.{codes, int_of, is_value}
-use Rattle.agg_groups.specs.Meaning as meaning
+use Rattle.query_meaning.specs.Cells.{codes, int_of, is_value}
+use Rattle.query_meaning.specs.Meaning as meaning
 use Rattle.agg_groups.specs.Blocks.{chosen_in, cells_in, AreInBlock}
 use Rattle.agg_groups.proofs.Values.{fold-push, length-push}
 

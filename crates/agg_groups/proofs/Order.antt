@@ -12,9 +12,9 @@ use Rattle.std.proofs.lemmas.Map.Lookups.{exact_unsigned, exact_signed}
 use Rattle.table_core.specs.declared.cell.Cell.{Cell}
 use Rattle.table_core.specs.declared.cell.Cell.TheVariants.{Null, Int, Code}
 use Rattle.table_core.specs.Cell.{cell_cmp}
-use Rattle.agg_groups.specs.Cells.{codes, int_of}
-use Rattle.agg_groups.specs.Meaning as meaning
-use Rattle.agg_groups.specs.Meaning.{insert_key, distinct}
+use Rattle.query_meaning.specs.Cells.{codes, int_of}
+use Rattle.query_meaning.specs.Meaning as meaning
+use Rattle.query_meaning.specs.Meaning.{insert_key, distinct}
 use Rattle.agg_groups.specs.Table.{Below, Rising}
 pub use Rattle.agg_groups.specs.Table.{has_key}
 

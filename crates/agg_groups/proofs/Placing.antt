@@ -11,11 +11,11 @@ use Rattle.table_core.specs.declared.cell.Cell.{Cell}
 use Rattle.row_blocks.specs.Blocks.{BlockView, row_at}
 use Rattle.row_blocks.specs.Chosen.{chosen, chosen_from}
 use Rattle.row_blocks.proofs.Chosen.{length-chosen}
-use Rattle.agg_groups.specs.declared.item.Item.{Item}
+use Rattle.query_meaning.specs.declared.item.Item.{Item}
 use Rattle.agg_groups.specs.declared.running.Running.{Running}
 use Rattle.agg_groups.specs.Blocks.{chosen_in}
-use Rattle.agg_groups.specs.Cells.{codes}
-use Rattle.agg_groups.specs.Meaning as meaning
+use Rattle.query_meaning.specs.Cells.{codes}
+use Rattle.query_meaning.specs.Meaning as meaning
 use Rattle.agg_groups.specs.Running.{runnings, nexts}
 use Rattle.agg_groups.specs.Groups.{groups_of}
 use Rattle.agg_groups.specs.Table.{Placed, IsPlaced, AddsRows, AreFound, HasGrown, PicksPlace, at, base, has_key, names, place_at, seen, values_at}

@@ -5,10 +5,10 @@ use Rattle.std.proofs.lemmas.Bool.{false≢true}
 use Rattle.std.specs.Global.{Global}
 use Rattle.table_core.specs.declared.cell.Cell.{Cell}
 use Rattle.agg_groups.specs.declared.running.Running.{Running}
-use Rattle.agg_groups.specs.declared.item.Item.{Item}
-use Rattle.agg_groups.specs.Cells.{codes}
-use Rattle.agg_groups.specs.Meaning as meaning
-use Rattle.agg_groups.specs.Meaning.{or_else, first_some, answer, over, meaning, overflow}
+use Rattle.query_meaning.specs.declared.item.Item.{Item}
+use Rattle.query_meaning.specs.Cells.{codes}
+use Rattle.query_meaning.specs.Meaning as meaning
+use Rattle.query_meaning.specs.Meaning.{or_else, first_some, answer, over, meaning, overflow}
 use Rattle.agg_groups.specs.Running.{runnings, over_shown}
 use Rattle.agg_groups.specs.Groups.{groups_of}
 use Rattle.table_core.specs.Lists.{lists}

@@ -5,10 +5,10 @@ use Rattle.std.specs.List.{swap}
 use Rattle.std.proofs.Math.Bool.{or-false, or_comm}
 use Rattle.std.proofs.lemmas.List.Sorted.{IsPermutation-keeps}
 use Rattle.table_core.specs.declared.cell.Cell.{Cell}
-use Rattle.agg_groups.specs.declared.item.Item.{Item}
+use Rattle.query_meaning.specs.declared.item.Item.{Item}
 use Rattle.agg_groups.specs.declared.running.Running.{Running}
-use Rattle.agg_groups.specs.Cells.{codes}
-use Rattle.agg_groups.specs.Meaning as meaning
+use Rattle.query_meaning.specs.Cells.{codes}
+use Rattle.query_meaning.specs.Meaning as meaning
 use Rattle.agg_groups.specs.Running.{runnings, nexts}
 use Rattle.agg_groups.specs.Groups.{Kept, StandsInSomeOrder, groups_of}
 use Rattle.agg_groups.specs.Table.{Placed, IsPlaced, IsPlaceFor, AreSound, Rising, Puts, IsFirst, at, base, merged, names, seen}

@@ -14,11 +14,11 @@ use Rattle.table_core.specs.Cell.{cell_cmp}
 use Rattle.table_sets.specs.declared.limits.TheConstants.{MOST_ROWS}
 use Rattle.agg_groups.specs.declared.running.Running.{Running}
 use Rattle.agg_groups.specs.declared.running.Running.TheVariants as running
-use Rattle.agg_groups.specs.declared.item.Item.{Item}
-use Rattle.agg_groups.specs.declared.item.Item.TheVariants.{CountAll, Count, Sum, Min, Max, Key}
-use Rattle.agg_groups.specs.Cells.{codes, is_value, int_of}
-use Rattle.agg_groups.specs.Meaning as meaning
-use Rattle.agg_groups.specs.Meaning.{fits, over, answer}
+use Rattle.query_meaning.specs.declared.item.Item.{Item}
+use Rattle.query_meaning.specs.declared.item.Item.TheVariants.{CountAll, Count, Sum, Min, Max, Key}
+use Rattle.query_meaning.specs.Cells.{codes, is_value, int_of}
+use Rattle.query_meaning.specs.Meaning as meaning
+use Rattle.query_meaning.specs.Meaning.{fits, over, answer}
 use Rattle.agg_groups.specs.Running.{running_of, runnings, next, nexts, join, joins, HasRoom, FitsCell, shown, all_shown, over_shown}
 use Rattle.agg_groups.proofs.Order.{cell_total, cell_exact}
 

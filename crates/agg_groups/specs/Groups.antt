@@ -1,13 +1,13 @@
 -- Kept groups, and the lists of rows that they stand for.
-use Rattle.std.specs.Prelude.{◌≡◌, ◌<◌, ℕ, List, length, map, Option, Some, ℤ, All, Contains, IsPermutation}
+use Rattle.std.specs.Prelude.{◌≡◌, ℕ, List, length, map, Option, Some, ℤ, All, Contains, IsPermutation}
 use Rattle.agg_groups.specs.declared.rows.FinishFault.{FinishFault}
 use Rattle.agg_groups.specs.declared.rows.FinishFault.TheVariants as fault
 use Rattle.table_core.specs.declared.cell.Cell.{Cell}
-use Rattle.agg_groups.specs.declared.item.Item.{Item}
+use Rattle.query_meaning.specs.declared.item.Item.{Item}
 use Rattle.agg_groups.specs.declared.running.Running.{Running}
-use Rattle.agg_groups.specs.Cells.{codes}
-use Rattle.agg_groups.specs.Meaning.{key_of, keys_of, group}
-use Rattle.agg_groups.specs.Running.{runnings, IsInRow}
+use Rattle.query_meaning.specs.Cells.{codes}
+use Rattle.query_meaning.specs.Meaning.{key_of, keys_of, group}
+use Rattle.agg_groups.specs.Running.{runnings}
 
 -- a group: its key and the running values of the items
 abbrev pub Group : Type 0
@@ -36,11 +36,6 @@ IsKnown g key = Contains (map (λ (h : Group). h.0) g.groups) key
 -- a row of the key of each of these rows was met before
 abbrev pub KnowsAll : Kept → List (List Cell) → Type 0
 KnowsAll g rows = All (λ row. IsKnown g (key_of codes g.keys row)) rows
-
--- each column that the items and the key columns name is one of so many
-pub record NamesPlaces (items : List Item) (keys : List ℕ) (width : ℕ) : Type 0 where
-  pub items_in : All (λ i. IsInRow i width) items
-  pub keys_in : All (λ x. x < width) keys
 
 -- the groups stand for these rows in some order
 pub record StandsInSomeOrder (g : Kept) (rows : List (List Cell)) : Type 0 where

@@ -2,12 +2,12 @@
 use Rattle.std.specs.Prelude.{◌≡◌, ◌≤◌, ◌<◌, ℕ, ◌+◌, ◌*◌, ◌^◌, ◌==◌, true, if◌then◌else◌, List, [], ◌∷◌, length, map, Option, Some, None, ℤ, pos, neg_ℤ, ◌+ℤ◌, ◌≤ℤ◌}
 use Rattle.table_core.specs.declared.cell.Cell.{Cell}
 use Rattle.table_core.specs.declared.cell.Cell.TheVariants.{Null, Int}
-use Rattle.agg_groups.specs.declared.item.Item.{Item}
-use Rattle.agg_groups.specs.declared.item.Item.TheVariants.{CountAll, Count, Sum, Min, Max, Key}
+use Rattle.query_meaning.specs.declared.item.Item.{Item}
+use Rattle.query_meaning.specs.declared.item.Item.TheVariants.{CountAll, Count, Sum, Min, Max, Key}
 use Rattle.agg_groups.specs.declared.running.Running.{Running}
 use Rattle.agg_groups.specs.declared.running.Running.TheVariants as running
-use Rattle.agg_groups.specs.Cells.{codes, is_value, int_of}
-use Rattle.agg_groups.specs.Meaning.{cell, values, total, least, greatest, lesser, greater, fits}
+use Rattle.query_meaning.specs.Cells.{codes, is_value, int_of}
+use Rattle.query_meaning.specs.Meaning.{cell, values, total, least, greatest, lesser, greater, fits}
 
 -- what is kept of the rows of a group
 abbrev pub running_of : List (List Cell) → Item → Running
@@ -82,15 +82,6 @@ joins [] rs ss = []
 joins (i ∷ items) [] ss = []
 joins (i ∷ items) (r ∷ rs) [] = []
 joins (i ∷ items) (r ∷ rs) (s ∷ ss) = join r s i ∷ joins items rs ss
-
--- the column of an item is one of so many
-abbrev pub IsInRow : Item → ℕ → Type 0
-IsInRow CountAll width = Unit {0}
-IsInRow (Count x) width = x < width
-IsInRow (Sum x) width = x < width
-IsInRow (Min x) width = x < width
-IsInRow (Max x) width = x < width
-IsInRow (Key j) width = Unit {0}
 
 -- a running value over at most n rows
 abbrev pub HasRoom : ℕ → Running → Type 0

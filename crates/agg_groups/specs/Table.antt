@@ -5,10 +5,10 @@ use Rattle.std.specs.Int.{bit_at}
 use Rattle.std.specs.declared.cmp.Ordering.TheVariants.{Less}
 use Rattle.table_core.specs.declared.cell.Cell.{Cell}
 use Rattle.table_sets.specs.declared.limits.TheConstants.{MOST_ROWS}
-use Rattle.agg_groups.specs.declared.item.Item.{Item}
+use Rattle.query_meaning.specs.declared.item.Item.{Item}
 use Rattle.agg_groups.specs.declared.running.Running.{Running}
-use Rattle.agg_groups.specs.Cells.{codes}
-use Rattle.agg_groups.specs.Meaning.{same_key, key_cmp, key_of, first_some}
+use Rattle.query_meaning.specs.Cells.{codes}
+use Rattle.query_meaning.specs.Meaning.{same_key, key_cmp, key_of, first_some}
 use Rattle.agg_groups.specs.Running.{runnings, joins, HasRoom, all_shown, over_shown, FitsCell}
 use Rattle.agg_groups.specs.declared.met.Met.{Met}
 use Rattle.row_blocks.specs.Blocks.{BlockView, row_at}

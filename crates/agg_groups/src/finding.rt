@@ -2,15 +2,15 @@
 ghost use Rattle.std.specs.Prelude.{◌≡◌, ◌<◌, length, map, None, All, OnErr, OnOk, IfOk};
 ghost use Rattle.row_blocks.specs.Blocks.{row_at};
 ghost use Rattle.agg_groups.specs.Blocks.{chosen_in};
-ghost use Rattle.agg_groups.specs.Cells.{codes};
-ghost use Rattle.agg_groups.specs.Meaning.{cell, key_of};
+ghost use Rattle.query_meaning.specs.Cells.{codes};
+ghost use Rattle.query_meaning.specs.Meaning.{cell, key_of};
 ghost use Rattle.agg_groups.specs.Table.{AreFound, HasGrown, HasNamed, IsPlaceFor, IsReady, KnowsRows, StaySound, place_at, seen};
 
-use crate::item::Item;
 use crate::lanes::cell_in;
 use crate::met::{known, pair_of, remember};
 use crate::place::Last;
 use crate::table::GroupTable;
+use query_meaning::Item;
 use row_blocks::{Block, is_chosen};
 use table_core::{Cell, Memory};
 

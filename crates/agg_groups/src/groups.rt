@@ -3,19 +3,20 @@ ghost use Rattle.std.specs.Prelude.{◌≡◌, ◌<◌, ◌≤◌, ◌+◌, ◌+
 ghost use Rattle.std.specs.Bool.{OnFalse};
 ghost use Rattle.table_core.specs.declared.cell.Cell.{Cell};
 ghost use Rattle.agg_groups.specs.Blocks.{AreInBlock, chosen_in};
-ghost use Rattle.agg_groups.specs.Cells.{codes};
-ghost use Rattle.agg_groups.specs.Meaning.{key_of, meaning, overflow};
-ghost use Rattle.agg_groups.specs.Groups.{Kept, KnowsAll, Stands, StandsInSomeOrder, NamesPlaces, IsFault, IsKnown};
+ghost use Rattle.query_meaning.specs.Cells.{codes};
+ghost use Rattle.query_meaning.specs.Meaning.{key_of, meaning, overflow};
+ghost use Rattle.agg_groups.specs.Groups.{Kept, KnowsAll, Stands, StandsInSomeOrder, IsFault, IsKnown};
+ghost use Rattle.query_meaning.specs.Places.{NamesPlaces};
 ghost use Rattle.agg_groups.specs.Table.{AreSound, IsReady, IsKept, IsFirst, seen};
 ghost use Rattle.agg_groups.specs.declared.rows.FinishFault.TheVariants as FinishFault;
 
 use crate::finding::places_in_block;
-use crate::item::Item;
 use crate::lanes::{count_of, in_block};
 use crate::met::slots_for;
 use crate::place::{Last, place_of};
 use crate::rows::{FinishFault, Rows};
 use crate::table::GroupTable;
+use query_meaning::Item;
 use row_blocks::Block;
 use std::alloc::Global;
 use std::marker::Model;

@@ -4,14 +4,15 @@ ghost use Rattle.std.specs.Int.{bit_at};
 ghost use Rattle.row_blocks.specs.Blocks.{row_at};
 ghost use Rattle.row_blocks.specs.Chosen.{chosen};
 ghost use Rattle.row_blocks.specs.Lanes.{held, is_null_at, lane_cell};
-ghost use Rattle.agg_groups.specs.Cells as cells;
-ghost use Rattle.agg_groups.specs.Cells.{codes};
-ghost use Rattle.agg_groups.specs.Meaning as meaning;
+ghost use Rattle.query_meaning.specs.Cells as cells;
+ghost use Rattle.query_meaning.specs.Cells.{codes};
+ghost use Rattle.query_meaning.specs.Meaning as meaning;
 ghost use Rattle.agg_groups.specs.Running as spec;
+ghost use Rattle.query_meaning.specs.Places.{IsInRow};
 ghost use Rattle.agg_groups.specs.Blocks.{AreInBlock, HaveValues, cells_in, chosen_in};
 
-use crate::item::Item;
 use crate::running::{Running, greater, join, lesser};
+use query_meaning::Item;
 use row_blocks::{Block, Holds, Lane, is_chosen};
 use table_core::{Cell, MOST_ROWS};
 
@@ -151,7 +152,7 @@ fn greatest_of(lane: &Lane, word: u64, count: u32) -> Cell
 
 /// The value of an item over the chosen rows of a block.
 pub(crate) fn of_chosen(item: Item, block: &Block, word: u64) -> Running
-    requires in_row { spec.IsInRow item block.now.width }
+    requires in_row { IsInRow item block.now.width }
     requires below { AreInBlock block.now.count word }
     ensures value { result ≡ spec.running_of (chosen_in block.now word) item }
     ensures room { spec.HasRoom (count_ones word) result }
@@ -180,7 +181,7 @@ pub(crate) fn of_chosen(item: Item, block: &Block, word: u64) -> Running
 // The value of an item with the chosen rows of a block.
 fn with_chosen(item: Item, old: Running, block: &Block, word: u64, rows: u32) -> Running
     requires few { rows + block.now.count ≤ MOST_ROWS }
-    requires in_row { spec.IsInRow item block.now.width }
+    requires in_row { IsInRow item block.now.width }
     requires below { AreInBlock block.now.count word }
     requires room { spec.HasRoom rows old }
     ensures value { result ≡ spec.join old (spec.running_of (chosen_in block.now word) item) item }
@@ -199,7 +200,7 @@ pub(crate) fn add_chosen(
     rows: u32,
 )
     requires few { rows + block.now.count ≤ MOST_ROWS }
-    requires in_row { All (λ i. spec.IsInRow i block.now.width) items.now }
+    requires in_row { All (λ i. IsInRow i block.now.width) items.now }
     requires below { AreInBlock block.now.count word }
     requires same { length values.old ≡ length items.now }
     requires room { All (spec.HasRoom rows) values.old }

@@ -8,7 +8,6 @@
 
 mod finding;
 mod groups;
-mod item;
 mod lanes;
 mod met;
 mod place;
@@ -19,6 +18,6 @@ mod table;
 mod text;
 
 pub use groups::Groups;
-pub use item::Item;
+pub use query_meaning::Item;
 pub use rows::{FinishFault, Rows};
 pub use text::rows_text;

@@ -1,8 +1,8 @@
 // Keys of one or two cells that were met lately, each in a slot that its cells name.
 ghost use Rattle.std.specs.Prelude.{◌≡◌, ◌<◌, ◌≤◌, ℕ, [], ◌∷◌, length, take, All, Some, IsTrue, IfOk, IfSome};
 ghost use Rattle.row_blocks.specs.Blocks.{row_at};
-ghost use Rattle.agg_groups.specs.Cells.{codes};
-ghost use Rattle.agg_groups.specs.Meaning.{key_of};
+ghost use Rattle.query_meaning.specs.Cells.{codes};
+ghost use Rattle.query_meaning.specs.Meaning.{key_of};
 ghost use Rattle.agg_groups.specs.Table.{AreMet, Placed, place_at};
 
 use crate::lanes::cell_in;

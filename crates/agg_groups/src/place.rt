@@ -1,12 +1,12 @@
 // The group met last, which is tried first, and keys met lately.
 ghost use Rattle.std.specs.Prelude.{◌≡◌, ◌<◌, ◌↔◌, ℕ, length, map, All, Contains, IsTrue, OnErr, IfOk};
-ghost use Rattle.agg_groups.specs.Cells.{codes};
-ghost use Rattle.agg_groups.specs.Meaning.{key_of, cell};
+ghost use Rattle.query_meaning.specs.Cells.{codes};
+ghost use Rattle.query_meaning.specs.Meaning.{key_of, cell};
 ghost use Rattle.agg_groups.specs.Table.{IsPlaceFor, IsReady, names};
 
-use crate::item::Item;
 use crate::met::Met;
 use crate::table::GroupTable;
+use query_meaning::Item;
 use table_core::{Cell, Memory};
 
 /// The group that the last row belongs to: its key, as long as the key columns, and its place if that is known. And keys

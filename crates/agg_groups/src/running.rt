@@ -2,12 +2,13 @@
 ghost use Rattle.std.specs.Prelude.{◌≡◌, ◌<◌, ◌≤◌, ◌+◌, ◌^◌, ◌*◌, ◌==◌, ℕ, List, [], length, All, true, false, IfOk, neg_ℤ, pos, ◌≤ℤ◌, ◌+ℤ◌, if◌then◌else◌};
 ghost use Rattle.table_core.specs.declared.cell.Cell.TheVariants.{Null, Int};
 ghost use Rattle.agg_groups.specs.declared.running.Running.TheVariants as running;
-ghost use Rattle.agg_groups.specs.Cells as cells;
-ghost use Rattle.agg_groups.specs.Cells.{codes};
-ghost use Rattle.agg_groups.specs.Meaning as meaning;
+ghost use Rattle.query_meaning.specs.Cells as cells;
+ghost use Rattle.query_meaning.specs.Cells.{codes};
+ghost use Rattle.query_meaning.specs.Meaning as meaning;
 ghost use Rattle.agg_groups.specs.Running as spec;
+ghost use Rattle.query_meaning.specs.Places.{IsInRow};
 
-use crate::item::Item;
+use query_meaning::Item;
 use std::alloc::{AllocError, Global};
 use table_core::{Cell, MOST_ROWS};
 
@@ -87,7 +88,7 @@ fn add(t: i128, n: i64, rows: u32) -> i128
 
 // The cell of a row that an item reads, NULL where it reads none.
 fn cell_of(item: Item, row: &[Cell]) -> Cell
-    requires { spec.IsInRow item (length row.now) }
+    requires { IsInRow item (length row.now) }
     ensures { result ≡ spec.cell_of item row.now }
 {
     match item {
@@ -136,7 +137,7 @@ pub(crate) fn starts(alloc: Global, items: &[Item]) -> Result<Vec<Running>, Allo
 
 /// Adds a row to the value of each item, in place.
 pub(crate) fn step(items: &[Item], row: &[Cell], rows: u32, values: &mut [Running])
-    requires in_row { All (λ i. spec.IsInRow i (length row.now)) items.now }
+    requires in_row { All (λ i. IsInRow i (length row.now)) items.now }
     requires few { rows < MOST_ROWS }
     requires same { length values.old ≡ length items.now }
     requires room { All (spec.HasRoom rows) values.old }

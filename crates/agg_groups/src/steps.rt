@@ -5,18 +5,19 @@ ghost use Rattle.table_core.specs.Lists.{lists};
 ghost use Rattle.row_blocks.specs.Blocks.{row_at};
 ghost use Rattle.agg_groups.specs.Blocks.{AreInBlock};
 ghost use Rattle.agg_groups.specs.Running as spec;
+ghost use Rattle.query_meaning.specs.Places.{IsInRow};
 ghost use Rattle.agg_groups.specs.Table.{AddsRows, AreSound, values_at};
 
-use crate::item::Item;
 use crate::lanes::cell_in;
 use crate::running::{Running, next};
+use query_meaning::Item;
 use row_blocks::{Block, is_chosen};
 use table_core::{Cell, MOST_ROWS};
 
 // The cell of a row of a block that an item reads, NULL where it reads none.
 fn cell_of(item: Item, block: &Block, row: u32) -> Cell
     requires row { row < 64 }
-    requires in_row { spec.IsInRow item block.now.width }
+    requires in_row { IsInRow item block.now.width }
     ensures { result ≡ spec.cell_of item (row_at block.now row) }
 {
     match item {
@@ -28,7 +29,7 @@ fn cell_of(item: Item, block: &Block, row: u32) -> Cell
 // Adds a row of a block to the value of each item, in place.
 fn step(items: &[Item], block: &Block, row: u32, rows: u32, values: &mut [Running])
     requires row { row < 64 }
-    requires in_row { All (λ i. spec.IsInRow i block.now.width) items.now }
+    requires in_row { All (λ i. IsInRow i block.now.width) items.now }
     requires few { rows < MOST_ROWS }
     requires same { length values.old ≡ length items.now }
     requires room { All (spec.HasRoom rows) values.old }
@@ -51,7 +52,7 @@ fn step_at(
     rows: u32,
 )
     requires row { row < 64 }
-    requires in_row { All (λ i. spec.IsInRow i block.now.width) items.now }
+    requires in_row { All (λ i. IsInRow i block.now.width) items.now }
     requires few { rows < MOST_ROWS }
     requires there { place < length values.old }
     requires same { length (values_at (lists values.old) place) ≡ length items.now }
@@ -75,7 +76,7 @@ pub(crate) fn step_all(
     rows: u32,
 )
     requires few { rows + block.now.count ≤ MOST_ROWS }
-    requires in_row { All (λ i. spec.IsInRow i block.now.width) items.now }
+    requires in_row { All (λ i. IsInRow i block.now.width) items.now }
     requires long { length places.now ≡ 64 }
     requires there { (i : ℕ) → i < block.now.count → bit_at word i ≡ 1
         → slice_index_or places.now i 0 < length values.old }

@@ -2,16 +2,17 @@
 ghost use Rattle.std.specs.Prelude.{◌≡◌, ◌<◌, ◌≤◌, ◌+◌, ◌^◌, ℕ, List, [], length, map, set, count_ones, All, Contains, Some, None, is_some, true, OnOk, OnErr, IfOk, if◌then◌else◌, slice_index_or, take};
 ghost use Rattle.std.specs.Int.{bit_at};
 ghost use Rattle.table_core.specs.declared.cell.Cell.{Cell};
-ghost use Rattle.agg_groups.specs.Cells.{codes};
-ghost use Rattle.agg_groups.specs.Running.{HasRoom, IsInRow, nexts, joins, runnings, all_shown, FitsCell};
+ghost use Rattle.query_meaning.specs.Cells.{codes};
+ghost use Rattle.agg_groups.specs.Running.{HasRoom, nexts, joins, runnings, all_shown, FitsCell};
+ghost use Rattle.query_meaning.specs.Places.{IsInRow};
 ghost use Rattle.table_core.specs.Lists.{lists};
 ghost use Rattle.agg_groups.specs.Blocks.{AreInBlock, chosen_in};
 ghost use Rattle.agg_groups.specs.Table.{AddsRows, first_places, Placed, IsPlaced, IsNewPlace, IsPlaceFor, AreSound, StaySound, place_at, values_at, seen, at, merged, first_over, result_rows, AllFit, AreBelow, Puts, base, HasGrown, HasNamed, HasValues, HavePlaces, HasRoomAt, KeepsPlaces, names, plain_places};
 
-use crate::item::Item;
 use crate::lanes::add_chosen;
 use crate::running::{Running, join_all, over, row_of, starts, step};
 use crate::steps::step_all;
+use query_meaning::Item;
 use row_blocks::Block;
 use std::alloc::Global;
 use std::collections::BTreeMap;

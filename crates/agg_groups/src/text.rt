@@ -3,10 +3,10 @@ ghost use Rattle.std.specs.Prelude.{◌≡◌, ◌≤◌, ◌<◌, ℕ, List, le
 ghost use Rattle.table_core.specs.declared.cell.Cell.{Cell};
 ghost use Rattle.table_core.specs.Value.{places_of};
 ghost use Rattle.table_core.specs.Answer.{AreCellsOf, IsColumn, answer, kinds_of, values_of};
-ghost use Rattle.agg_groups.specs.Text as spec;
+ghost use Rattle.query_meaning.specs.GroupText as spec;
 
-use crate::item::Item;
 use crate::rows::Rows;
+use query_meaning::Item;
 use std::alloc::{AllocError, Global};
 use table_core::{Bytes, Dict, MOST_PLACES, Memory, Schema, text_of_answer};
 

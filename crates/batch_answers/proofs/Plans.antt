@@ -8,9 +8,9 @@ use Rattle.table_sets.specs.Sets.{has}
 use Rattle.table_core.specs.declared.schema.Column.{Column}
 use Rattle.filter_zones.specs.declared.cond.Cond.{Cond}
 use Rattle.filter_zones.specs.declared.cond.Cond.TheVariants as cond
-use Rattle.agg_groups.specs.Meaning.{first_some, or_else}
-use Rattle.agg_groups.specs.declared.item.Item.{Item}
-use Rattle.top_rows.specs.Rows.{RowQuery}
+use Rattle.query_meaning.specs.Meaning.{first_some, or_else}
+use Rattle.query_meaning.specs.declared.item.Item.{Item}
+use Rattle.query_meaning.specs.Rows.{RowQuery}
 use Rattle.sql_text.specs.Grammar.{QueryText, QueryTree, Tree, groups, query_tree, rows}
 use Rattle.sql_text.specs.declared.query.QItem.{QItem}
 use Rattle.sql_text.specs.declared.query.QItem.TheVariants as item

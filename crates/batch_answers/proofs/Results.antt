@@ -6,7 +6,7 @@ use Rattle.std.specs.List.{AllByRecursion, remove}
 use Rattle.std.proofs.lemmas.List.{get_or-drop, map-append, take_more}
 use Rattle.std.proofs.lemmas.List.Elements.{All-from_recursion, recursion_from_All}
 use Rattle.table_core.specs.declared.cell.Cell.{Cell}
-use Rattle.top_rows.specs.Rows.{Numbered}
+use Rattle.query_meaning.specs.Rows.{Numbered}
 use Rattle.sql_bind.specs.declared.plan.Plan.{Plan}
 use Rattle.scan_story.specs.declared.cause.Cause.{Cause}
 use Rattle.scan_story.specs.declared.cause.Cause.TheVariants as cause

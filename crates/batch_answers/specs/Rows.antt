@@ -6,7 +6,7 @@ use Rattle.table_core.specs.declared.cell.Cell.{Cell}
 use Rattle.piece_format.specs.Cells.{FitsKind, dict_len_at, kind_at}
 use Rattle.piece_format.specs.Shape.{TableShape, rows_in}
 use Rattle.filter_zones.specs.Truth.{cell_at}
-use Rattle.top_rows.specs.Rows.{Numbered}
+use Rattle.query_meaning.specs.Rows.{Numbered}
 use Rattle.sql_bind.specs.declared.plan.Plan.{Plan}
 use Rattle.sql_bind.specs.Meaning.{numbered}
 use Rattle.sql_bind.specs.Reads.{ReadsItsColumns}

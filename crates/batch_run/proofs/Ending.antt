@@ -34,7 +34,7 @@ use Rattle.sql_bind.specs.Reads.{ReadsItsColumns}
 use Rattle.query_gather.specs.declared.answer.Answer.{Answer}
 use Rattle.query_gather.specs.Answer.{CanBeWritten, IsAnswer, IsAnswerOver}
 use Rattle.query_gather.proofs.Tabled.{answer_of_table}
-use Rattle.top_rows.specs.Rows.{Numbered}
+use Rattle.query_meaning.specs.Rows.{Numbered}
 use Rattle.table_pieces.specs.Putting.{AreLong, ArePut, AreSound, GiveBack, ReadBack}
 use Rattle.table_pieces.specs.Shaping.{shape_of}
 use Rattle.table_pieces.specs.Zoning.{NoMatchOutside, chunk_zones, zones_in}

@@ -14,7 +14,7 @@ use Rattle.piece_format.specs.Shape.{TableShape, rows_in}
 use Rattle.scan_story.specs.Counting.{has}
 use Rattle.row_blocks.specs.Blocks.{BlockView, row_at}
 use Rattle.top_rows.specs.Blocks.{numbered_at, numbered_rows}
-use Rattle.top_rows.specs.Rows.{Numbered}
+use Rattle.query_meaning.specs.Rows.{Numbered}
 use Rattle.sql_bind.specs.declared.plan.Plan.{Plan}
 use Rattle.sql_bind.specs.Meaning.{matches, numbered}
 use Rattle.query_gather.specs.declared.partial.Partial.{Partial}

@@ -15,7 +15,7 @@ use Rattle.filter_zones.specs.declared.truth.Truth.{Truth}
 use Rattle.filter_zones.specs.declared.truth.Truth.TheVariants.{False, Unknown, True}
 use Rattle.filter_zones.specs.declared.zone.ChunkZones.{ChunkZones}
 use Rattle.piece_format.specs.Shape.{TableShape, chunks}
-use Rattle.top_rows.specs.Rows.{Numbered}
+use Rattle.query_meaning.specs.Rows.{Numbered}
 use Rattle.sql_bind.specs.declared.plan.Plan.{Plan}
 use Rattle.sql_bind.specs.Meaning.{is_true, matches, numbered}
 use Rattle.query_gather.specs.Partial.{matching}

@@ -11,7 +11,7 @@ use Rattle.table_core.specs.declared.cell.Cell.{Cell}
 use Rattle.piece_format.specs.Shape.{TableShape, rows_in}
 use Rattle.row_blocks.specs.Blocks.{BlockView}
 use Rattle.top_rows.specs.Blocks.{numbered_at, numbered_rows}
-use Rattle.top_rows.specs.Rows.{Numbered, has_number}
+use Rattle.query_meaning.specs.Rows.{Numbered, has_number}
 use Rattle.scan_story.specs.Counting.{has}
 use Rattle.sql_bind.specs.declared.plan.Plan.{Plan}
 use Rattle.sql_bind.specs.Meaning.{matches}

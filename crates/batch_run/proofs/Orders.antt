@@ -8,7 +8,7 @@ use Rattle.table_sets.specs.Sets.{has, numbers_below}
 use Rattle.table_core.specs.declared.cell.Cell.{Cell}
 use Rattle.story_laws.specs.Lists.{NoneTwice}
 use Rattle.story_laws.proofs.Bools.{or_right}
-use Rattle.top_rows.specs.Rows.{Numbered}
+use Rattle.query_meaning.specs.Rows.{Numbered}
 use Rattle.top_rows.proofs.Exchange.{rearranged}
 use Rattle.query_gather.specs.Agree.{Agree}
 

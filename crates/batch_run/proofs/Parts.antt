@@ -23,7 +23,7 @@ use Rattle.story_laws.proofs.Bools.{if_not}
 use Rattle.story_laws.proofs.Lists.{rising_once}
 use Rattle.frame_pool.specs.Frames.{Told}
 use Rattle.piece_format.specs.Shape.{TableShape}
-use Rattle.top_rows.specs.Rows.{Numbered, has_number}
+use Rattle.query_meaning.specs.Rows.{Numbered, has_number}
 use Rattle.sql_bind.specs.declared.plan.Plan.{Plan}
 use Rattle.sql_bind.specs.Meaning.{matches}
 use Rattle.sql_bind.specs.Reads.{ReadsItsColumns}

@@ -8,7 +8,7 @@ use Rattle.sql_bind.specs.Meaning.{matches, numbered}
 use Rattle.query_gather.specs.declared.partial.Partial.{Partial}
 use Rattle.query_gather.specs.Partial.{IsNew, matching}
 use Rattle.query_gather.proofs.Below.{below_new, matching_below, numbered-append, numbered_below}
-use Rattle.top_rows.specs.Rows.{Numbered}
+use Rattle.query_meaning.specs.Rows.{Numbered}
 
 matching-append : (p : Plan) (xs ys : List (Numbered Cell)) → matching p (xs ++ ys) ≡ matching p xs ++ matching p ys
 matching-append p xs ys = filter-append (λ (r : Numbered Cell). matches p.cond r.1) xs ys

@@ -10,10 +10,10 @@ use Rattle.table_core.specs.declared.cell.Cell.{Cell}
 use Rattle.filter_zones.specs.declared.cond.Cond.{Cond}
 use Rattle.filter_zones.specs.declared.cond.Cond.TheVariants as cond
 use Rattle.filter_zones.specs.Truth.{Fits, FitsRow, comparison, null_test, least, greatest, opposite, truth_of}
-use Rattle.agg_groups.specs.Cells.{codes, is_value}
-use Rattle.agg_groups.specs.Meaning.{cell, values, key_of, same_key, group, first_keys, distinct, keys_of}
-use Rattle.top_rows.specs.declared.order.Order.{Order}
-use Rattle.top_rows.specs.Rows.{Numbered, order_cmp, orders_cmp, row_cmp, insert_row, in_order}
+use Rattle.query_meaning.specs.Cells.{codes, is_value}
+use Rattle.query_meaning.specs.Meaning.{cell, values, key_of, same_key, group, first_keys, distinct, keys_of}
+use Rattle.query_meaning.specs.declared.order.Order.{Order}
+use Rattle.query_meaning.specs.Rows.{Numbered, order_cmp, orders_cmp, row_cmp, insert_row, in_order}
 use Rattle.sql_bind.specs.Meaning.{is_true, matches}
 use Rattle.sql_bind.specs.Reads.{CondReads, WhereReads}
 use Rattle.query_gather.specs.Partial.{FitsCond, unnumbered}

@@ -2,9 +2,9 @@
 use Rattle.std.proofs.Common.{◌≡◌, ◌∙◌, ℕ, List, [], ◌∷◌, ◌++◌, sym, ap, subst}
 use Rattle.std.specs.Prelude.{Some, None}
 use Rattle.table_core.specs.declared.cell.Cell.{Cell}
-use Rattle.agg_groups.specs.declared.item.Item.{Item}
-use Rattle.agg_groups.specs.Groups as groups
-use Rattle.top_rows.specs.Rows.{Numbered}
+use Rattle.query_meaning.specs.declared.item.Item.{Item}
+use Rattle.query_meaning.specs.Places.{NamesPlaces}
+use Rattle.query_meaning.specs.Rows.{Numbered}
 use Rattle.sql_bind.specs.declared.plan.Plan.{Plan}
 use Rattle.query_gather.specs.declared.partial.Partial.{Partial}
 use Rattle.query_gather.specs.declared.partial.Partial.TheVariants.{Groups, Top}
@@ -41,7 +41,7 @@ alike_join (Top t) (Groups g) rows (more ∷ lists) e m = absurd e
 -- what fits a plan has the plan's places
 pub has_places : (p : Plan) (a : Partial) (width : ℕ) → FitsPlan p a → FitsWidth p width → HasPlaces a width
 has_places p (Groups g) width f w =
-    let Items : List Item → Type 0 = λ is. groups.NamesPlaces is p.keys.items width in
-    let Keys : List ℕ → Type 0 = λ ks. groups.NamesPlaces g.items ks width in
+    let Items : List Item → Type 0 = λ is. NamesPlaces is p.keys.items width in
+    let Keys : List ℕ → Type 0 = λ ks. NamesPlaces g.items ks width in
     subst Keys (sym f.2) (subst Items (sym f.1) w)
 has_places p (Top t) width f w = tt

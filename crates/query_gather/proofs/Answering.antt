@@ -5,12 +5,12 @@ use Rattle.std.specs.List.{AllByRecursion}
 use Rattle.std.proofs.lemmas.List.Elements.{recursion_from_All}
 use Rattle.table_core.specs.declared.cell.Cell.{Cell}
 use Rattle.table_core.specs.declared.cell.Cell.TheVariants.{Null, Int}
-use Rattle.agg_groups.specs.declared.item.Item.{Item}
-use Rattle.agg_groups.specs.declared.item.Item.TheVariants.{CountAll, Count, Sum, Min, Max, Key}
-use Rattle.agg_groups.specs.Cells.{codes}
-use Rattle.agg_groups.specs.Meaning.{values, total, fits, least, greatest, group, answer, keys_of, meaning, over, overflow, or_else, first_some}
-use Rattle.top_rows.specs.declared.order.Order.{Order}
-use Rattle.top_rows.specs.Rows.{Numbered, RowQuery, in_order, first_rows, rows_meaning}
+use Rattle.query_meaning.specs.declared.item.Item.{Item}
+use Rattle.query_meaning.specs.declared.item.Item.TheVariants.{CountAll, Count, Sum, Min, Max, Key}
+use Rattle.query_meaning.specs.Cells.{codes}
+use Rattle.query_meaning.specs.Meaning.{values, total, fits, least, greatest, group, answer, keys_of, meaning, over, overflow, or_else, first_some}
+use Rattle.query_meaning.specs.declared.order.Order.{Order}
+use Rattle.query_meaning.specs.Rows.{Numbered, RowQuery, in_order, first_rows, rows_meaning}
 use Rattle.sql_bind.specs.declared.plan.Plan.{Plan}
 use Rattle.sql_bind.specs.Reads.{ItemReads, SomeRowsRead, RowsRead, Reads, ReadsItsColumns}
 use Rattle.query_gather.specs.declared.answer.Answer.{Answer}

@@ -10,7 +10,7 @@ use Rattle.row_blocks.specs.Blocks.{BlockView, row_at, rows_in}
 use Rattle.row_blocks.specs.Chosen.{chosen, chosen_from}
 use Rattle.agg_groups.specs.Groups as groups
 use Rattle.top_rows.specs.Blocks.{HoldsInPart, numbered_at, numbered_rows}
-use Rattle.top_rows.specs.Rows.{AreApart, Numbered, has_number}
+use Rattle.query_meaning.specs.Rows.{AreApart, Numbered, has_number}
 use Rattle.top_rows.specs.Top as top
 use Rattle.sql_bind.specs.declared.plan.Plan.{Plan}
 use Rattle.sql_bind.specs.Meaning.{matches}

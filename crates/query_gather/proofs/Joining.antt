@@ -3,7 +3,7 @@ use Rattle.std.proofs.Common.{◌≡◌, ◌∙◌, false, List, [], ◌∷◌, 
 use Rattle.std.specs.Prelude.{◌==◌}
 use Rattle.std.proofs.lemmas.Bool.{false≢true}
 use Rattle.table_core.specs.declared.cell.Cell.{Cell}
-use Rattle.top_rows.specs.Rows.{Numbered}
+use Rattle.query_meaning.specs.Rows.{Numbered}
 use Rattle.query_gather.specs.declared.partial.Partial.{Partial}
 use Rattle.query_gather.specs.Partial.{Stands, StandForEach, MayJoin, MayJoinAll, IsAlike, joined}
 use Rattle.query_gather.proofs.Alike.{alike_join}

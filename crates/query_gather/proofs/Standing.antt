@@ -7,7 +7,7 @@ use Rattle.std.proofs.lemmas.List.Sorted.{IsPermutation-append, IsPermutation-ap
 use Rattle.table_core.specs.declared.cell.Cell.{Cell}
 use Rattle.agg_groups.specs.Groups as groups
 use Rattle.top_rows.specs.Top as top
-use Rattle.top_rows.specs.Rows.{Numbered, AreApart, has_number}
+use Rattle.query_meaning.specs.Rows.{Numbered, AreApart, has_number}
 use Rattle.query_gather.specs.declared.partial.Partial.{Partial}
 use Rattle.query_gather.specs.declared.partial.Partial.TheVariants.{Groups, Top}
 use Rattle.query_gather.specs.Partial.{unnumbered, Stands}

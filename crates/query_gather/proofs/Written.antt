@@ -8,10 +8,10 @@ use Rattle.table_core.specs.Dict.{Rises}
 use Rattle.table_core.specs.declared.cell.Cell.{Cell}
 use Rattle.table_core.specs.declared.schema.Column.{Column}
 use Rattle.table_core.specs.Answer as answers
-use Rattle.agg_groups.specs.Cells.{codes}
-use Rattle.agg_groups.specs.Text as groups_text
-use Rattle.top_rows.specs.Text as rows_text
-use Rattle.top_rows.specs.Rows.{Numbered, RowQuery, rows_meaning}
+use Rattle.query_meaning.specs.Cells.{codes}
+use Rattle.query_meaning.specs.GroupText as groups_text
+use Rattle.query_meaning.specs.RowText as rows_text
+use Rattle.query_meaning.specs.Rows.{Numbered, RowQuery, rows_meaning}
 use Rattle.sql_bind.specs.Texts.{AreCellsOf}
 use Rattle.sql_bind.proofs.Groups.{readable_results}
 use Rattle.sql_bind.proofs.Firsts.{readable_rows}

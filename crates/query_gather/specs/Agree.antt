@@ -3,7 +3,7 @@ use Rattle.std.specs.Prelude.{◌≡◌, ℕ, true, List, [], ◌∷◌, length}
 use Rattle.table_sets.specs.Sets.{has}
 use Rattle.table_core.specs.declared.cell.Cell.{Cell}
 use Rattle.filter_zones.specs.Truth.{cell_at}
-use Rattle.top_rows.specs.Rows.{Numbered}
+use Rattle.query_meaning.specs.Rows.{Numbered}
 
 -- rows of the same length, whose cells at each of these columns are equal
 pub record RowsAgree (columns : List ℕ) (a b : List Cell) : Type 0 where

@@ -1,7 +1,7 @@
 -- What holds of every answer.
 use Rattle.std.specs.Prelude.{List}
 use Rattle.table_core.specs.declared.cell.Cell.{Cell}
-use Rattle.top_rows.specs.Rows.{Numbered}
+use Rattle.query_meaning.specs.Rows.{Numbered}
 use Rattle.sql_bind.specs.declared.plan.Plan.{Plan}
 use Rattle.sql_bind.specs.Meaning.{numbered}
 use Rattle.query_gather.specs.declared.answer.Answer.{Answer}

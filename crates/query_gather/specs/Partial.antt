@@ -5,8 +5,9 @@ use Rattle.row_blocks.specs.Blocks.{BlockView, row_at}
 use Rattle.filter_zones.specs.declared.cond.Cond.{Cond}
 use Rattle.filter_zones.specs.Truth as condition
 use Rattle.agg_groups.specs.Groups as groups
+use Rattle.query_meaning.specs.Places.{NamesPlaces}
 use Rattle.top_rows.specs.Top as top
-use Rattle.top_rows.specs.Rows.{Numbered, AreApart, has_number}
+use Rattle.query_meaning.specs.Rows.{Numbered, AreApart, has_number}
 use Rattle.sql_bind.specs.declared.plan.Plan.{Plan}
 use Rattle.sql_bind.specs.Meaning.{matches}
 use Rattle.query_gather.specs.declared.partial.Partial.{Partial}
@@ -47,7 +48,7 @@ MayJoin (Top t) rows more = AreApart rows more
 
 -- the columns of the items and of the keys are places of a row of so many cells; first rows take any row
 abbrev pub HasPlaces : Partial → ℕ → Type 0
-HasPlaces (Groups g) width = groups.NamesPlaces g.items g.keys width
+HasPlaces (Groups g) width = NamesPlaces g.items g.keys width
 HasPlaces (Top t) width = Unit {0}
 
 -- how many rows are counted: first rows count none
@@ -88,7 +89,7 @@ FitsCond (Some c) row = condition.FitsRow c row
 
 -- the columns of the items and of the keys are places of a row of so many cells
 abbrev pub FitsWidth : Plan → ℕ → Type 0
-FitsWidth p width = groups.NamesPlaces p.items.items p.keys.items width
+FitsWidth p width = NamesPlaces p.items.items p.keys.items width
 
 -- the condition fits each row of a block, where there is one
 abbrev pub FitsCondOver : Option Cond → BlockView → Type 0

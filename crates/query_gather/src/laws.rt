@@ -4,7 +4,7 @@ ghost use Rattle.table_core.specs.Fitting.{FitsRow};
 ghost use Rattle.table_core.specs.Dict.{Rises};
 ghost use Rattle.table_core.specs.declared.cell.Cell.{Cell};
 ghost use Rattle.table_core.specs.declared.schema.Column.{Column};
-ghost use Rattle.top_rows.specs.Rows.{Numbered};
+ghost use Rattle.query_meaning.specs.Rows.{Numbered};
 ghost use Rattle.sql_bind.specs.declared.plan.Plan.{Plan};
 ghost use Rattle.sql_bind.specs.Reads.{ReadsItsColumns};
 ghost use Rattle.query_gather.specs.declared.answer.Answer.{Answer};

@@ -4,8 +4,9 @@ ghost use Rattle.table_core.specs.declared.cell.Cell.{Cell};
 ghost use Rattle.row_blocks.specs.Blocks.{rows_in};
 ghost use Rattle.row_blocks.specs.Chosen.{chosen as chosen_rows};
 ghost use Rattle.agg_groups.specs.Groups as grouped;
+ghost use Rattle.query_meaning.specs.Places.{NamesPlaces};
 ghost use Rattle.top_rows.specs.Blocks.{HoldsInPart, numbered_rows};
-ghost use Rattle.top_rows.specs.Rows.{Numbered, AreApart};
+ghost use Rattle.query_meaning.specs.Rows.{Numbered, AreApart};
 ghost use Rattle.top_rows.specs.Top as first;
 ghost use Rattle.sql_bind.specs.declared.plan.Plan.{Plan};
 ghost use Rattle.scan_story.specs.declared.cause.Cause.TheVariants as cause;
@@ -39,7 +40,7 @@ pub enum Partial {
 // Adds the chosen rows of a block to groups. Out of memory, none of them is added.
 fn add_chosen_rows(groups: &mut Groups, block: &Block, chosen: u64) -> Result<(), Memory>
     requires few { groups.old.rows + block.now.count ≤ MOST_ROWS }
-    requires places { grouped.NamesPlaces groups.old.items groups.old.keys block.now.width }
+    requires places { NamesPlaces groups.old.items groups.old.keys block.now.width }
     ensures ok { OnOk result ((rows : List (List Cell)) → grouped.Stands groups.old rows
         → grouped.Stands groups.new (rows ++ chosen_rows chosen (rows_in block.now))) }
     ensures count { groups.new.rows ≤ groups.old.rows + block.now.count }

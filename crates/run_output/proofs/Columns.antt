@@ -7,12 +7,12 @@ use Rattle.std.proofs.lemmas.Bool.{cases_lt}
 use Rattle.std.proofs.lemmas.List.Elements.{All-from_recursion, All-get_or, recursion_from_All}
 use Rattle.table_core.specs.declared.schema.Column.{Column}
 use Rattle.table_core.specs.Answer.{IsColumn}
-use Rattle.agg_groups.specs.declared.item.Item.{Item}
-use Rattle.agg_groups.specs.declared.item.Item.TheVariants.{CountAll, Count, Sum, Min, Max, Key}
-use Rattle.agg_groups.specs.Running.{IsInRow}
-use Rattle.agg_groups.specs.Text as groups_text
-use Rattle.top_rows.specs.Text as rows_text
-use Rattle.top_rows.specs.Rows.{RowQuery}
+use Rattle.query_meaning.specs.declared.item.Item.{Item}
+use Rattle.query_meaning.specs.declared.item.Item.TheVariants.{CountAll, Count, Sum, Min, Max, Key}
+use Rattle.query_meaning.specs.Places.{IsInRow}
+use Rattle.query_meaning.specs.GroupText as groups_text
+use Rattle.query_meaning.specs.RowText as rows_text
+use Rattle.query_meaning.specs.Rows.{RowQuery}
 use Rattle.sql_bind.specs.declared.plan.Plan.{Plan}
 use Rattle.sql_bind.specs.Reads.{ReadsItsColumns, SomeRowsRead}
 use Rattle.run_output.specs.declared.outcome.Outcome.{Outcome}

@@ -9,10 +9,10 @@ use Rattle.table_sets.specs.Sets.{has}
 use Rattle.table_core.specs.declared.schema.Column.{Column}
 use Rattle.table_core.specs.declared.schema.Kind.TheVariants.{Int}
 use Rattle.table_core.specs.Answer as answers
-use Rattle.agg_groups.specs.Meaning.{or_else, first_some}
-use Rattle.agg_groups.specs.Running.{IsInRow}
-use Rattle.agg_groups.specs.Text as groups_text
-use Rattle.top_rows.specs.Text as rows_text
+use Rattle.query_meaning.specs.Meaning.{or_else, first_some}
+use Rattle.query_meaning.specs.Places.{IsInRow}
+use Rattle.query_meaning.specs.GroupText as groups_text
+use Rattle.query_meaning.specs.RowText as rows_text
 use Rattle.sql_text.specs.declared.query.QItem.{QItem}
 use Rattle.sql_text.specs.declared.query.QItem.TheVariants as item
 use Rattle.sql_bind.specs.Names.{column_of}

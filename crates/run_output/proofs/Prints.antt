@@ -8,12 +8,12 @@ use Rattle.table_core.specs.Value.{Value, row_values}
 use Rattle.table_core.specs.declared.cell.Cell.{Cell}
 use Rattle.table_core.specs.declared.schema.Column.{Column}
 use Rattle.table_core.specs.Answer.{answer, kinds_of, values_of}
-use Rattle.agg_groups.specs.Meaning.{or_else}
-use Rattle.agg_groups.specs.Running.{IsInRow}
-use Rattle.agg_groups.specs.declared.item.Item.{Item}
-use Rattle.agg_groups.specs.Text as groups_text
-use Rattle.top_rows.specs.Text as rows_text
-use Rattle.top_rows.specs.Rows.{RowQuery}
+use Rattle.query_meaning.specs.Meaning.{or_else}
+use Rattle.query_meaning.specs.Places.{IsInRow}
+use Rattle.query_meaning.specs.declared.item.Item.{Item}
+use Rattle.query_meaning.specs.GroupText as groups_text
+use Rattle.query_meaning.specs.RowText as rows_text
+use Rattle.query_meaning.specs.Rows.{RowQuery}
 use Rattle.sql_text.specs.declared.query.QItem.TheVariants as item
 use Rattle.sql_text.specs.Grammar.{QueryText, QueryTree, groups, rows, query_tree}
 use Rattle.sql_bind.specs.declared.plan.Plan.{Plan}

@@ -6,9 +6,9 @@ use Rattle.table_core.specs.declared.schema.Column.{Column}
 use Rattle.table_core.specs.declared.schema.Kind.{Kind}
 use Rattle.table_core.specs.declared.schema.Kind.TheVariants.{Int}
 use Rattle.table_core.specs.Answer.{IsColumn, answer, kinds_of, values_of}
-use Rattle.agg_groups.specs.Text as groups_text
-use Rattle.top_rows.specs.Text as rows_text
-use Rattle.top_rows.specs.Rows.{RowQuery}
+use Rattle.query_meaning.specs.GroupText as groups_text
+use Rattle.query_meaning.specs.RowText as rows_text
+use Rattle.query_meaning.specs.Rows.{RowQuery}
 use Rattle.sql_bind.specs.declared.plan.Plan.{Plan}
 use Rattle.run_output.specs.Refusals.{overflow_words, refusal_line, statement_words, stop_words}
 use Rattle.query_gather.specs.declared.answer.Answer.{Answer}

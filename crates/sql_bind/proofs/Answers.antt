@@ -9,11 +9,11 @@ use Rattle.table_core.specs.Value.{none, number, value_in, row_values, IsCellOf}
 use Rattle.table_core.specs.declared.cell.Cell.{Cell}
 use Rattle.table_core.specs.declared.cell.Cell.TheVariants.{Null, Int, Code}
 use Rattle.table_core.specs.Answer as answer_
-use Rattle.agg_groups.specs.declared.item.Item.{Item}
-use Rattle.agg_groups.specs.declared.item.Item.TheVariants.{CountAll, Count, Sum, Min, Max, Key}
-use Rattle.agg_groups.specs.Cells.{codes}
-use Rattle.agg_groups.specs.Meaning.{cell, values, total, least, greatest, answer, over, fits}
-use Rattle.agg_groups.specs.Text.{column_of, columns_of}
+use Rattle.query_meaning.specs.declared.item.Item.{Item}
+use Rattle.query_meaning.specs.declared.item.Item.TheVariants.{CountAll, Count, Sum, Min, Max, Key}
+use Rattle.query_meaning.specs.Cells.{codes}
+use Rattle.query_meaning.specs.Meaning.{cell, values, total, least, greatest, answer, over, fits}
+use Rattle.query_meaning.specs.GroupText.{column_of, columns_of}
 use Rattle.sql_bind.specs.Texts.{texts, AreCellsOf}
 use Rattle.sql_bind.proofs.Stand.{cells_stand, value_at, cell_of}
 use Rattle.sql_bind.proofs.Maps.{filter-map, filter_valid, total-map, least-map, greatest-map, least_valid, greatest_valid}

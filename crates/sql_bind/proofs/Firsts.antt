@@ -13,10 +13,10 @@ use Rattle.table_core.specs.Answer.{values_of}
 use Rattle.table_core.specs.Answer as answers
 use Rattle.std.proofs.lemmas.List.{length-map}
 use Rattle.std.proofs.lemmas.List.Elements.{All-from_recursion}
-use Rattle.agg_groups.specs.Cells.{codes}
-use Rattle.agg_groups.specs.Meaning.{cell}
-use Rattle.top_rows.specs.declared.order.Order.{Order}
-use Rattle.top_rows.specs.Rows.{RowQuery, Numbered, order_cmp, orders_cmp, row_cmp, insert_row, in_order, rows_meaning}
+use Rattle.query_meaning.specs.Cells.{codes}
+use Rattle.query_meaning.specs.Meaning.{cell}
+use Rattle.query_meaning.specs.declared.order.Order.{Order}
+use Rattle.query_meaning.specs.Rows.{RowQuery, Numbered, order_cmp, orders_cmp, row_cmp, insert_row, in_order, rows_meaning}
 use Rattle.sql_bind.specs.Texts.{texts, AreCellsOf}
 use Rattle.sql_bind.specs.Laws.{numbered_values, SameFirstRows, AreReadableRows}
 use Rattle.sql_bind.proofs.Stand.{cells_stand, value_at, cell_of}

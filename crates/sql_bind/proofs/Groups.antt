@@ -7,10 +7,10 @@ use Rattle.table_core.specs.declared.cell.Cell.{Cell}
 use Rattle.table_core.specs.Answer.{values_of}
 use Rattle.table_core.specs.Answer as answers
 use Rattle.std.proofs.lemmas.List.Elements.{All-from_recursion}
-use Rattle.agg_groups.specs.declared.item.Item.{Item}
-use Rattle.agg_groups.specs.Cells.{codes}
-use Rattle.agg_groups.specs.Meaning.{group, answer, over, or_else, first_some, keys_of, meaning}
-use Rattle.agg_groups.specs.Text.{columns_of}
+use Rattle.query_meaning.specs.declared.item.Item.{Item}
+use Rattle.query_meaning.specs.Cells.{codes}
+use Rattle.query_meaning.specs.Meaning.{group, answer, over, or_else, first_some, keys_of, meaning}
+use Rattle.query_meaning.specs.GroupText.{columns_of}
 use Rattle.sql_bind.specs.Texts.{texts, AreCellsOf}
 use Rattle.sql_bind.specs.Laws.{SameMeaning, SameOverflow, AreReadable}
 use Rattle.sql_bind.proofs.Keys.{key_values, IsKey, group-map, group_valid}

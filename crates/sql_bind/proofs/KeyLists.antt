@@ -4,8 +4,8 @@ use Rattle.std.specs.List.{AllByRecursion}
 use Rattle.table_core.specs.Dict.{Rises}
 use Rattle.table_core.specs.Value.{row_values}
 use Rattle.table_core.specs.declared.cell.Cell.{Cell}
-use Rattle.agg_groups.specs.Cells.{codes}
-use Rattle.agg_groups.specs.Meaning.{distinct, key_of, keys_of}
+use Rattle.query_meaning.specs.Cells.{codes}
+use Rattle.query_meaning.specs.Meaning.{distinct, key_of, keys_of}
 use Rattle.sql_bind.specs.Texts.{texts, AreCellsOf}
 use Rattle.sql_bind.proofs.Keys.{key_values, IsKey, keeps, row_keys_valid, row_keys-map}
 use Rattle.sql_bind.proofs.Maps.{distinct_valid, distinct-map}

@@ -10,8 +10,8 @@ use Rattle.table_core.specs.Dict.{Rises}
 use Rattle.table_core.specs.Value.{Value, value_cmp, value_in, row_values}
 use Rattle.table_core.proofs.Rising.{rises-none}
 use Rattle.table_core.specs.declared.cell.Cell.{Cell}
-use Rattle.agg_groups.specs.Cells.{codes}
-use Rattle.agg_groups.specs.Meaning.{cell, key_of, key_cmp, same_key, group}
+use Rattle.query_meaning.specs.Cells.{codes}
+use Rattle.query_meaning.specs.Meaning.{cell, key_of, key_cmp, same_key, group}
 use Rattle.sql_bind.specs.Texts.{texts, AreCellsOf}
 use Rattle.sql_bind.proofs.Stand.{cells_stand, value_at, cell_of}
 

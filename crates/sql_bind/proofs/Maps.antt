@@ -6,8 +6,8 @@ use Rattle.std.specs.Ordering.{is_lt}
 use Rattle.std.specs.List.{AllByRecursion}
 use Rattle.std.specs.declared.cmp.Ordering.{Ordering}
 use Rattle.std.specs.declared.cmp.Ordering.TheVariants.{Less, Equal, Greater}
-use Rattle.agg_groups.specs.Cells.{Cells}
-use Rattle.agg_groups.specs.Meaning.{key_cmp, insert_key, distinct, lesser, greater}
+use Rattle.query_meaning.specs.Cells.{Cells}
+use Rattle.query_meaning.specs.Meaning.{key_cmp, insert_key, distinct, lesser, greater}
 
 -- ---- keys, of which V says which are valid
 module _ {C D : Type 0} (k : Cells C) (l : Cells D) (g : List C → List D) (V : List C → Type 0) (keeps : (p q : List C) → V p → V q → key_cmp l (g p) (g q) ≡ key_cmp k p q) where

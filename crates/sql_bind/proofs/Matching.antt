@@ -10,7 +10,7 @@ use Rattle.table_core.specs.declared.cell.Cell.{Cell}
 use Rattle.table_core.specs.declared.cell.Cell.TheVariants.{Null}
 use Rattle.table_core.specs.declared.schema.Column.{Column}
 use Rattle.filter_zones.specs.declared.cond.Cond.{Cond}
-use Rattle.top_rows.specs.Rows.{Numbered}
+use Rattle.query_meaning.specs.Rows.{Numbered}
 use Rattle.sql_bind.specs.Texts.{AreCellsOf}
 use Rattle.sql_bind.specs.Laws.{numbered_values}
 use Rattle.sql_text.specs.Grammar.{Tree}

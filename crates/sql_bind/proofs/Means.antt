@@ -8,8 +8,8 @@ use Rattle.table_core.specs.Dict.{Rises}
 use Rattle.table_core.specs.Value.{Value, row_values}
 use Rattle.table_core.specs.declared.cell.Cell.{Cell}
 use Rattle.table_core.specs.declared.schema.Column.{Column}
-use Rattle.agg_groups.specs.Meaning.{meaning, overflow}
-use Rattle.top_rows.specs.Rows.{RowQuery, Numbered, rows_meaning}
+use Rattle.query_meaning.specs.Meaning.{meaning, overflow}
+use Rattle.query_meaning.specs.Rows.{RowQuery, Numbered, rows_meaning}
 use Rattle.sql_bind.specs.Texts.{texts}
 use Rattle.sql_bind.proofs.Groups.{same_meaning, same_overflow, readable_results}
 use Rattle.sql_bind.proofs.Firsts.{same_first_rows, readable_rows as answer_rows}

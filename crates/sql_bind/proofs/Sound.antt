@@ -5,7 +5,7 @@ use Rattle.std.specs.List.{find, flat_map}
 use Rattle.std.proofs.lemmas.Bool.{cases_Bool, false≢true}
 use Rattle.table_core.specs.Fitting.{kind_at}
 use Rattle.table_core.specs.declared.schema.Column.{Column}
-use Rattle.agg_groups.specs.Meaning.{or_else}
+use Rattle.query_meaning.specs.Meaning.{or_else}
 use Rattle.sql_text.specs.Grammar.{Tree, Compare, NullTest, Both, Either, Negated, QueryTree}
 use Rattle.sql_bind.specs.declared.judging.Wrong.{Wrong}
 use Rattle.sql_bind.specs.declared.judging.Wrong.TheVariants as wrong

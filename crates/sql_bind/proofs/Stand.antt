@@ -12,8 +12,8 @@ use Rattle.table_core.specs.Value.{value_cmp, value_in, row_values, IsCellOf}
 use Rattle.table_core.specs.declared.cell.Cell.{Cell}
 use Rattle.table_core.specs.declared.cell.Cell.TheVariants.{Null, Int, Code}
 use Rattle.table_core.proofs.Rising.{less_greater}
-use Rattle.agg_groups.specs.Cells.{codes}
-use Rattle.agg_groups.specs.Meaning.{cell}
+use Rattle.query_meaning.specs.Cells.{codes}
+use Rattle.query_meaning.specs.Meaning.{cell}
 use Rattle.sql_bind.specs.Texts.{texts, AreCellsOf}
 
 -- the codes of a rising dictionary stand as their texts do

@@ -4,12 +4,12 @@ use Rattle.table_core.specs.Value.{Value, row_values}
 use Rattle.table_core.specs.declared.cell.Cell.{Cell}
 use Rattle.table_core.specs.Answer.{values_of}
 use Rattle.table_core.specs.Answer as answers
-use Rattle.agg_groups.specs.declared.item.Item.{Item}
-use Rattle.agg_groups.specs.Cells.{codes}
-use Rattle.agg_groups.specs.Meaning.{meaning, overflow}
-use Rattle.agg_groups.specs.Text.{columns_of}
-use Rattle.top_rows.specs.Text as rows_text
-use Rattle.top_rows.specs.Rows.{RowQuery, Numbered, rows_meaning}
+use Rattle.query_meaning.specs.declared.item.Item.{Item}
+use Rattle.query_meaning.specs.Cells.{codes}
+use Rattle.query_meaning.specs.Meaning.{meaning, overflow}
+use Rattle.query_meaning.specs.GroupText.{columns_of}
+use Rattle.query_meaning.specs.RowText as rows_text
+use Rattle.query_meaning.specs.Rows.{RowQuery, Numbered, rows_meaning}
 use Rattle.sql_bind.specs.Texts.{texts}
 
 -- a numbered row of cells as its values

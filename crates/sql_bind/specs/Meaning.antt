@@ -8,11 +8,11 @@ use Rattle.filter_zones.specs.Truth.{truth_of}
 use Rattle.filter_zones.specs.declared.cond.Cond.{Cond}
 pub use Rattle.filter_zones.specs.Truths.{is_true}
 use Rattle.table_core.specs.Answer.{values_of, AreCellsOf}
-use Rattle.agg_groups.specs.Cells.{codes}
-use Rattle.agg_groups.specs.Meaning.{meaning, overflow}
-use Rattle.agg_groups.specs.Text as groups_text
-use Rattle.top_rows.specs.Text as rows_text
-use Rattle.top_rows.specs.Rows.{RowQuery, Numbered, rows_meaning}
+use Rattle.query_meaning.specs.Cells.{codes}
+use Rattle.query_meaning.specs.Meaning.{meaning, overflow}
+use Rattle.query_meaning.specs.GroupText as groups_text
+use Rattle.query_meaning.specs.RowText as rows_text
+use Rattle.query_meaning.specs.Rows.{RowQuery, Numbered, rows_meaning}
 use Rattle.sql_bind.specs.Texts.{texts}
 use Rattle.sql_text.specs.Grammar.{Tree, QueryTree}
 use Rattle.sql_bind.specs.declared.plan.Plan.{Plan}

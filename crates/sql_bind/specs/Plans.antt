@@ -4,10 +4,10 @@ use Rattle.std.specs.List.{flat_map, list_any}
 use Rattle.table_sets.specs.Sets.{numbers_below}
 use Rattle.table_sets.specs.declared.limits.TheConstants.{MOST_COLUMNS}
 use Rattle.table_core.specs.declared.schema.Column.{Column}
-use Rattle.agg_groups.specs.declared.item.Item.{Item}
-use Rattle.agg_groups.specs.declared.item.Item.TheVariants.{CountAll, Count, Sum, Min, Max, Key}
-use Rattle.top_rows.specs.declared.order.Order.{Order}
-use Rattle.top_rows.specs.Rows.{RowQuery}
+use Rattle.query_meaning.specs.declared.item.Item.{Item}
+use Rattle.query_meaning.specs.declared.item.Item.TheVariants.{CountAll, Count, Sum, Min, Max, Key}
+use Rattle.query_meaning.specs.declared.order.Order.{Order}
+use Rattle.query_meaning.specs.Rows.{RowQuery}
 use Rattle.sql_text.specs.declared.query.QItem.{QItem}
 use Rattle.sql_text.specs.declared.query.QItem.TheVariants as item
 use Rattle.sql_text.specs.declared.query.QOrder.{QOrder}

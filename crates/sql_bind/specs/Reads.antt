@@ -3,11 +3,11 @@ use Rattle.std.specs.Prelude.{◌≡◌, ◌<◌, ℕ, true, All, Option, Some, 
 use Rattle.table_sets.specs.Sets.{has}
 use Rattle.filter_zones.specs.declared.cond.Cond.{Cond}
 use Rattle.filter_zones.specs.declared.cond.Cond.TheVariants as cond
-use Rattle.agg_groups.specs.declared.item.Item.{Item}
-use Rattle.agg_groups.specs.declared.item.Item.TheVariants.{CountAll, Count, Sum, Min, Max, Key}
-use Rattle.agg_groups.specs.Groups as groups
-use Rattle.top_rows.specs.declared.order.Order.{Order}
-use Rattle.top_rows.specs.Rows.{RowQuery}
+use Rattle.query_meaning.specs.declared.item.Item.{Item}
+use Rattle.query_meaning.specs.declared.item.Item.TheVariants.{CountAll, Count, Sum, Min, Max, Key}
+use Rattle.query_meaning.specs.Places.{NamesPlaces}
+use Rattle.query_meaning.specs.declared.order.Order.{Order}
+use Rattle.query_meaning.specs.Rows.{RowQuery}
 use Rattle.sql_bind.specs.declared.plan.Plan.{Plan}
 
 -- P holds of each column that a condition compares or tests
@@ -49,6 +49,6 @@ pub record Reads (P : ℕ → Type 0) (p : Plan) : Type 0 where
 -- the plan reads no column but those that it names, and each of these is one of so many
 pub record ReadsItsColumns (n : ℕ) (p : Plan) : Type 0 where
   pub reads : Reads (λ x. has p.columns x ≡ true) p
-  pub groups_in : groups.NamesPlaces p.items.items p.keys.items n
+  pub groups_in : NamesPlaces p.items.items p.keys.items n
   pub rows_in : SomeRowsRead (λ x. x < n) p.rows
   pub columns_in : 0 < n → All (λ x. x < n) p.columns

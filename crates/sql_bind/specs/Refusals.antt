@@ -6,7 +6,7 @@ use Rattle.table_sets.specs.Sets.{has}
 use Rattle.table_core.specs.declared.schema.Column.{Column}
 use Rattle.table_core.specs.declared.schema.Kind.{Kind}
 use Rattle.table_core.specs.declared.schema.Kind.TheVariants as kind
-use Rattle.agg_groups.specs.Meaning.{or_else, first_some}
+use Rattle.query_meaning.specs.Meaning.{or_else, first_some}
 use Rattle.sql_text.specs.declared.query.QItem.{QItem}
 use Rattle.sql_text.specs.declared.query.QItem.TheVariants as item
 use Rattle.sql_text.specs.Grammar.{QueryTree}

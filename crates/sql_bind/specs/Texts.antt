@@ -2,7 +2,7 @@
 use Rattle.std.specs.Prelude.{ℕ, Bool, true, false, ℤ, pos, List, [], ◌∷◌}
 use Rattle.table_core.specs.Value.{Value, none, number, value_cmp, IsCellOf}
 use Rattle.table_core.specs.declared.cell.Cell.{Cell}
-use Rattle.agg_groups.specs.Cells.{Cells}
+use Rattle.query_meaning.specs.Cells.{Cells}
 
 abbrev pub is_value : Value → Bool
 is_value none = false

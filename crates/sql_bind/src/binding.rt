@@ -19,10 +19,10 @@ use crate::naming::named_columns;
 use crate::places::{Place, places_of};
 use crate::plan::Plan;
 use crate::refusal::BindRefusal;
+use query_meaning::RowPlan;
 use sql_text::Query;
 use std::alloc::{AllocError, Global};
 use table_core::{Column, Dict, MOST_COLUMNS, MOST_PLACES, Schema};
-use top_rows::RowPlan;
 
 // The key columns of a query that isn't refused.
 fn judge(

@@ -4,11 +4,10 @@ ghost use Rattle.std.specs.List.{flat_map};
 ghost use Rattle.sql_bind.specs.Plans as spec;
 
 use crate::names::column_of;
-use agg_groups::Item;
+use query_meaning::{Item, Order};
 use sql_text::{QItem, QOrder};
 use std::alloc::{AllocError, Global};
 use table_core::{Bytes, Column, MOST_COLUMNS};
-use top_rows::Order;
 
 // The place of a column among key columns; where it is none, how many they are.
 fn place_of(keys: &[u32], column: u32) -> u32

@@ -1,7 +1,7 @@
 // Whether a query is refused, and why.
 ghost use Rattle.std.specs.Prelude.{◌≡◌, ◌≤◌, length, map, option_copied, option_map};
 ghost use Rattle.sql_bind.specs.Places.{place_seen};
-ghost use Rattle.agg_groups.specs.Meaning.{first_some};
+ghost use Rattle.query_meaning.specs.Meaning.{first_some};
 ghost use Rattle.table_sets.specs.Sets.{has};
 ghost use Rattle.sql_bind.specs.Refusals as spec;
 ghost use Rattle.sql_bind.specs.Causes.{Judges};

@@ -2,8 +2,8 @@
 ghost use Rattle.std.specs.Prelude.{ℕ, List, All};
 ghost use Rattle.table_core.specs.Dict.{Rises};
 ghost use Rattle.table_core.specs.declared.cell.Cell.{Cell};
-ghost use Rattle.agg_groups.specs.declared.item.Item.{Item};
-ghost use Rattle.top_rows.specs.Rows.{Numbered, RowQuery};
+ghost use Rattle.query_meaning.specs.declared.item.Item.{Item};
+ghost use Rattle.query_meaning.specs.Rows.{Numbered, RowQuery};
 ghost use Rattle.sql_bind.specs.Laws.{AreReadable, AreReadableRows, SameFirstRows, SameMeaning, SameOverflow};
 ghost use Rattle.sql_bind.specs.Texts.{AreCellsOf};
 

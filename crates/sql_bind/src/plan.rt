@@ -1,9 +1,8 @@
 // What a bound query asks for.
 
-use agg_groups::Item;
 use filter_zones::Cond;
+use query_meaning::{Item, RowPlan};
 use table_core::ColumnSet;
-use top_rows::RowPlan;
 
 /// A query with its names as columns, counted from 0, and its literals as bounds over cells.
 #[derive(Debug, Drop)]

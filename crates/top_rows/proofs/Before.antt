@@ -10,11 +10,11 @@ use Rattle.std.specs.Cmp.Derive.{point_total}
 use Rattle.std.proofs.lemmas.Cmp.{nat_cmp_total, nat_eq_equiv, alike_right, on_total, then_total, back_total}
 use Rattle.std.proofs.lemmas.Map.Lookups.{exact_unsigned}
 use Rattle.table_core.specs.declared.cell.Cell.{Cell}
-use Rattle.agg_groups.specs.Cells.{codes}
-use Rattle.agg_groups.specs.Meaning.{cell}
+use Rattle.query_meaning.specs.Cells.{codes}
+use Rattle.query_meaning.specs.Meaning.{cell}
 use Rattle.agg_groups.proofs.Order.{cell_total}
-use Rattle.top_rows.specs.declared.order.Order.{Order}
-use Rattle.top_rows.specs.Rows.{Numbered, order_cmp, orders_cmp, row_cmp}
+use Rattle.query_meaning.specs.declared.order.Order.{Order}
+use Rattle.query_meaning.specs.Rows.{Numbered, order_cmp, orders_cmp, row_cmp}
 
 abbrev pub Row : Type 0
 Row = Numbered Cell

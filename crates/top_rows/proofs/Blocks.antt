@@ -10,7 +10,7 @@ use Rattle.std.proofs.lemmas.List.Elements.{All-head, All-tail}
 use Rattle.row_blocks.specs.Blocks.{BlockView}
 use Rattle.row_blocks.specs.Chosen.{chosen_from}
 use Rattle.top_rows.specs.Blocks.{HoldsInPart, numbered_at}
-use Rattle.top_rows.specs.Rows.{AreDistinct, has_number}
+use Rattle.query_meaning.specs.Rows.{AreDistinct, has_number}
 use Rattle.top_rows.specs.Top.{IsBehind, Kept, Stands}
 use Rattle.top_rows.proofs.Before.{Row}
 use Rattle.top_rows.proofs.Stands.{distinct_behind}

@@ -15,14 +15,14 @@ use Rattle.std.specs.BTreeMap.{insert_entry}
 use Rattle.std.specs.List.{AllByRecursion}
 use Rattle.std.proofs.lemmas.List.Elements.{recursion_from_All}
 use Rattle.table_core.specs.declared.cell.Cell.{Cell}
-use Rattle.agg_groups.specs.Cells.{codes}
-use Rattle.agg_groups.specs.Meaning.{cell}
+use Rattle.query_meaning.specs.Cells.{codes}
+use Rattle.query_meaning.specs.Meaning.{cell}
 use Rattle.agg_groups.proofs.Order.{cell_exact}
-use Rattle.top_rows.specs.declared.order.Order.{Order}
+use Rattle.query_meaning.specs.declared.order.Order.{Order}
 use Rattle.top_rows.specs.declared.standing.Place.{Place}
 use Rattle.top_rows.specs.declared.standing.Place.TheVariants.{Up, Down}
 use Rattle.top_rows.specs.declared.standing.Standing.{Standing}
-use Rattle.top_rows.specs.Rows.{has_number, insert_row, order_cmp, orders_cmp, row_cmp}
+use Rattle.query_meaning.specs.Rows.{has_number, insert_row, order_cmp, orders_cmp, row_cmp}
 use Rattle.top_rows.specs.Standing.{Entry, IsKeyed, AreKeyed, numbered, place_cmp, places_of, standing_cmp}
 use Rattle.top_rows.specs.Top.{StandsBeforeNone}
 use Rattle.top_rows.proofs.Before.{Row, before, before_none, row_tie, then_both}

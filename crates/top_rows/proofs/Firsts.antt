@@ -6,11 +6,11 @@ use Rattle.std.proofs.Math.Bool.{or-true}
 use Rattle.std.proofs.lemmas.Cmp.{nat_eq_equiv}
 use Rattle.std.proofs.lemmas.List.Sorted.{IsPermutation-append_comm, IsPermutation-refl, IsPermutation-sym, IsPermutation-trans, IsPermutation-cons, IsPermutation-middle}
 use Rattle.std.specs.Ordering.{is_lt}
-use Rattle.agg_groups.specs.Cells.{codes}
+use Rattle.query_meaning.specs.Cells.{codes}
 use Rattle.agg_groups.proofs.Order.{or_swap}
-use Rattle.top_rows.specs.declared.order.Order.{Order}
-use Rattle.top_rows.specs.Rows.{has_number, AreDistinct, AreApart}
-use Rattle.top_rows.specs.Rows as rows
+use Rattle.query_meaning.specs.declared.order.Order.{Order}
+use Rattle.query_meaning.specs.Rows.{has_number, AreDistinct, AreApart}
+use Rattle.query_meaning.specs.Rows as rows
 use Rattle.top_rows.proofs.Before.{Row, before, before_back, before_other, before_trans, is_lt-Less}
 use Rattle.top_rows.proofs.Exchange.{rearranged}
 

@@ -3,8 +3,8 @@ use Rattle.std.proofs.Common.{◌≡◌, ℕ, false, List, [], ◌∷◌, ◌++�
 use Rattle.std.specs.Prelude.{◌==◌}
 use Rattle.std.proofs.lemmas.Bool.{or_from}
 use Rattle.std.proofs.lemmas.Cmp.{nat_eq_equiv}
-use Rattle.agg_groups.specs.Cells.{codes}
-use Rattle.top_rows.specs.Rows.{AreDistinct, AreApart, has_number, insert_row, in_order, first_rows}
+use Rattle.query_meaning.specs.Cells.{codes}
+use Rattle.query_meaning.specs.Rows.{AreDistinct, AreApart, has_number, insert_row, in_order, first_rows}
 use Rattle.top_rows.specs.Top.{Kept, Stands, StandsInSomeOrder}
 use Rattle.top_rows.proofs.Before.{Row}
 use Rattle.top_rows.proofs.Firsts.{has-middle, has-firsts, distinct-push, distinct-append, distinct-firsts, firsts_apart, sorted-push, sorted-permutation, take-insert, firsts-joined}

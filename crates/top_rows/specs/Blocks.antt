@@ -3,7 +3,7 @@ use Rattle.std.specs.Prelude.{◌+◌, ◌++◌, ℕ, List, map, take}
 use Rattle.std.specs.List.{range_with_len}
 use Rattle.table_core.specs.declared.cell.Cell.{Cell}
 use Rattle.row_blocks.specs.Blocks.{BlockView, row_at}
-use Rattle.top_rows.specs.Rows.{Numbered}
+use Rattle.query_meaning.specs.Rows.{Numbered}
 
 -- a row of a block whose first row has this number
 abbrev pub numbered_at : ℕ → BlockView → ℕ → Numbered Cell

@@ -1,5 +1,3 @@
-pub mod Rows
 pub mod Standing
 pub mod Top
-pub mod Text
 pub mod Blocks

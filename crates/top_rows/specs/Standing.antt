@@ -7,13 +7,13 @@ use Rattle.std.specs.declared.cmp.Ordering.{Ordering}
 use Rattle.std.specs.declared.cmp.Ordering.TheVariants.{Less, Greater}
 use Rattle.table_core.specs.declared.cell.Cell.{Cell}
 use Rattle.table_core.specs.Cell.{cell_cmp}
-use Rattle.agg_groups.specs.Cells.{codes}
-use Rattle.agg_groups.specs.Meaning.{cell}
-use Rattle.top_rows.specs.declared.order.Order.{Order}
+use Rattle.query_meaning.specs.Cells.{codes}
+use Rattle.query_meaning.specs.Meaning.{cell}
+use Rattle.query_meaning.specs.declared.order.Order.{Order}
 use Rattle.top_rows.specs.declared.standing.Place.{Place}
 use Rattle.top_rows.specs.declared.standing.Place.TheVariants.{Up, Down}
 use Rattle.top_rows.specs.declared.standing.Standing.{Standing}
-use Rattle.top_rows.specs.Rows.{Numbered}
+use Rattle.query_meaning.specs.Rows.{Numbered}
 
 -- how two places stand
 abbrev pub place_cmp : Place → Place → Ordering

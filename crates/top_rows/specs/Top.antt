@@ -2,9 +2,9 @@
 use Rattle.std.specs.Prelude.{◌≤◌, false, ℕ, [], ◌∷◌, length, ◌≡◌, List, IsPermutation}
 use Rattle.std.specs.Ordering.{is_lt}
 use Rattle.table_core.specs.declared.cell.Cell.{Cell}
-use Rattle.agg_groups.specs.Cells.{codes}
-use Rattle.top_rows.specs.declared.order.Order.{Order}
-use Rattle.top_rows.specs.Rows.{row_cmp, RowQuery, Numbered, AreDistinct, first_rows}
+use Rattle.query_meaning.specs.Cells.{codes}
+use Rattle.query_meaning.specs.declared.order.Order.{Order}
+use Rattle.query_meaning.specs.Rows.{row_cmp, RowQuery, Numbered, AreDistinct, first_rows}
 
 -- what is kept: the plan, and numbered rows in order
 pub record Kept : Type 0 where

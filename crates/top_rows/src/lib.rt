@@ -7,14 +7,13 @@
 //!     let rows = top.finish()?;                         // equal ones by their numbers
 #![tactic(auto)]
 
-mod order;
-mod plan;
+mod laws;
 mod standing;
 mod text;
 mod top;
 
 pub use agg_groups::Rows as Picked;
-pub use order::{Order, one_order};
-pub use plan::RowPlan;
+pub use laws::one_order;
+pub use query_meaning::{Order, RowPlan};
 pub use text::picked_text;
 pub use top::TopRows;

@@ -1,13 +1,13 @@
 // Where a row stands among others.
 ghost use Rattle.std.specs.Prelude.{◌≡◌, ◌<◌, IfOk, if◌then◌else◌};
 ghost use Rattle.std.specs.Ordering.{is_lt, ordering_then, nat_cmp};
-ghost use Rattle.agg_groups.specs.Cells.{codes};
-ghost use Rattle.agg_groups.specs.Meaning as meaning;
+ghost use Rattle.query_meaning.specs.Cells.{codes};
+ghost use Rattle.query_meaning.specs.Meaning as meaning;
 ghost use Rattle.row_blocks.specs.Blocks.{row_at};
-ghost use Rattle.top_rows.specs.Rows as rows;
+ghost use Rattle.query_meaning.specs.Rows as rows;
 ghost use Rattle.top_rows.specs.Standing as spec;
 
-use crate::order::Order;
+use query_meaning::Order;
 use row_blocks::Block;
 use std::alloc::{AllocError, Global};
 use std::cmp::{Ordering, Reverse};

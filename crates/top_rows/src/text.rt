@@ -2,7 +2,7 @@
 ghost use Rattle.std.specs.Prelude.{◌≡◌, ◌≤◌, ◌<◌, length, map, All, IfOk};
 ghost use Rattle.table_core.specs.Value.{places_of};
 ghost use Rattle.table_core.specs.Answer.{AreCellsOf, IsColumn, answer, kinds_of, values_of};
-ghost use Rattle.top_rows.specs.Text as spec;
+ghost use Rattle.query_meaning.specs.RowText as spec;
 
 use crate::Picked;
 use std::alloc::{AllocError, Global};

@@ -2,20 +2,19 @@
 ghost use Rattle.std.specs.Prelude.{◌≡◌, ◌<◌, ◌≤◌, ◌+◌, ◌++◌, ◌∷◌, ℕ, List, [], length, map, take, false, All, OnOk, OnErr, IfOk, IfErr, IsOk};
 ghost use Rattle.std.specs.Bool.{OnTrue, OnFalse};
 ghost use Rattle.table_core.specs.declared.cell.Cell.{Cell};
-ghost use Rattle.agg_groups.specs.Cells.{codes};
-ghost use Rattle.agg_groups.specs.Meaning.{cell};
+ghost use Rattle.query_meaning.specs.Cells.{codes};
+ghost use Rattle.query_meaning.specs.Meaning.{cell};
 ghost use Rattle.table_core.specs.Lists.{lists};
 ghost use Rattle.row_blocks.specs.Blocks.{row_at};
 ghost use Rattle.row_blocks.specs.Chosen.{chosen as chosen_rows};
 ghost use Rattle.top_rows.specs.Blocks.{HoldsInPart, numbered_rows};
-ghost use Rattle.top_rows.specs.Rows.{Numbered, AreApart, AreDistinct, has_number, insert_row, rows_meaning};
+ghost use Rattle.query_meaning.specs.Rows.{Numbered, AreApart, AreDistinct, has_number, insert_row, rows_meaning};
 ghost use Rattle.top_rows.specs.Standing.{AreKeyed, numbered};
 ghost use Rattle.top_rows.specs.Top.{IsBehind, Kept, Stands, StandsInSomeOrder};
 
 use crate::Picked;
-use crate::order::Order;
-use crate::plan::RowPlan;
 use crate::standing::{Standing, cell_at, is_before, is_before_in, places_of, standing_order};
+use query_meaning::{Order, RowPlan};
 use row_blocks::{Block, is_chosen};
 use std::alloc::{AllocError, Global};
 use std::collections::BTreeMap;

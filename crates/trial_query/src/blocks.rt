@@ -1,6 +1,6 @@
 // Groups with the chosen rows of blocks are those with each chosen row in turn.
 ghost use Rattle.std.specs.Prelude.{◌≡◌, ◌≤◌, ◌+◌, OnOk};
-ghost use Rattle.agg_groups.specs.Groups.{NamesPlaces};
+ghost use Rattle.query_meaning.specs.Places.{NamesPlaces};
 
 use crate::fitting::{are_rows, items_in, keys_in};
 use crate::groups::empty;

@@ -3,7 +3,7 @@ ghost use Rattle.std.specs.Prelude.{◌≡◌, ◌<◌, ◌≤◌, All, IfOk, le
 ghost use Rattle.std.specs.Bool.{OnTrue};
 ghost use Rattle.filter_zones.specs.Truth as truth;
 ghost use Rattle.filter_zones.specs.Truths.{FitsBlock};
-ghost use Rattle.agg_groups.specs.Running.{IsInRow};
+ghost use Rattle.query_meaning.specs.Places.{IsInRow};
 ghost use Rattle.table_core.specs.Value.{places_of};
 
 use agg_groups::Item;

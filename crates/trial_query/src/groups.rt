@@ -1,7 +1,7 @@
 // What no clause says: the worked answers, and that each call finds memory.
 ghost use Rattle.std.specs.Prelude.{◌≡◌, ◌≤◌, ◌+◌, All, length, OnOk, IfOk};
 ghost use Rattle.table_core.specs.Value.{places_of};
-ghost use Rattle.agg_groups.specs.Groups.{NamesPlaces};
+ghost use Rattle.query_meaning.specs.Places.{NamesPlaces};
 
 use crate::fitting::{are_rows, items_in, keys_in, one_price};
 use agg_groups::{FinishFault, Groups, Item, Rows, rows_text};

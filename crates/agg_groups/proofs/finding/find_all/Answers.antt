@@ -4,8 +4,8 @@ use Rattle.std.specs.Prelude.{◌||◌, Some, is_some}
 use Rattle.std.proofs.lemmas.Bool.{cases_Bool, eqb-true, eqb-false, false≢true}
 use Rattle.std.proofs.lemmas.List.{get_or-set_same, get_or-set_other, length-set}
 use Rattle.row_blocks.specs.Blocks.{row_at}
-use Rattle.agg_groups.specs.Cells.{codes}
-use Rattle.agg_groups.specs.Meaning.{key_of}
+use Rattle.query_meaning.specs.Cells.{codes}
+use Rattle.query_meaning.specs.Meaning.{key_of}
 use Rattle.agg_groups.specs.Table.{AreSound, Placed, has_key, place_at}
 use Rattle.agg_groups.proofs.Grown.{grown_more, named_more, or_assoc, place_kept, still_known}
 use Rattle.agg_groups.proofs.Keys.{has-push}

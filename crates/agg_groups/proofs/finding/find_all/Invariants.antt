@@ -3,8 +3,8 @@ use Rattle.std.specs.Prelude.{◌||◌, Some, is_some, slice_index_or}
 use Rattle.std.specs.Int.{bit_at}
 use Rattle.table_core.specs.declared.cell.Cell.{Cell}
 use Rattle.row_blocks.specs.Blocks.{row_at}
-use Rattle.agg_groups.specs.Cells.{codes}
-use Rattle.agg_groups.specs.Meaning.{key_of}
+use Rattle.query_meaning.specs.Cells.{codes}
+use Rattle.query_meaning.specs.Meaning.{key_of}
 use Rattle.agg_groups.specs.Table.{HasGrown, IsReady, StaySound, has_key, place_at}
 use Rattle.agg_groups.proofs.Placing.{first_chosen}
 use Rattle.agg_groups.proofs.finding.find_all.Given as goal

@@ -2,8 +2,8 @@ use Rattle.std.proofs.Common.{◌≡◌, ◌∙◌, ◌∷◌, [], sym, ap, subs
 use Rattle.std.specs.Prelude.{Option, Some}
 use Rattle.std.proofs.lemmas.List.{with_items_is}
 use Rattle.row_blocks.specs.Blocks.{row_at}
-use Rattle.agg_groups.specs.Cells.{codes}
-use Rattle.agg_groups.specs.Meaning.{key_of}
+use Rattle.query_meaning.specs.Cells.{codes}
+use Rattle.query_meaning.specs.Meaning.{key_of}
 use Rattle.agg_groups.specs.Table.{AreMet, place_at}
 use Rattle.agg_groups.specs.declared.met.Met.{Met}
 use Rattle.agg_groups.proofs.Seen.{place_there}

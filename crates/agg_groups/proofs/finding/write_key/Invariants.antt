@@ -1,7 +1,7 @@
 use Rattle.std.proofs.Common.{◌≡◌, ◌++◌, take, drop, map}
 use Rattle.row_blocks.specs.Blocks.{row_at}
-use Rattle.agg_groups.specs.Cells.{codes}
-use Rattle.agg_groups.specs.Meaning.{cell}
+use Rattle.query_meaning.specs.Cells.{codes}
+use Rattle.query_meaning.specs.Meaning.{cell}
 use Rattle.agg_groups.proofs.finding.write_key.Given as goal
 
 abbrev pub invariant-loop-i : goal.invariant-loop-i

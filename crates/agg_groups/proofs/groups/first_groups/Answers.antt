@@ -1,7 +1,7 @@
 use Rattle.std.proofs.Common.{◌∙◌, [], sym, length, rules}
 use Rattle.std.proofs.lemmas.Bool.{eqb-true}
-use Rattle.agg_groups.specs.Cells.{codes}
-use Rattle.agg_groups.specs.Meaning.{key_of}
+use Rattle.query_meaning.specs.Cells.{codes}
+use Rattle.query_meaning.specs.Meaning.{key_of}
 use Rattle.agg_groups.proofs.Grown.{ready_none}
 use Rattle.agg_groups.proofs.Stands.{first_place, first_sound}
 use Rattle.agg_groups.proofs.groups.first_groups.Goals as goal

@@ -2,8 +2,8 @@ use Rattle.std.proofs.Common.{◌∙◌, sym, ap, ◌==◌}
 use Rattle.std.specs.Prelude.{if◌then◌else◌}
 use Rattle.std.specs.Int.{bit_at}
 use Rattle.row_blocks.specs.Lanes.{lane_cell}
-use Rattle.agg_groups.specs.Cells.{codes}
-use Rattle.agg_groups.specs.Meaning as meaning
+use Rattle.query_meaning.specs.Cells.{codes}
+use Rattle.query_meaning.specs.Meaning as meaning
 use Rattle.agg_groups.proofs.Columns.{greatest-more}
 use Rattle.agg_groups.proofs.lanes.greatest_of.Goals as goal
 

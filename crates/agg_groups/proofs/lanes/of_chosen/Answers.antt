@@ -7,12 +7,13 @@ use Rattle.row_blocks.specs.declared.lane.Lane.{Lane}
 use Rattle.row_blocks.specs.Blocks.{lane_at}
 use Rattle.row_blocks.specs.Chosen.{chosen}
 use Rattle.row_blocks.specs.Lanes.{is_null_at}
-use Rattle.agg_groups.specs.declared.item.Item.{Item}
+use Rattle.query_meaning.specs.declared.item.Item.{Item}
 use Rattle.agg_groups.specs.declared.running.Running.TheVariants as running
 use Rattle.agg_groups.specs.Blocks.{cells_in, chosen_in}
-use Rattle.agg_groups.specs.Cells.{codes}
-use Rattle.agg_groups.specs.Meaning as meaning
-use Rattle.agg_groups.specs.Running.{running_of, IsInRow}
+use Rattle.query_meaning.specs.Cells.{codes}
+use Rattle.query_meaning.specs.Meaning as meaning
+use Rattle.agg_groups.specs.Running.{running_of}
+use Rattle.query_meaning.specs.Places.{IsInRow}
 use Rattle.agg_groups.proofs.Columns.{count-values, fewer-values, ones-block, values-chosen}
 use Rattle.agg_groups.proofs.lanes.of_chosen.Goals as goal
 

@@ -6,7 +6,7 @@ use Rattle.std.proofs.lemmas.Int.{to_z-of_z}
 use Rattle.row_blocks.specs.Lanes.{lane_cell}
 use Rattle.row_blocks.specs.Chosen.{chosen}
 use Rattle.agg_groups.specs.Blocks.{cells_in}
-use Rattle.agg_groups.specs.Cells.{int_of}
+use Rattle.query_meaning.specs.Cells.{int_of}
 use Rattle.agg_groups.proofs.Columns.{total-more}
 use Rattle.agg_groups.proofs.lanes.total_of.Goals as goal
 

@@ -1,8 +1,8 @@
 use Rattle.std.proofs.Common.{◌≡◌, ◌*◌, ◌^◌, length}
 use Rattle.std.specs.Prelude.{neg_ℤ, pos, ◌≤ℤ◌}
 use Rattle.row_blocks.specs.Chosen.{chosen}
-use Rattle.agg_groups.specs.Cells.{codes}
-use Rattle.agg_groups.specs.Meaning as meaning
+use Rattle.query_meaning.specs.Cells.{codes}
+use Rattle.query_meaning.specs.Meaning as meaning
 use Rattle.agg_groups.specs.Blocks.{cells_in}
 use Rattle.agg_groups.proofs.lanes.total_of.Given as goal
 

@@ -1,5 +1,5 @@
 use Rattle.std.proofs.Common.{◌≡◌, ◌∙◌, sym, ap, subst, List, length, rules, None}
-use Rattle.agg_groups.specs.Meaning.{or_else}
+use Rattle.query_meaning.specs.Meaning.{or_else}
 use Rattle.agg_groups.specs.Running.{over_shown}
 use Rattle.table_core.specs.Lists.{lists}
 use Rattle.agg_groups.specs.Table.{AreBelow, first_over, seen, plain_places, values_at}

@@ -7,7 +7,7 @@ use Rattle.piece_format.specs.Shape.{TableShape, rows_in}
 use Rattle.row_blocks.specs.Blocks.{row_at}
 use Rattle.row_blocks.proofs.Rows.{length-row}
 use Rattle.top_rows.specs.Blocks.{numbered_rows}
-use Rattle.top_rows.specs.Rows.{Numbered}
+use Rattle.query_meaning.specs.Rows.{Numbered}
 use Rattle.query_gather.specs.Partial.{MayJoin, Stands, matching}
 use Rattle.frame_rows.specs.declared.given.Given.{Given}
 use Rattle.frame_rows.specs.Rows.{FitColumns, HasCellsOf}

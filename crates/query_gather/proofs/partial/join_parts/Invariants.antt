@@ -1,7 +1,7 @@
 use Rattle.std.specs.Prelude.{◌≤◌, ◌+◌, ◌++◌, List, length, All}
 use Rattle.table_core.specs.declared.cell.Cell.{Cell}
 use Rattle.table_sets.specs.declared.limits.TheConstants.{MOST_ROWS}
-use Rattle.top_rows.specs.Rows.{Numbered}
+use Rattle.query_meaning.specs.Rows.{Numbered}
 use Rattle.query_gather.specs.Partial.{IsAlike, MayJoinAll, StandForEach, Stands, joined, row_count, rows_of_all}
 use Rattle.query_gather.proofs.Joining.{IsPartly}
 use Rattle.query_gather.proofs.partial.join_parts.Given as goal

@@ -1,5 +1,5 @@
 use Rattle.std.proofs.Common.{◌≡◌, length}
-use Rattle.agg_groups.specs.Meaning.{first_some}
+use Rattle.query_meaning.specs.Meaning.{first_some}
 use Rattle.sql_bind.specs.Refusals.{plain_outside}
 use Rattle.sql_bind.proofs.judging.first_outside.Given as goal
 

@@ -1,7 +1,7 @@
 use Rattle.std.proofs.lemmas.List.Elements.{recursion_from_All}
 use Rattle.table_core.specs.Dict.{Rises}
 use Rattle.table_core.specs.declared.cell.Cell.{Cell}
-use Rattle.top_rows.specs.Rows.{Numbered}
+use Rattle.query_meaning.specs.Rows.{Numbered}
 use Rattle.sql_bind.specs.Texts.{AreCellsOf}
 use Rattle.sql_bind.proofs.Groups.{same_meaning, same_overflow}
 use Rattle.sql_bind.proofs.Firsts.{same_first_rows}

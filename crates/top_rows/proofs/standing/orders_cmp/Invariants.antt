@@ -1,6 +1,6 @@
 use Rattle.std.proofs.Common.{◌≡◌, drop}
-use Rattle.agg_groups.specs.Cells.{codes}
-use Rattle.top_rows.specs.Rows as rows
+use Rattle.query_meaning.specs.Cells.{codes}
+use Rattle.query_meaning.specs.Rows as rows
 use Rattle.top_rows.proofs.standing.orders_cmp.Given as goal
 
 abbrev pub invariant-loop-order : goal.invariant-loop-order

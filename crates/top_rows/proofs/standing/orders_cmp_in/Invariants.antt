@@ -1,7 +1,7 @@
 use Rattle.std.proofs.Common.{◌≡◌, drop}
-use Rattle.agg_groups.specs.Cells.{codes}
+use Rattle.query_meaning.specs.Cells.{codes}
 use Rattle.row_blocks.specs.Blocks.{row_at}
-use Rattle.top_rows.specs.Rows as rows
+use Rattle.query_meaning.specs.Rows as rows
 use Rattle.top_rows.proofs.standing.orders_cmp_in.Given as goal
 
 abbrev pub invariant-loop-order : goal.invariant-loop-order

@@ -1,6 +1,6 @@
 use Rattle.std.proofs.Common.{◌≡◌, ◌∙◌, ◌++◌, ◌∷◌, [], List, ap, subst, refl, rules, false}
 use Rattle.table_core.specs.declared.cell.Cell.{Cell}
-use Rattle.top_rows.specs.Rows.{has_number}
+use Rattle.query_meaning.specs.Rows.{has_number}
 use Rattle.top_rows.specs.Standing.{Entry, numbered}
 use Rattle.top_rows.specs.Top.{Stands}
 use Rattle.top_rows.proofs.Before.{Row}

@@ -1,7 +1,7 @@
 use Rattle.std.proofs.Common.{◌≡◌, ◌++◌, map}
 use Rattle.table_core.specs.Lists.{lists}
-use Rattle.agg_groups.specs.Cells.{codes}
-use Rattle.agg_groups.specs.Meaning.{cell}
+use Rattle.query_meaning.specs.Cells.{codes}
+use Rattle.query_meaning.specs.Meaning.{cell}
 use Rattle.top_rows.specs.Standing.{numbered}
 use Rattle.top_rows.proofs.Before.{Row}
 use Rattle.top_rows.proofs.top.answer.Given as goal

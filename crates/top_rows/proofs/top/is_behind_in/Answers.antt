@@ -2,9 +2,9 @@ use Rattle.std.proofs.Common.{◌≡◌, ◌∙◌, List, length, sym, ap, arith
 use Rattle.std.specs.Ordering.{is_lt}
 use Rattle.std.proofs.lemmas.Bool.{false≢true}
 use Rattle.table_core.specs.declared.cell.Cell.{Cell}
-use Rattle.agg_groups.specs.Cells.{codes}
+use Rattle.query_meaning.specs.Cells.{codes}
 use Rattle.row_blocks.specs.Blocks.{row_at}
-use Rattle.top_rows.specs.Rows.{row_cmp}
+use Rattle.query_meaning.specs.Rows.{row_cmp}
 use Rattle.top_rows.specs.Standing.{Entry}
 use Rattle.top_rows.proofs.Before.{Row}
 use Rattle.top_rows.proofs.Entries.{before_none_at, changes_nothing, keyed_at, unless, when}

@@ -1,7 +1,7 @@
 use Rattle.std.proofs.Common.{◌∙◌, sym, ap, subst}
-use Rattle.agg_groups.specs.Cells.{codes}
+use Rattle.query_meaning.specs.Cells.{codes}
 use Rattle.top_rows.specs.declared.standing.Standing.{Standing}
-use Rattle.top_rows.specs.Rows.{insert_row}
+use Rattle.query_meaning.specs.Rows.{insert_row}
 use Rattle.top_rows.specs.Standing.{AreKeyed, numbered, places_of}
 use Rattle.top_rows.proofs.Entries.{inserted, inserted_keyed}
 use Rattle.top_rows.proofs.top.put.Goals as goal

@@ -3,8 +3,8 @@ use Rattle.std.specs.Prelude.{vec_len}
 use Rattle.std.proofs.lemmas.Bool.{eqb-true}
 use Rattle.table_core.specs.declared.cell.Cell.{Cell}
 use Rattle.agg_groups.specs.Blocks.{chosen_in}
-use Rattle.agg_groups.specs.Cells.{codes}
-use Rattle.agg_groups.specs.Meaning.{key_of}
+use Rattle.query_meaning.specs.Cells.{codes}
+use Rattle.query_meaning.specs.Meaning.{key_of}
 use Rattle.agg_groups.specs.Groups.{Kept, IsKnown, KnowsAll, Stands}
 use Rattle.agg_groups.proofs.Columns.{ones-block}
 use Rattle.agg_groups.proofs.groups.Groups.add_block.Goals as goal

@@ -1,10 +1,10 @@
 use Rattle.std.proofs.Common.{◌≡◌, ◌∙◌, ◌+◌, sym, ap, subst, List, ℕ, length, set, All, arith}
 use Rattle.std.specs.Prelude.{Contains}
 use Rattle.table_core.specs.declared.cell.Cell.{Cell}
-use Rattle.agg_groups.specs.declared.item.Item.{Item}
+use Rattle.query_meaning.specs.declared.item.Item.{Item}
 use Rattle.agg_groups.specs.declared.running.Running.{Running}
-use Rattle.agg_groups.specs.Cells.{codes}
-use Rattle.agg_groups.specs.Meaning.{key_of}
+use Rattle.query_meaning.specs.Cells.{codes}
+use Rattle.query_meaning.specs.Meaning.{key_of}
 use Rattle.agg_groups.specs.Running.{HasRoom, nexts}
 use Rattle.agg_groups.specs.Groups.{Kept, IsKnown, Stands}
 use Rattle.agg_groups.specs.Table.{IsPlaceFor, IsReady, AreSound, names, values_at}

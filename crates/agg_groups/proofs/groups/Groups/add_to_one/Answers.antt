@@ -2,11 +2,11 @@ use Rattle.std.proofs.Common.{◌≡◌, ◌∙◌, ◌+◌, ◌++◌, [], sym, 
 use Rattle.std.specs.Prelude.{Contains, count_ones}
 use Rattle.std.proofs.lemmas.List.{length-map}
 use Rattle.table_core.specs.declared.cell.Cell.{Cell}
-use Rattle.agg_groups.specs.declared.item.Item.{Item}
+use Rattle.query_meaning.specs.declared.item.Item.{Item}
 use Rattle.agg_groups.specs.declared.running.Running.{Running}
 use Rattle.agg_groups.specs.Blocks.{chosen_in}
-use Rattle.agg_groups.specs.Cells.{codes}
-use Rattle.agg_groups.specs.Meaning.{key_of}
+use Rattle.query_meaning.specs.Cells.{codes}
+use Rattle.query_meaning.specs.Meaning.{key_of}
 use Rattle.agg_groups.specs.Running.{HasRoom, joins, running_of, runnings}
 use Rattle.agg_groups.specs.Groups.{Kept, IsKnown, Stands, groups_of}
 use Rattle.agg_groups.specs.Table.{IsPlaceFor, IsReady, AreSound, names, values_at}

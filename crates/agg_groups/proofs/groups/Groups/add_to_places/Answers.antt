@@ -1,10 +1,10 @@
 use Rattle.std.proofs.Common.{◌+◌, sym, ap, subst, List, ℕ, length, length-append, get_or, map, All, arith}
 use Rattle.std.specs.Prelude.{Contains, count_ones}
 use Rattle.row_blocks.specs.Blocks.{row_at}
-use Rattle.agg_groups.specs.declared.item.Item.{Item}
+use Rattle.query_meaning.specs.declared.item.Item.{Item}
 use Rattle.agg_groups.specs.Blocks.{chosen_in}
-use Rattle.agg_groups.specs.Cells.{codes}
-use Rattle.agg_groups.specs.Meaning.{key_of}
+use Rattle.query_meaning.specs.Cells.{codes}
+use Rattle.query_meaning.specs.Meaning.{key_of}
 use Rattle.agg_groups.specs.Groups.{Kept, KnowsAll, Stands}
 use Rattle.agg_groups.specs.Table.{AddsRows, AreFound, AreSound, HasGrown, HasNamed, IsReady, names, seen}
 use Rattle.agg_groups.proofs.Columns.{few-chosen, ones-block}

@@ -1,8 +1,8 @@
 use Rattle.std.proofs.Common.{◌≡◌, ◌∙◌, sym, ap, subst, rules}
 use Rattle.std.specs.Prelude.{Some, None}
 use Rattle.agg_groups.specs.declared.rows.FinishFault.{FinishFault}
-use Rattle.agg_groups.specs.Cells.{codes}
-use Rattle.agg_groups.specs.Meaning.{overflow}
+use Rattle.query_meaning.specs.Cells.{codes}
+use Rattle.query_meaning.specs.Meaning.{overflow}
 use Rattle.agg_groups.specs.Groups.{Kept, IsFault}
 use Rattle.agg_groups.specs.Table.{first_over, result_rows, seen}
 use Rattle.agg_groups.proofs.Shows.{rows-groups_of, over-groups_of}

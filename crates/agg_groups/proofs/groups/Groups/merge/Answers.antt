@@ -1,6 +1,6 @@
 use Rattle.std.proofs.Common.{◌≡◌, ◌∙◌, ◌+◌, sym, ap, subst, List, length, length-append, arith}
 use Rattle.table_core.specs.declared.cell.Cell.{Cell}
-use Rattle.agg_groups.specs.declared.item.Item.{Item}
+use Rattle.query_meaning.specs.declared.item.Item.{Item}
 use Rattle.agg_groups.specs.Groups.{Kept, Stands, groups_of}
 use Rattle.agg_groups.specs.Table.{AreSound, at, merged, seen}
 use Rattle.agg_groups.proofs.Grown.{ready_on}

@@ -1,5 +1,5 @@
 use Rattle.std.proofs.Common.{refl, subst, List, ℕ}
-use Rattle.agg_groups.specs.declared.item.Item.{Item}
+use Rattle.query_meaning.specs.declared.item.Item.{Item}
 use Rattle.agg_groups.specs.Table.{IsFirst}
 use Rattle.agg_groups.proofs.Stands.{groups_first}
 use Rattle.agg_groups.proofs.groups.Groups.new.Goals as goal

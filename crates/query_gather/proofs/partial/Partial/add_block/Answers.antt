@@ -2,7 +2,7 @@ use Rattle.std.proofs.Common.{◌++◌, List, subst, arith}
 use Rattle.std.proofs.lemmas.Result.{on_err_weaker, on_ok_weaker}
 use Rattle.table_core.specs.declared.cell.Cell.{Cell}
 use Rattle.top_rows.specs.Blocks.{HoldsInPart}
-use Rattle.top_rows.specs.Rows.{Numbered}
+use Rattle.query_meaning.specs.Rows.{Numbered}
 use Rattle.query_gather.specs.Partial.{Stands}
 use Rattle.query_gather.proofs.Alike.{alike_fits, has_places}
 use Rattle.query_gather.proofs.Blocks.{chosen_matching}

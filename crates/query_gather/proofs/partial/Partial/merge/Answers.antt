@@ -3,7 +3,7 @@ use Rattle.std.specs.Prelude.{OnOk, Result}
 use Rattle.std.proofs.lemmas.Result.{on_ok_weaker}
 use Rattle.table_core.specs.declared.cell.Cell.{Cell}
 use Rattle.table_sets.specs.declared.memory.Memory.{Memory}
-use Rattle.top_rows.specs.Rows.{Numbered}
+use Rattle.query_meaning.specs.Rows.{Numbered}
 use Rattle.query_gather.specs.declared.partial.Partial.{Partial}
 use Rattle.query_gather.specs.declared.partial.Partial.TheVariants.{Groups, Top}
 use Rattle.query_gather.specs.Partial.{MayJoin, Stands}

@@ -1,6 +1,6 @@
 use Rattle.std.proofs.Common.{◌≡◌, ◌∙◌, ◌++◌, ◌∷◌, [], List, false, take, refl, ap, subst}
-use Rattle.agg_groups.specs.Cells.{codes}
-use Rattle.top_rows.specs.Rows.{has_number, insert_row}
+use Rattle.query_meaning.specs.Cells.{codes}
+use Rattle.query_meaning.specs.Rows.{has_number, insert_row}
 use Rattle.top_rows.specs.Standing.{numbered}
 use Rattle.top_rows.specs.Top.{Kept, Stands}
 use Rattle.top_rows.proofs.Before.{Row}

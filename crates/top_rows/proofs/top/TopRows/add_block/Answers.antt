@@ -5,7 +5,7 @@ use Rattle.table_core.specs.declared.cell.Cell.{Cell}
 use Rattle.row_blocks.specs.Chosen.{chosen}
 use Rattle.row_blocks.proofs.Rows.{length-row}
 use Rattle.top_rows.specs.Blocks.{HoldsInPart, numbered_at, numbered_rows}
-use Rattle.top_rows.specs.Rows.{has_number}
+use Rattle.query_meaning.specs.Rows.{has_number}
 use Rattle.top_rows.specs.Top.{IsBehind, Kept, Stands}
 use Rattle.top_rows.proofs.Before.{Row}
 use Rattle.top_rows.proofs.Firsts.{distinct-append}

@@ -2,7 +2,7 @@ use Rattle.std.proofs.Common.{◌≡◌, ◌+◌, ℕ, List, length}
 use Rattle.std.specs.Prelude.{All}
 use Rattle.row_blocks.specs.Chosen.{chosen}
 use Rattle.top_rows.specs.Blocks.{numbered_rows}
-use Rattle.top_rows.specs.Rows.{AreApart}
+use Rattle.query_meaning.specs.Rows.{AreApart}
 use Rattle.top_rows.specs.Top.{IsBehind, Stands}
 use Rattle.top_rows.proofs.Before.{Row}
 use Rattle.top_rows.proofs.Blocks.{IsAdded, IsSpared, chosen_on}

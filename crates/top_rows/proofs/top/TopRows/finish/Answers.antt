@@ -1,7 +1,7 @@
 use Rattle.std.proofs.Common.{◌∙◌, List, ℕ, map, ap}
 use Rattle.table_core.specs.declared.cell.Cell.{Cell}
-use Rattle.agg_groups.specs.Cells.{codes}
-use Rattle.agg_groups.specs.Meaning.{cell}
+use Rattle.query_meaning.specs.Cells.{codes}
+use Rattle.query_meaning.specs.Meaning.{cell}
 use Rattle.top_rows.specs.Standing.{numbered}
 use Rattle.top_rows.specs.Top.{Kept}
 use Rattle.top_rows.proofs.Before.{Row}

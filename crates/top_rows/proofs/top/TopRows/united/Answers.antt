@@ -1,5 +1,5 @@
 use Rattle.std.proofs.Common.{◌≡◌, ◌∙◌, ◌++◌, [], List, sym, ap, subst}
-use Rattle.top_rows.specs.Rows.{AreDistinct}
+use Rattle.query_meaning.specs.Rows.{AreDistinct}
 use Rattle.top_rows.specs.Standing.{numbered}
 use Rattle.top_rows.specs.Top.{Kept, Stands}
 use Rattle.top_rows.proofs.Before.{Row}

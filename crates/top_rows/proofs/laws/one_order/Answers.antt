@@ -1,6 +1,6 @@
 use Rattle.std.proofs.Common.{◌∙◌, sym}
 use Rattle.top_rows.proofs.Firsts.{permutation-sorted, rising-sorted, sorted-permutation, sorted-rising}
-use Rattle.top_rows.proofs.order.one_order.Goals as goal
+use Rattle.top_rows.proofs.laws.one_order.Goals as goal
 
 pub returns-clause-same : goal.returns-clause-same
 returns-clause-same c = permutation-sorted

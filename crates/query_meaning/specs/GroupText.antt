@@ -1,7 +1,7 @@
 -- In which columns the cells of result rows are read.
 use Rattle.std.specs.Prelude.{ℕ, List, map, Option, Some, None, slice_get}
-use Rattle.agg_groups.specs.declared.item.Item.{Item}
-use Rattle.agg_groups.specs.declared.item.Item.TheVariants.{CountAll, Count, Sum, Min, Max, Key}
+use Rattle.query_meaning.specs.declared.item.Item.{Item}
+use Rattle.query_meaning.specs.declared.item.Item.TheVariants.{CountAll, Count, Sum, Min, Max, Key}
 
 -- the column in which an item's cell is read: a count has none
 abbrev pub column_of : List ℕ → Item → Option ℕ

@@ -3,9 +3,9 @@ use Rattle.std.specs.Prelude.{◌≡◌, ℕ, ◌==◌, ◌||◌, Bool, true, fa
 use Rattle.std.specs.Ordering.{is_lt, ordering_then, nat_cmp}
 use Rattle.std.specs.declared.cmp.Ordering.{Ordering}
 use Rattle.std.specs.declared.cmp.Ordering.TheVariants.{Equal, Less}
-use Rattle.agg_groups.specs.Cells.{Cells}
-use Rattle.agg_groups.specs.Meaning.{cell}
-use Rattle.top_rows.specs.declared.order.Order.{Order}
+use Rattle.query_meaning.specs.Cells.{Cells}
+use Rattle.query_meaning.specs.Meaning.{cell}
+use Rattle.query_meaning.specs.declared.order.Order.{Order}
 
 -- what a rows query asks: the named columns, the orders, and how many rows
 pub record RowQuery : Type 0 where

@@ -1,6 +1,6 @@
 // What a rows query asks for.
 ghost use Rattle.std.specs.Prelude.{◌≡◌, IfOk};
-ghost use Rattle.top_rows.specs.Rows.{RowQuery};
+ghost use Rattle.query_meaning.specs.Rows.{RowQuery};
 
 use crate::order::Order;
 use std::alloc::Global;

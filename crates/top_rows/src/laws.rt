@@ -1,17 +1,9 @@
-// One order of a rows query.
+// What follows of rows in order.
 ghost use Rattle.std.specs.Prelude.{◌≡◌, List, IsPermutation};
 ghost use Rattle.table_core.specs.declared.cell.Cell.{Cell};
-ghost use Rattle.agg_groups.specs.Cells.{codes};
-ghost use Rattle.top_rows.specs.Rows.{AreDistinct, AreRising, Numbered, in_order};
-
-/// An order of rows: by the cells of a column, counted from 0.
-#[derive(Clone, Copy, Debug, PartialEq, Eq)]
-pub struct Order {
-    /// The column, counted from 0.
-    pub column: u32,
-    /// From great to small. NULL is smaller than all values, so it then stands last.
-    pub descending: bool,
-}
+ghost use Rattle.query_meaning.specs.Cells.{codes};
+ghost use Rattle.query_meaning.specs.declared.order.Order.{Order};
+ghost use Rattle.query_meaning.specs.Rows.{AreDistinct, AreRising, Numbered, in_order};
 
 /// The rows in order are the same rows, each stands before the next one, and no other rearrangement is so: a law on what
 /// "in order" means. It does nothing.

@@ -3,9 +3,9 @@ use Rattle.std.specs.Prelude.{ℕ, ◌+◌, ◌==◌, ◌^◌, Bool, not, ◌&&�
 use Rattle.std.specs.Ordering.{is_eq, is_lt, match_ordering}
 use Rattle.std.specs.Cmp.Lexicographic.{slice_cmp}
 use Rattle.std.specs.declared.cmp.Ordering.{Ordering}
-use Rattle.agg_groups.specs.declared.item.Item.{Item}
-use Rattle.agg_groups.specs.declared.item.Item.TheVariants.{CountAll, Count, Sum, Min, Max, Key}
-use Rattle.agg_groups.specs.Cells.{Cells}
+use Rattle.query_meaning.specs.declared.item.Item.{Item}
+use Rattle.query_meaning.specs.declared.item.Item.TheVariants.{CountAll, Count, Sum, Min, Max, Key}
+use Rattle.query_meaning.specs.Cells.{Cells}
 
 -- whether a total is a whole number of 64 bits
 abbrev pub fits : ℤ → Bool

@@ -1,0 +1,6 @@
+pub mod Cells
+pub mod Meaning
+pub mod GroupText
+pub mod Places
+pub mod Rows
+pub mod RowText
