@@ -16,7 +16,7 @@ ghost use Rattle.abm_policy.specs.Turns.{RunsOn, MayTurn};
 use crate::desk::{Desk, write};
 use crate::ticket::Ticket;
 use coop_outside::Depot;
-use relevance::Policy;
+use interest_book::Policy;
 use scan_story::{Entry, Origin, Why};
 use table_sets::Slots;
 

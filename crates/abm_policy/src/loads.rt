@@ -15,8 +15,7 @@ ghost use Rattle.abm_policy.specs.Turns.{MayTurn};
 use crate::desk::{Desk, write};
 use crate::ticket::Ticket;
 use coop_outside::Depot;
-use interest_book::Pieces;
-use relevance::Policy;
+use interest_book::{Pieces, Policy};
 use scan_story::{Entry, Origin};
 use table_sets::Slots;
 

@@ -14,7 +14,7 @@ ghost use Rattle.abm_policy.specs.Turns.{MayTurn, StandIn, row, row_of, Answers}
 use crate::desk::{Desk, write};
 use crate::turn::Turn;
 use coop_outside::Depot;
-use relevance::Policy;
+use interest_book::Policy;
 use scan_story::{Entry, Origin, Phase};
 use table_sets::Slots;
 

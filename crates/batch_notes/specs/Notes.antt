@@ -4,7 +4,7 @@ use Rattle.filter_zones.specs.Possible.{needed}
 use Rattle.filter_zones.specs.declared.zone.ChunkZones.{ChunkZones}
 use Rattle.sql_text.specs.Grammar.{QueryTree}
 use Rattle.sql_text.specs.Queries.{HasQuery}
-use Rattle.sql_text.specs.Writing.{query_text}
+use Rattle.sql_writing.specs.Writing.{query_text}
 use Rattle.sql_bind.specs.declared.plan.Plan.{Plan}
 use Rattle.batch_notes.specs.declared.note.Note.{Note}
 use Rattle.batch_notes.specs.Obstacles.{obstacles_of}

@@ -1,7 +1,7 @@
 -- The lines of a note.
 use Rattle.std.specs.Prelude.{◌+◌, ℕ, List, [], ◌∷◌, ◌++◌, codes, decimal, slice_index_or}
 use Rattle.std.specs.List.{flat_map}
-use Rattle.sql_text.specs.Writing.{name_text}
+use Rattle.sql_writing.specs.Writing.{name_text}
 use Rattle.table_core.specs.declared.schema.Column.{Column}
 use Rattle.table_core.specs.declared.schema.Kind.TheVariants.{Int}
 use Rattle.batch_notes.specs.declared.note.Note.{Note}

@@ -16,7 +16,8 @@ use crate::note::Note;
 use crate::parts::obstacles_of;
 use filter_zones::{ChunkZones, needed};
 use sql_bind::{Plan, StatementRefusal, plan_of};
-use sql_text::{Query, TextRefusal, one_query, read_query, write_query};
+use sql_text::{Query, TextRefusal, one_query, read_query};
+use sql_writing::write_query;
 use std::alloc::Global;
 use table_core::{Dict, MOST_CHUNKS, MOST_COLUMNS, MOST_PLACES, Memory, Schema};
 

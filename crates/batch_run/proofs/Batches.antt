@@ -20,7 +20,7 @@ use Rattle.sql_bind.specs.Reads.{ReadsItsColumns}
 use Rattle.query_gather.specs.declared.answer.Answer.{Answer}
 use Rattle.batch_plan.specs.declared.task.Task.{Task}
 use Rattle.batch_plan.specs.Scans.{Scan, needs, scans_from, scans_from_part}
-use Rattle.batch_run.specs.Came.{CameOf, IsNeedOf}
+use Rattle.batch_jobs.specs.Came.{CameOf, IsNeedOf}
 use Rattle.batch_answers.specs.Answering.{AnswersSome, AreAllJoinable, Came, IsStoppedFor}
 use Rattle.batch_answers.specs.Lost.{IsLostBy, stop_of}
 use Rattle.batch_answers.specs.Taken.{TookNeed}
@@ -93,10 +93,3 @@ module _ (o : Start) (told : Told) (z : TableShape) (zones : List ChunkZones) (w
         },
         all_answered none (place + parts) tasks (drop parts rs) left answers (omega (arith, long)) reads.1 split.2 both.1 answered.1,
       )
-
--- the numbers of needs that a setting may have
-pub numbers_within : (s : Setting) (ns : List Need) → AllByRecursion (IsNeed s) (map as_need ns) → All (λ (n : Need). (1 ≤ n.query) × (n.query ≤ 256)) ns
-numbers_within s ns each = All-from_recursion (λ (n : Need). (1 ≤ n.query) × (n.query ≤ 256)) ns (by ns each) where
-  by : (ms : List Need) → AllByRecursion (IsNeed s) (map as_need ms) → AllByRecursion (λ (n : Need). (1 ≤ n.query) × (n.query ≤ 256)) ms
-  by [] each = tt
-  by (m ∷ ms) each = (each.0.query, by ms each.1)

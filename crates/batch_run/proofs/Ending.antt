@@ -44,7 +44,7 @@ use Rattle.batch_plan.specs.Scans.{Scan, needs, scans}
 use Rattle.batch_plan.specs.Setting.{AreOptions, batch_setting}
 use Rattle.batch_plan.proofs.Planned.{some_queries}
 use Rattle.batch_answers.specs.Rows.{AreOfShape, FitsShape, IsPlanOfShape}
-use Rattle.batch_run.specs.Came.{CameOf, IsNeedOf}
+use Rattle.batch_jobs.specs.Came.{CameOf, IsNeedOf}
 use Rattle.batch_answers.specs.Whole.{IsWholeStory}
 use Rattle.batch_answers.specs.Answering.{AnswersSome, AreAllJoinable, Came}
 use Rattle.batch_answers.specs.Lost.{IsLostBy, Tells, stop_of}

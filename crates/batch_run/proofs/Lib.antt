@@ -16,8 +16,6 @@ mod Coming
 mod Resting
 mod Serving
 mod Seats
-mod Sorting
-mod Placing
 mod Endings
 mod Planned
 mod Finishing

@@ -43,7 +43,7 @@ use Rattle.batch_plan.specs.declared.task.Task.{Task}
 use Rattle.batch_plan.specs.Scans.{scan_number, scans_from_part}
 use Rattle.batch_plan.proofs.Rises.{is_rising, rises_to}
 use Rattle.batch_answers.specs.Rows.{AreOfShape, FitsShape, chunk_numbers, chunk_rows, numbers_of_chunks, rows_of_chunks}
-use Rattle.batch_run.specs.Came.{CameOf}
+use Rattle.batch_jobs.specs.Came.{CameOf}
 use Rattle.batch_answers.specs.Answering.{AreApart, AreJoinable, Came, IsAnswerOf, first_cause}
 use Rattle.batch_answers.specs.Lost.{cause_from, or_first, stop_of}
 use Rattle.batch_answers.specs.Taken.{TookNeed}

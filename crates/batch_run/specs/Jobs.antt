@@ -1,20 +1,14 @@
--- The scans of a batch as the workers have them.
+-- Jobs that may be done.
 use Rattle.std.specs.Prelude.{◌≡◌, ◌==◌, ℕ, List, All, Some, filter, map}
 use Rattle.scan_story.specs.declared.setting.Setting.{Setting}
 use Rattle.scan_story.specs.Setting.{worker_of}
 use Rattle.story_laws.specs.Lists.{NoneTwice}
 use Rattle.piece_format.specs.Shape.{TableShape}
 use Rattle.cscan.specs.Scans.{HasColumns}
-use Rattle.batch_plan.specs.Scans.{Scan}
 use Rattle.batch_run.specs.Parts.{ReadsPlan}
 use Rattle.batch_answers.specs.Rows.{IsPlanOfShape}
-use Rattle.batch_run.specs.declared.job.Job.{Job}
-
--- the job is to run the scan
-pub record IsJobOf (k : Scan) (j : Job) : Type 0 where
-  pub number : j.number ≡ k.number
-  pub worker : j.worker ≡ k.worker
-  pub plan : j.plan.now ≡ k.plan
+use Rattle.batch_jobs.specs.declared.job.Job.{Job}
+use Rattle.batch_jobs.specs.Jobs.{numbers_of}
 
 -- a job that may be done: its number's need names its worker and the columns of its plan, which is over tables of the shape
 pub record IsJob (s : Setting) (z : TableShape) (j : Job) : Type 0 where
@@ -23,15 +17,7 @@ pub record IsJob (s : Setting) (z : TableShape) (j : Job) : Type 0 where
   pub reads : ReadsPlan s j.number j.plan.now
   pub plan : IsPlanOfShape z j.plan.now
 
--- the numbers of jobs, in their order
-abbrev pub numbers_of : List Job → List ℕ
-numbers_of js = map (λ (j : Job). j.number) js
-
 -- each may be done, and no two have one number
 pub record AreJobs (s : Setting) (z : TableShape) (js : List Job) : Type 0 where
   pub each : All (IsJob s z) js
   pub apart : NoneTwice (numbers_of js)
-
--- the jobs of a worker, in their order
-abbrev pub jobs_on : ℕ → List Job → List Job
-jobs_on w js = filter (λ (j : Job). j.worker == w) js

@@ -1,9 +1,6 @@
-pub mod Gathered
 pub mod Parts
 pub mod Picked
-pub mod Came
 pub mod Jobs
-pub mod Lists
 pub mod Workers
 pub mod Crews
 pub mod Works

@@ -19,7 +19,7 @@ use Rattle.cscan.specs.Scans.{IsOver, IsScan, reads_column}
 use Rattle.batch_run.specs.declared.part.Unfinished.{Unfinished}
 use Rattle.batch_run.specs.declared.part.Unfinished.TheVariants as unfinished
 use Rattle.batch_answers.specs.Registering.{registered}
-use Rattle.batch_run.specs.Gathered.{Gathered}
+use Rattle.batch_jobs.specs.Gathered.{Gathered}
 
 -- the query reads just the columns that the plan names
 abbrev pub ReadsPlan : Setting → ℕ → Plan → Type 0

@@ -20,13 +20,13 @@ ghost use Rattle.batch_answers.specs.Tasks.{CanBeLoaded, IsPlanOfTable};
 
 use crate::picking::run_put;
 use crate::running::ScansEnd;
-use crate::setup::{Setup, set_up};
 use batch_answers::{BatchEnd, Ran, answer_all, note_all};
+use batch_jobs::{Setup, set_up};
 use batch_plan::{Options, Task};
 use coop_outside::Depot;
 use cscan::Gate;
 use csv_meaning::Loaded;
-use relevance::Policy;
+use interest_book::Policy;
 use std::alloc::Global;
 use std::sync::Wait;
 use std::thread::Threads;
@@ -110,20 +110,23 @@ pub fn run_batch<P: Policy, D: Depot + Send, T: Gate + Sync, R: Threads + Wait +
         Ok(setup) => setup,
         Err(_) => return Err((depot, BatchRefusal::Memory)),
     };
-    // No more threads make pieces than there are workers.
-    let threads = most_threads.min(options.workers.saturating_sub(1));
-    match put_pieces(rt, alloc, &setup.shape, &table, &mut depot, threads) {
-        Ok(()) => {}
-        Err(refusal) => return Err((depot, refusal)),
-    }
-    // What is answered comes from the depot.
-    let schema = table.into_schema();
     let Setup {
         shape,
         needs,
         mut answers,
         mut taken,
     } = setup;
+    // No more threads make pieces than there are workers.
+    let threads = most_threads.min(options.workers.saturating_sub(1));
+    match put_pieces(rt, alloc, &shape, &table, &mut depot, threads) {
+        Ok(()) => {}
+        Err(refusal) => {
+            answers.destroy_empty();
+            return Err((depot, refusal));
+        }
+    }
+    // What is answered comes from the depot.
+    let schema = table.into_schema();
     let end = run_put(
         rt,
         alloc,
@@ -142,7 +145,10 @@ pub fn run_batch<P: Policy, D: Depot + Send, T: Gate + Sync, R: Threads + Wait +
         depot,
     } = match end {
         Ok(end) => end,
-        Err((depot, _)) => return Err((depot, BatchRefusal::Memory)),
+        Err((depot, _)) => {
+            answers.destroy_empty();
+            return Err((depot, BatchRefusal::Memory));
+        }
     };
     answer_all(alloc, tasks.len(), options.parts, results, &mut answers);
     note_all(&mut taken, options.parts, &story);

@@ -14,15 +14,12 @@
 
 mod batch;
 mod crew;
-mod job;
-mod ordering;
 mod part;
 mod picking;
 mod rows;
 mod running;
 mod scanning;
 mod seating;
-mod setup;
 mod shop;
 mod worker;
 

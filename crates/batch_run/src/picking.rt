@@ -9,7 +9,7 @@ ghost use Rattle.piece_format.specs.Shape.{IsShape, chunks, frame_words, groups}
 ghost use Rattle.batch_plan.specs.Scans.{scans};
 ghost use Rattle.batch_plan.specs.Setting.{AreOptions};
 ghost use Rattle.batch_answers.specs.Rows.{IsPlanOfShape};
-ghost use Rattle.batch_run.specs.Came.{CameOf, IsNeedOf};
+ghost use Rattle.batch_jobs.specs.Came.{CameOf, IsNeedOf};
 ghost use Rattle.batch_answers.specs.Whole.{IsWholeStory};
 ghost use Rattle.batch_run.specs.Picked.{HoldsSomeTable, content_of};
 ghost use Rattle.batch_answers.specs.Registering.{RegistersInOrder};
@@ -19,8 +19,8 @@ use batch_plan::{Options, Task};
 use chunk_interest::Need;
 use coop_outside::Depot;
 use cscan::Gate;
+use interest_book::Policy;
 use piece_format::Shape;
-use relevance::Policy;
 use scan_story::Memory;
 use std::alloc::Global;
 use std::marker::Brand;

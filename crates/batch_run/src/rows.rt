@@ -4,16 +4,16 @@ ghost use Rattle.scan_story.specs.Counting.{has};
 ghost use Rattle.piece_format.specs.Shape.{rows_in};
 ghost use Rattle.query_gather.specs.Partial.{FitsPlan, row_count};
 ghost use Rattle.cscan.specs.Scans.{IsScan};
-ghost use Rattle.batch_run.specs.Gathered.{Gathered};
+ghost use Rattle.batch_jobs.specs.Gathered.{Gathered};
 ghost use Rattle.batch_run.specs.Parts.{ReadsPlan};
 ghost use Rattle.batch_answers.specs.Rows.{IsPlanOfShape};
 
 use coop_outside::Depot;
 use cscan::{CScan, Held};
 use frame_pool::Content;
+use interest_book::Policy;
 use piece_format::Shape;
 use query_gather::Partial;
-use relevance::Policy;
 use row_blocks::{Block, MOST_BLOCK_ROWS};
 use scan_story::Origin;
 use sql_bind::Plan;

@@ -1,11 +1,11 @@
 // What all workers of a batch share.
 
-use crate::job::Job;
 use abm_policy::Desk;
+use batch_jobs::Job;
 use baton::Baton;
 use coop_outside::Depot;
 use frame_pool::{Content, Pool};
-use relevance::Policy;
+use interest_book::Policy;
 use scan_story::Origin;
 
 /// What all workers of a batch share: the baton of the desk, the pool of frames, the scans to be run, and the gate.

@@ -1,5 +1,4 @@
 mod Keeps
 mod Endings
 pub mod Turns
-mod Writers
 pub mod Zips

@@ -2,4 +2,3 @@ pub mod Shares
 pub mod Rule
 pub mod Steps
 pub mod Passes
-pub mod Diaries

@@ -13,7 +13,6 @@
 
 mod baton;
 mod bell;
-pub mod example;
 mod line;
 mod lobby;
 mod pass;

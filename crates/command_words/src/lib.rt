@@ -14,6 +14,7 @@ mod limits;
 mod names;
 mod numbers;
 mod options;
+mod program_words;
 mod request;
 mod values;
 
@@ -24,5 +25,6 @@ pub use limits::{
 pub use names::{Batch, Table};
 pub use options::{options_of, scratch_of};
 pub use piece_format::Layout;
+pub use program_words::{all_words, behind_name};
 pub use request::Request;
 pub use scan_story::{Memory, PolicyName};

@@ -3,37 +3,24 @@
 //! output; the theorem is `run_boxed`'s.
 #![tactic(auto)]
 
-mod ending;
-mod words;
-
 ghost use Rattle.std.specs.Prelude.{◌≤◌, ◌^◌};
 ghost use Rattle.coop_outside.specs.Either.{any_gets};
 
-use crate::ending::end;
-use crate::words::{behind_name, stop_of};
+use command_words::{all_words, behind_name};
 use coop_outside::{AnyDepot, DiskShelf, StdoutSink};
 pub use coop_run::{BoxedEnd, Ended, PolicyRun, Settings, run, run_boxed, run_settings};
 use cscan::NoGate;
 use policy_box::Elevator;
 use policy_plain::{Attach, Normal};
 use relevance::{Policy, Relevance};
-use run_inputs::depot_of;
-use run_output::Stop;
+use run_inputs::{depot_of, stop_of};
+use run_promises::end;
+use run_stops::Stop;
 use std::alloc::AllocError;
 use std::hash::RandomState;
 use std::process::ExitCode;
 use std::sync::Wait;
 use std::thread::Threads;
-use std::{env, io};
-
-// All words of the command line, with the program's name.
-fn all_words(rt: &HostRuntime) -> io::Result<Vec<String>> {
-    let mut all = Vec::new(rt.alloc());
-    for word in env::args(rt)? {
-        all.push(word)?;
-    }
-    Ok(all)
-}
 
 // Runs the program with the four policies, and answers its status; or memory ran out for a box.
 fn run_with_four<R: Threads + Wait + Sync>(
@@ -65,9 +52,15 @@ fn run_on<R: Threads + Wait + Sync>(
     rt: HostRuntime,
     out: &mut StdoutSink<HostRuntime>,
 ) -> Result<u8, Stop> {
-    let all = all_words(&rt).map_err(stop_of)?;
+    let all = match all_words(&rt) {
+        Ok(all) => all,
+        Err(error) => return Err(stop_of(error)),
+    };
     let words = behind_name(&all);
-    let keys = RandomState::new(&rt).map_err(stop_of)?;
+    let keys = match RandomState::new(&rt) {
+        Ok(keys) => keys,
+        Err(error) => return Err(stop_of(error)),
+    };
     let depot = depot_of(rt.alloc(), rt, words)?;
     Ok(run_with_four(handle, rt, keys, words, depot, out)?)
 }

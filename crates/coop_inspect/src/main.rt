@@ -5,7 +5,8 @@
 
 mod words;
 
-use crate::words::{all_words, behind_name, unread};
+use crate::words::unread;
+use command_words::{all_words, behind_name};
 use coop_outside::{DiskShelf, StdoutSink};
 use inspect_calls::{StderrSink, inspect, say};
 use std::hash::RandomState;

@@ -2,7 +2,7 @@
 ghost use Rattle.std.specs.Prelude.{◌≡◌, ◌<◌, ◌≤◌, ◌+◌, ◌^◌, IfOk, None, Some, is_some, length, map};
 ghost use Rattle.command_words.specs.Limits.{IsWithinLimits};
 ghost use Rattle.command_words.specs.Views.{request_view};
-ghost use Rattle.run_output.specs.declared.stop.Stop.TheVariants as stop;
+ghost use Rattle.run_stops.specs.declared.stop.Stop.TheVariants as stop;
 ghost use Rattle.scan_story.specs.Causes.{Licensed};
 ghost use Rattle.scan_story.specs.Spent.{reads};
 ghost use Rattle.scan_story.specs.Views.{past};
@@ -20,7 +20,7 @@ use crate::next::run_next;
 use command_words::Request;
 use coop_outside::{Depot, Shelf};
 use cscan::Gate;
-use relevance::Policy;
+use interest_book::Policy;
 use run_decision::Output;
 use run_inputs::{Inputs, ReadTexts, read_inputs};
 use run_promises::{Compared, Made, inputs_for};

@@ -2,7 +2,7 @@
 ghost use Rattle.std.specs.Prelude.{◌≡◌, ◌≢◌, ◌≤◌, ◌^◌, IfErr, IfOk, None, true, is_some};
 ghost use Rattle.command_words.specs.Limits.{IsWithinLimits};
 ghost use Rattle.command_words.specs.Views.{request_view};
-ghost use Rattle.run_output.specs.declared.stop.Stop.TheVariants as stop;
+ghost use Rattle.run_stops.specs.declared.stop.Stop.TheVariants as stop;
 ghost use Rattle.run_decision.specs.Answering.{story_in, taken_in};
 ghost use Rattle.run_decision.specs.Deciding.{ComesOf, IsDecided, shown};
 ghost use Rattle.run_decision.specs.Devices.{depot_at, over_shelf};
@@ -13,7 +13,7 @@ use crate::answering::answer;
 use command_words::Request;
 use coop_outside::{Depot, Shelf};
 use cscan::Gate;
-use relevance::Policy;
+use interest_book::Policy;
 use run_decision::{Answered, Decision, output_of, totals_of, trace_of};
 use run_inputs::{Inputs, inputs_of};
 use std::alloc::Global;

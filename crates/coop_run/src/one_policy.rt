@@ -13,7 +13,7 @@ use crate::settle::{settle, settle_words};
 use command_words::Request;
 use coop_outside::{Depot, Shelf, Sink};
 use cscan::Gate;
-use relevance::Policy;
+use interest_book::Policy;
 use run_promises::{Ended, Settings, leave};
 use std::alloc::Global;
 use std::hash::RandomState;

@@ -13,7 +13,7 @@ use crate::deciding::decide;
 use command_words::{Call, Request};
 use coop_outside::{Depot, Shelf, Sink};
 use cscan::Gate;
-use relevance::Policy;
+use interest_book::Policy;
 use run_decision::Decision;
 use run_inputs::request_in;
 use run_promises::{Settled, print, refuse};

@@ -9,7 +9,7 @@ use crate::answering::answer;
 use crate::taken_policy::TakenPolicy;
 use coop_outside::Depot;
 use cscan::Gate;
-use relevance::Policy;
+use interest_book::Policy;
 use run_decision::Answered;
 use run_inputs::Inputs;
 use run_output::status_of;

@@ -1,7 +1,6 @@
 // A policy out of a list of boxes.
 
-use interest_book::Book;
-use relevance::Policy;
+use interest_book::{Book, Policy};
 use scan_story::PolicyName;
 
 /// The policy that a run takes out of the list, or one of those that are compared. Its name, its cursor and its picks are

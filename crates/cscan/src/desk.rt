@@ -9,7 +9,7 @@ ghost use Rattle.baton.specs.Passes.{IsFree};
 use abm_policy::Desk;
 use baton::{Baton, Pass};
 use coop_outside::Depot;
-use relevance::Policy;
+use interest_book::Policy;
 use scan_story::Origin;
 use std::sync::Wait;
 

@@ -18,8 +18,8 @@ use frame_rows::{
     Framed, Given, Span, cell_in_frame, group_with, piece_with, put_columns, put_slots,
     read_columns, read_slots, unpin_all,
 };
+use interest_book::Policy;
 use piece_format::Layout;
-use relevance::Policy;
 use row_blocks::Block;
 use scan_story::Origin;
 use std::sync::Wait;

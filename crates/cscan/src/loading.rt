@@ -19,8 +19,8 @@ use abm_policy::{Desk, Ticket};
 use baton::Baton;
 use coop_outside::Depot;
 use frame_pool::{Content, Pool};
+use interest_book::Policy;
 use piece_format::Shape;
-use relevance::Policy;
 use scan_story::Origin;
 use std::sync::Wait;
 

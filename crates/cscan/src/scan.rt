@@ -19,8 +19,8 @@ use baton::Baton;
 use coop_outside::Depot;
 use frame_pool::{Content, Pool};
 use frame_rows::Given;
+use interest_book::Policy;
 use piece_format::Shape;
-use relevance::Policy;
 use scan_story::{Cause, Origin};
 use std::sync::Wait;
 

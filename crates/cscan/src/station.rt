@@ -6,7 +6,7 @@ use abm_policy::Desk;
 use baton::Pass;
 use coop_outside::Depot;
 use frame_pool::{Berth, Content};
-use relevance::Policy;
+use interest_book::Policy;
 use scan_story::{Memory, Origin};
 use std::alloc::Global;
 

@@ -2,4 +2,3 @@ pub mod Views
 pub mod Frames
 pub mod Steps
 pub mod Berths
-pub mod Pairs

@@ -14,7 +14,6 @@
 
 mod berth;
 mod content;
-pub mod example;
 mod filling;
 mod geometry;
 mod pinning;

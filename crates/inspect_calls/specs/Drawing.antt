@@ -1,7 +1,7 @@
 -- What is said to `draw`.
 use Rattle.std.specs.Prelude.{◌≡◌, ◌≤◌, ◌⊎◌, ◌++◌, ℕ, false, List, [], codes, decimal}
 use Rattle.coop_outside.specs.Held.{Held}
-use Rattle.scan_story.specs.Text.{story_text}
+use Rattle.story_text.specs.Text.{story_text}
 use Rattle.scan_story.specs.declared.entry.Entry.{Entry}
 use Rattle.story_picture.specs.Svg.{picture}
 use Rattle.story_picture.specs.Groups.{IsLeastGroups, fills_agree}

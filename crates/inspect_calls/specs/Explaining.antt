@@ -8,7 +8,7 @@ use Rattle.run_decision.specs.Running.{zones_in}
 use Rattle.run_inputs.specs.Ending.{IsReadAndKept}
 use Rattle.run_inputs.specs.declared.inputs.Inputs.{Inputs}
 use Rattle.run_inputs.specs.declared.inputs.ReadTexts.{ReadTexts}
-use Rattle.run_output.specs.declared.stop.Stop.{Stop}
+use Rattle.run_stops.specs.declared.stop.Stop.{Stop}
 use Rattle.sql_tokens.specs.Statements.{HasStatements}
 use Rattle.sql_tokens.specs.declared.span.Span.{Span}
 use Rattle.table_profile.specs.Profiles.{AreProfiles}

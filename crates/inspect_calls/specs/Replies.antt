@@ -1,7 +1,7 @@
 -- Replies.
 use Rattle.std.specs.Prelude.{◌≡◌, ◌⊎◌, ℕ, true, false, List, []}
-use Rattle.run_output.specs.Stops.{line_of, status_of}
-use Rattle.run_output.specs.declared.stop.Stop.{Stop}
+use Rattle.run_stops.specs.Stops.{line_of, status_of}
+use Rattle.run_stops.specs.declared.stop.Stop.{Stop}
 use Rattle.inspect_calls.specs.declared.reply.Reply.{Reply}
 
 -- this text on standard output, and this status

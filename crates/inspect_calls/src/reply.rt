@@ -4,7 +4,7 @@ ghost use Rattle.inspect_calls.specs.Saying.{IsSaid, over};
 ghost use Rattle.inspect_calls.specs.Replies.{IsAnswer, IsFault, IsMemory, IsStop};
 
 use coop_outside::{Sink, write_all};
-use run_output::Stop;
+use run_stops::Stop;
 use std::alloc::Global;
 
 /// What the program says: a text, where it goes, and the status that the program ends with.

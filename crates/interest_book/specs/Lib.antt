@@ -7,3 +7,4 @@ pub mod Sharing
 pub mod Made
 pub mod Loading
 pub mod Candidates
+pub mod Picks

@@ -5,10 +5,10 @@ use Rattle.std.specs.Borrow.{Bor}
 use Rattle.std.specs.List.{AllByRecursion}
 use Rattle.std.proofs.lemmas.List.{take_more}
 use Rattle.std.proofs.lemmas.Bool.Decides.{nat_tests}
-use Rattle.scan_story.specs.Reading.{Fits, IsCut, lacks}
-use Rattle.scan_story.specs.Text.{entry_text, story_text}
+use Rattle.story_reading.specs.Reading.{Fits, IsCut, lacks}
+use Rattle.story_text.specs.Text.{entry_text, story_text}
 use Rattle.scan_story.specs.declared.entry.Entry.{Entry}
-use Rattle.scan_story.proofs.Lines.{entry_clean}
+use Rattle.story_reading.proofs.Lines.{entry_clean}
 use Rattle.output_parts.specs.Ends.{BeginsAtLine, EndsWith, line_ends}
 
 pub whole_end : (text : List ℕ) → EndsWith text text

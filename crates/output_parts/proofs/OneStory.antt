@@ -7,12 +7,12 @@ use Rattle.scan_story.specs.declared.entry.Why.{Why}
 use Rattle.scan_story.specs.declared.entry.Why.TheVariants.{Fault, Damage}
 use Rattle.scan_story.specs.declared.entry.Entry.{Entry}
 use Rattle.scan_story.specs.declared.entry.Entry.TheVariants.{Register, Plan, Evict, Fill, Filled, Failed, Deliver, Release, Stop, End}
-use Rattle.scan_story.specs.Text.{entry_text, why_text, story_text}
-use Rattle.scan_story.specs.Reading.{Fits, FitsWhy, lacks, number_of, IsCut, why_read}
-use Rattle.scan_story.proofs.Cuts.{one_cut}
-use Rattle.scan_story.proofs.Digits.{decimal_digits}
-use Rattle.scan_story.proofs.Lines.{entry_clean}
-use Rattle.scan_story.proofs.LineReading.{AreRead, entry_is, read_all}
+use Rattle.story_text.specs.Text.{entry_text, why_text, story_text}
+use Rattle.story_reading.specs.Reading.{Fits, FitsWhy, lacks, number_of, IsCut, why_read}
+use Rattle.story_reading.proofs.Cuts.{one_cut}
+use Rattle.story_reading.proofs.Digits.{decimal_digits}
+use Rattle.story_reading.proofs.Lines.{entry_clean}
+use Rattle.story_reading.proofs.LineReading.{AreRead, entry_is, read_all}
 
 -- what stands before the first blank, and what behind it
 abbrev before : List ℕ → List ℕ

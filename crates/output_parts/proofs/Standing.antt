@@ -2,7 +2,7 @@
 use Rattle.std.proofs.Common.{◌≡◌, ◌∙◌, ◌∷◌, [], ◌++◌, ℕ, List, append_assoc, refl, sym, ap, subst}
 use Rattle.std.specs.Prelude.{Option, Some, None, IfSome}
 use Rattle.std.specs.Borrow.{Bor}
-use Rattle.scan_story.specs.Reading.{IsCut}
+use Rattle.story_reading.specs.Reading.{IsCut}
 use Rattle.output_parts.specs.Parts.{IsHeadedLine, StandsBehind, StandsFor}
 use Rattle.output_parts.specs.declared.part.Part.{Part}
 

@@ -1,6 +1,6 @@
 -- What may stand in an output for each of its parts.
 use Rattle.std.specs.Prelude.{◌≡◌, ◌≢◌, ◌⊎◌, true, ℕ, List, [], ◌∷◌, ◌++◌, Option, Some, None, MatchOption, is_some, map}
-use Rattle.scan_story.specs.Reading.{lacks}
+use Rattle.story_reading.specs.Reading.{lacks}
 use Rattle.output_parts.specs.declared.part.Part.{Part}
 use Rattle.output_parts.specs.declared.splitting.Split.{Split}
 

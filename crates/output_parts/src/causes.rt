@@ -2,7 +2,7 @@
 ghost use Rattle.std.specs.Prelude.{◌≡◌, ◌∷◌};
 ghost use Rattle.std.specs.List.{AllByRecursion};
 ghost use Rattle.scan_story.specs.Causes as spec;
-ghost use Rattle.scan_story.specs.Reading.{Fits, FitsWhy};
+ghost use Rattle.story_reading.specs.Reading.{Fits, FitsWhy};
 ghost use Rattle.scan_story.specs.Views.{History, past};
 
 use scan_story::{Cause, Entry, Why};

@@ -1,7 +1,7 @@
 // A part of an output.
 ghost use Rattle.std.specs.Prelude.{◌≡◌, ◌≢◌, ◌==◌, ◌<◌, ◌++◌, ◌∷◌, [], ℕ, List, Option, Some, IfSome, MatchOption, is_some, length, true};
 ghost use Rattle.std.specs.List.{position};
-ghost use Rattle.scan_story.specs.Reading.{IsCut, lacks};
+ghost use Rattle.story_reading.specs.Reading.{IsCut, lacks};
 ghost use Rattle.output_parts.specs.Ends.{EndsWith};
 ghost use Rattle.output_parts.specs.Parts as spec;
 

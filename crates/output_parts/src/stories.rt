@@ -1,8 +1,8 @@
 // That a story has one text.
 ghost use Rattle.std.specs.Prelude.{◌≡◌, List};
 ghost use Rattle.std.specs.List.{AllByRecursion};
-ghost use Rattle.scan_story.specs.Reading.{Fits};
-ghost use Rattle.scan_story.specs.Text.{story_text};
+ghost use Rattle.story_reading.specs.Reading.{Fits};
+ghost use Rattle.story_text.specs.Text.{story_text};
 ghost use Rattle.scan_story.specs.declared.entry.Entry.{Entry};
 
 /// Stories with one text are one story: a law, for whoever reads a text. It does nothing.

@@ -7,18 +7,18 @@ use Rattle.table_core.specs.declared.schema.Column.{Column}
 use Rattle.table_core.specs.Answer.{kinds_of}
 use Rattle.scan_story.specs.declared.cause.Cause.{Cause}
 use Rattle.scan_story.specs.declared.cause.Cause.TheVariants as cause
-use Rattle.scan_story.specs.Reading.{lacks}
-use Rattle.scan_story.proofs.Digits.{decimal_digits}
+use Rattle.story_reading.specs.Reading.{lacks}
+use Rattle.story_reading.proofs.Digits.{decimal_digits}
 use Rattle.query_gather.specs.Answer.{is_stopped}
 use Rattle.query_gather.specs.declared.answer.Answer.{Answer}
 use Rattle.query_gather.specs.declared.answer.Answer.TheVariants as answers
 use Rattle.sql_bind.specs.declared.plan.Plan.{Plan}
 use Rattle.run_output.specs.Answers.{answer_printed, overflow_of, printed, result_columns}
-use Rattle.run_output.specs.Outcomes.{plans_of}
+use Rattle.run_stops.specs.Outcomes.{plans_of}
 use Rattle.run_output.specs.Printed.{text_in}
 use Rattle.run_output.specs.Refusals.{refusal_head, refusal_line, statement_words, stop_words}
-use Rattle.run_output.specs.declared.outcome.Outcome.{Outcome}
-use Rattle.run_output.specs.declared.outcome.Outcome.TheVariants as outcome
+use Rattle.run_stops.specs.declared.outcome.Outcome.{Outcome}
+use Rattle.run_stops.specs.declared.outcome.Outcome.TheVariants as outcome
 use Rattle.output_parts.specs.Parts.{IsLine, MayStand, PartWays, line_of, texts_of}
 use Rattle.output_parts.specs.declared.part.Part.{Part}
 use Rattle.output_parts.proofs.Texts.{cancelled}

@@ -12,8 +12,8 @@ use Rattle.sql_bind.specs.declared.statement.StatementRefusal.{StatementRefusal}
 use Rattle.run_output.specs.Answers.{answer_printed, printed}
 use Rattle.run_output.specs.Printed.{text_in}
 use Rattle.run_output.specs.Refusals.{refusal_head, refusal_line, statement_words, stop_words}
-use Rattle.run_output.specs.declared.outcome.Outcome.{Outcome}
-use Rattle.run_output.specs.declared.outcome.Outcome.TheVariants as outcome
+use Rattle.run_stops.specs.declared.outcome.Outcome.{Outcome}
+use Rattle.run_stops.specs.declared.outcome.Outcome.TheVariants as outcome
 use Rattle.output_parts.specs.Parts.{MayStand, texts_of}
 use Rattle.output_parts.specs.declared.part.Part.{Part}
 

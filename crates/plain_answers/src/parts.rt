@@ -4,14 +4,14 @@ ghost use Rattle.std.specs.List.{AllByRecursion, AllZip};
 ghost use Rattle.table_core.specs.Value.{places_of};
 ghost use Rattle.query_gather.specs.Answer.{CanBeWritten};
 ghost use Rattle.run_output.specs.Answers.{NamesColumns};
-ghost use Rattle.run_output.specs.Outcomes.{plans_of};
-ghost use Rattle.run_output.specs.declared.outcome.Outcome.{Outcome as OutcomeOf};
+ghost use Rattle.run_stops.specs.Outcomes.{plans_of};
+ghost use Rattle.run_stops.specs.declared.outcome.Outcome.{Outcome as OutcomeOf};
 ghost use Rattle.plain_answers.specs.Parts as spec;
 
 use crate::texts::{answer_text, head_text, refusal_text};
 use output_parts::Part;
 use query_gather::Answer;
-use run_output::Outcome;
+use run_stops::Outcome;
 use sql_bind::{Plan, StatementRefusal};
 use std::alloc::Global;
 use table_core::{Dict, Memory, Schema};

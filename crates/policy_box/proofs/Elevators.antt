@@ -8,7 +8,7 @@ use Rattle.scan_story.specs.MayFollow.{is_target, is_ready, is_trigger}
 use Rattle.scan_story.specs.Policies.{dist_from, reach}
 use Rattle.chunk_interest.proofs.Below.{true_false}
 use Rattle.chunk_interest.proofs.Kept.{target_inside}
-use Rattle.relevance.specs.Picks.{PicksQuery, PicksLoad, PicksDelivery, PicksVictim, cursor_after_load}
+use Rattle.interest_book.specs.Picks.{PicksQuery, PicksLoad, PicksDelivery, PicksVictim, cursor_after_load}
 use Rattle.relevance.specs.Around.{far_from}
 use Rattle.relevance.specs.Least.{PicksLeast}
 use Rattle.relevance.specs.Victims.{PicksFittest}

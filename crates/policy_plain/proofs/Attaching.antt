@@ -6,7 +6,7 @@ use Rattle.std.proofs.lemmas.Bool.Decides.{nat_tests}
 use Rattle.interest_book.specs.declared.book.Book.{Book}
 use Rattle.chunk_interest.proofs.Needs.{need_small}
 use Rattle.chunk_interest.proofs.Kept.{keeps, active_registered}
-use Rattle.relevance.specs.Picks.{HasActive}
+use Rattle.interest_book.specs.Picks.{HasActive}
 use Rattle.scan_story.specs.Policies.{start_of, served}
 use Rattle.policy_plain.specs.Starts.{place_of, cursor_of}
 

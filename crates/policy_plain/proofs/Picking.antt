@@ -12,7 +12,7 @@ use Rattle.chunk_interest.proofs.Kept.{target_inside}
 use Rattle.interest_book.proofs.Inside.{ready_inside}
 use Rattle.relevance.specs.Best.{IsFirstBest}
 use Rattle.relevance.specs.Rated.{is_below}
-use Rattle.relevance.specs.Picks.{PicksQuery, PicksLoad, PicksDelivery, PicksVictim}
+use Rattle.interest_book.specs.Picks.{PicksQuery, PicksLoad, PicksDelivery, PicksVictim}
 use Rattle.relevance.specs.Least.{PicksLeast, PicksGreatest}
 use Rattle.relevance.specs.Victims.{PicksFittest}
 

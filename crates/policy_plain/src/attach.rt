@@ -66,7 +66,7 @@ impl Policy for Attach {
     ghost use Rattle.scan_story.specs.Policies.{dist_from, is_least_close, start_of};
     ghost use Rattle.interest_book.specs.Stands.{Stands};
     ghost use Rattle.relevance.specs.Best.{IsFirstBest};
-    ghost use Rattle.relevance.specs.Picks.{PicksQuery, PicksLoad, PicksDelivery, PicksVictim, cursor_after_load, cursor_after_delivery, HasActive, HasNoneBegun};
+    ghost use Rattle.interest_book.specs.Picks.{PicksQuery, PicksLoad, PicksDelivery, PicksVictim, cursor_after_load, cursor_after_delivery, HasActive, HasNoneBegun};
     ghost use Rattle.relevance.specs.Rated.{is_above, is_below};
     ghost use Rattle.policy_plain.specs.Starts.{cursor_of};
 

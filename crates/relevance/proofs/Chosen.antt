@@ -26,7 +26,7 @@ use Rattle.interest_book.proofs.Shown.{active_is}
 use Rattle.relevance.specs.declared.best.BestChunk.{BestChunk}
 use Rattle.relevance.specs.declared.best.BestQuery.{BestQuery}
 use Rattle.relevance.specs.Best.{best_below, chunk_with, ratio_of, query_with, rank_of, greatest_below, least_below, highest_below, may_exceed, is_least, is_greater, is_less, is_higher, chunk_in, query_in, IsFirstBest}
-use Rattle.relevance.specs.Picks.{PicksQuery, PicksLoad, PicksDelivery, PicksVictim, HasActive}
+use Rattle.interest_book.specs.Picks.{PicksQuery, PicksLoad, PicksDelivery, PicksVictim, HasActive}
 use Rattle.relevance.proofs.Choosing.{IsOrder, IsBestBelow, best_is, first_of, greater_order, less_order, rank_order, no_more, no_less, settled}
 
 -- Candidates are within their bounds

@@ -1,4 +1,3 @@
-pub mod Picks
 pub mod Best
 pub mod Around
 pub mod Least

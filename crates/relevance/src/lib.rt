@@ -1,4 +1,4 @@
-//! What a policy of the manager owes (`Policy`), what several policies pick alike (`first_to_load`, `longest_waiting`,
+//! What several policies of the manager pick alike (`first_to_load`, `longest_waiting`,
 //! `fitter_of`), and `Relevance`, the policy that goes by the rank of queries and the ratios of chunks.
 //!
 //!     let mut policy = Relevance;
@@ -14,7 +14,6 @@
 mod around;
 mod best;
 mod loads;
-mod policy;
 mod ranks;
 mod rated;
 mod relevance;
@@ -23,7 +22,7 @@ mod victim;
 mod waiting;
 
 pub use around::{distance, first_to_deliver, first_to_load};
-pub use policy::Policy;
+pub use interest_book::Policy;
 pub use ranks::{keep_ratio, load_ratio, query_rank, use_ratio};
 pub use rated::{lesser_of, number_in};
 pub use relevance::Relevance;

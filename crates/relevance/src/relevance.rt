@@ -6,14 +6,13 @@ ghost use Rattle.scan_story.specs.Ratios.{query_rank, load_ratio, use_ratio, kee
 ghost use Rattle.scan_story.specs.MayFollow.{is_trigger, is_target, is_ready, is_victim};
 ghost use Rattle.interest_book.specs.Stands.{Stands};
 ghost use Rattle.relevance.specs.Best.{IsFirstBest, is_higher, is_greater, is_less};
-ghost use Rattle.relevance.specs.Picks.{PicksQuery, PicksLoad, PicksDelivery, PicksVictim, cursor_after_load, cursor_after_delivery, HasActive, HasNoneBegun};
+ghost use Rattle.interest_book.specs.Picks.{PicksQuery, PicksLoad, PicksDelivery, PicksVictim, cursor_after_load, cursor_after_delivery, HasActive, HasNoneBegun};
 
 use crate::best::{chunk_in, greater_of, higher_of, lesser_of, query_in};
 use crate::loads::gaining_more;
-use crate::policy::Policy;
 use crate::ranks::{keep_ratio, most_gain, query_rank, use_ratio};
 use crate::search::{is_least, may_exceed, next_chunk};
-use interest_book::Book;
+use interest_book::{Book, Policy};
 use scan_story::PolicyName;
 
 /// Picks the highest rank, the greatest load and use ratio, and the least keep ratio. Among equals it picks the least

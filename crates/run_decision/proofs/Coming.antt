@@ -5,8 +5,8 @@ use Rattle.std.specs.List.{AllZip}
 use Rattle.csv_meaning.specs.Judged.{Fields}
 use Rattle.query_gather.specs.Answer.{IsAnswer}
 use Rattle.query_gather.specs.declared.answer.Answer.{Answer}
-use Rattle.run_output.specs.declared.stop.Stop.{Stop}
-use Rattle.run_output.specs.declared.stop.Stop.TheVariants as stop
+use Rattle.run_stops.specs.declared.stop.Stop.{Stop}
+use Rattle.run_stops.specs.declared.stop.Stop.TheVariants as stop
 use Rattle.scan_story.specs.declared.entry.Entry.{Entry}
 use Rattle.table_core.specs.Fitting.{FitsRow}
 use Rattle.table_core.specs.Value.{row_values}
@@ -21,10 +21,11 @@ use Rattle.batch_answers.specs.Registering.{RegistersInOrder}
 use Rattle.batch_answers.specs.Story.{IsStoryOver, counts}
 use Rattle.batch_answers.specs.Taken.{IsTakenBy, TookNeed}
 use Rattle.run_output.specs.Answers.{printed}
-use Rattle.run_output.specs.Outcomes.{ComeTo, losses, plans_of}
+use Rattle.run_stops.specs.Outcomes.{ComeTo, plans_of}
+use Rattle.run_output.specs.Outcomes.{losses}
 use Rattle.run_output.specs.Output.{IsOutput}
 use Rattle.run_output.specs.Printed.{output, status}
-use Rattle.run_output.specs.declared.outcome.Outcome.{Outcome}
+use Rattle.run_stops.specs.declared.outcome.Outcome.{Outcome}
 use Rattle.run_output.specs.declared.totals.Totals.{Totals}
 use Rattle.run_decision.specs.Answering.{IsUnanswered}
 use Rattle.run_decision.specs.Deciding.{ComesOf, shown}

@@ -1,8 +1,8 @@
 -- What a run decides, from what it read and from what its batch came to.
 use Rattle.std.proofs.Common.{◌≡◌, ◌≢◌, ℕ, List, [], Result, Ok, Err, refl, ap, inl, inr, ◌⊎◌}
 use Rattle.command_words.specs.Options.{Request}
-use Rattle.run_output.specs.declared.stop.Stop.{Stop}
-use Rattle.run_output.specs.declared.stop.Stop.TheVariants as stop
+use Rattle.run_stops.specs.declared.stop.Stop.{Stop}
+use Rattle.run_stops.specs.declared.stop.Stop.TheVariants as stop
 use Rattle.scan_story.specs.declared.setting.PolicyName.{PolicyName}
 use Rattle.run_inputs.specs.Ending.{IsRead, SourceFails}
 use Rattle.run_inputs.specs.Sources.{batch_source, table_source}

@@ -13,7 +13,7 @@ use Rattle.csv_load.specs.Rows.{table_records}
 use Rattle.piece_format.specs.Shape.{groups_in}
 use Rattle.piece_format.specs.declared.layout.Layout.{Layout}
 use Rattle.piece_format.specs.declared.layout.Layout.TheVariants as layouts
-use Rattle.run_output.specs.declared.stop.Stop.TheVariants as stop
+use Rattle.run_stops.specs.declared.stop.Stop.TheVariants as stop
 use Rattle.sql_bind.specs.Statements.{IsPlanFor}
 use Rattle.sql_bind.specs.declared.plan.Plan.{Plan}
 use Rattle.table_core.specs.Table.{TableRows}
@@ -24,9 +24,9 @@ use Rattle.run_inputs.specs.Order.{batch_stop, first_stop, frames_given, stop_in
 use Rattle.run_inputs.specs.Statements.{part, spans_in, statements_in}
 use Rattle.run_inputs.specs.declared.inputs.Inputs.{Inputs}
 use Rattle.batch_answers.specs.Tasks.{IsPlanOfTable}
-use Rattle.run_output.specs.Outcomes.{ComeTo, ComesTo, plans_of}
-use Rattle.run_output.specs.declared.outcome.Outcome.{Outcome}
-use Rattle.run_output.specs.declared.outcome.Outcome.TheVariants as outcome
+use Rattle.run_stops.specs.Outcomes.{ComeTo, ComesTo, plans_of}
+use Rattle.run_stops.specs.declared.outcome.Outcome.{Outcome}
+use Rattle.run_stops.specs.declared.outcome.Outcome.TheVariants as outcome
 use Rattle.run_decision.specs.Running.{CanRun}
 use Rattle.run_decision.proofs.Tasked.{zip-length}
 use Rattle.run_decision.proofs.Stopping.{enough-frames, few-chunks, few-scans, few-statements, or-none}

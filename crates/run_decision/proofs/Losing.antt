@@ -16,8 +16,8 @@ use Rattle.batch_plan.specs.Scans.{Scan, needs, scan_number, scans, scans_from, 
 use Rattle.batch_plan.specs.declared.task.Task.{Task}
 use Rattle.batch_answers.specs.Lost.{IsLostBy, cause_from, cause_of_query, stop_of}
 use Rattle.run_output.specs.Outcomes.{loss_of, losses}
-use Rattle.run_output.specs.declared.outcome.Outcome.{Outcome}
-use Rattle.run_output.specs.declared.outcome.Outcome.TheVariants as outcome
+use Rattle.run_stops.specs.declared.outcome.Outcome.{Outcome}
+use Rattle.run_stops.specs.declared.outcome.Outcome.TheVariants as outcome
 use Rattle.run_decision.specs.Losses.{AreLostBy, SomeForMemory, SomeQueryForMemory}
 use Rattle.run_decision.specs.Tasks.{tasks_in}
 

@@ -6,9 +6,9 @@ use Rattle.csv_load.specs.Rows.{table_records}
 use Rattle.csv_meaning.specs.declared.refusal.LoadRefusal.{LoadRefusal}
 use Rattle.csv_meaning.specs.declared.refusal.LoadRefusal.TheVariants as refusal
 use Rattle.command_words.specs.Options.{Request}
-use Rattle.run_output.specs.Stops.{status_of}
-use Rattle.run_output.specs.declared.stop.Stop.{Stop}
-use Rattle.run_output.specs.declared.stop.Stop.TheVariants as stop
+use Rattle.run_stops.specs.Stops.{status_of}
+use Rattle.run_stops.specs.declared.stop.Stop.{Stop}
+use Rattle.run_stops.specs.declared.stop.Stop.TheVariants as stop
 use Rattle.table_core.specs.Chunk.{chunk_count}
 use Rattle.run_inputs.specs.Ending.{AcceptsTable}
 use Rattle.run_inputs.specs.Order.{batch_stop, chunks_stop, count_stop, first_stop, frames_given, frames_needed, frames_stop, load_stop, long_batch, long_table, past, stop_in, table_size_stop, table_stop, words_given}

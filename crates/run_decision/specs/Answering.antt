@@ -10,10 +10,10 @@ use Rattle.run_inputs.specs.declared.inputs.Inputs.{Inputs}
 use Rattle.batch_answers.specs.Lost.{Tells}
 use Rattle.batch_answers.specs.declared.ran.Ran.{Ran}
 use Rattle.batch_answers.specs.declared.taken.Taken.{Taken}
-use Rattle.run_output.specs.Outcomes.{plans_of}
-use Rattle.run_output.specs.declared.outcome.Outcome.{Outcome}
-use Rattle.run_output.specs.declared.stop.Stop.{Stop}
-use Rattle.run_output.specs.declared.stop.Stop.TheVariants as stop
+use Rattle.run_stops.specs.Outcomes.{plans_of}
+use Rattle.run_stops.specs.declared.outcome.Outcome.{Outcome}
+use Rattle.run_stops.specs.declared.stop.Stop.{Stop}
+use Rattle.run_stops.specs.declared.stop.Stop.TheVariants as stop
 use Rattle.run_decision.specs.Running.{AreAnswers, IsIdle, IsNotStored}
 use Rattle.run_decision.specs.Work.{Work}
 

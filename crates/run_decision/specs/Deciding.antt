@@ -2,8 +2,8 @@
 use Rattle.std.specs.Prelude.{◌≡◌, ◌≢◌, ◌⊎◌, ℕ, List, [], Option, Some, None, Result, Ok, Err}
 use Rattle.coop_outside.specs.Causes.{Rose}
 use Rattle.command_words.specs.Options.{Request}
-use Rattle.run_output.specs.declared.stop.Stop.{Stop}
-use Rattle.run_output.specs.declared.stop.Stop.TheVariants as stop
+use Rattle.run_stops.specs.declared.stop.Stop.{Stop}
+use Rattle.run_stops.specs.declared.stop.Stop.TheVariants as stop
 use Rattle.table_pieces.specs.declared.refusal.BatchRefusal.{BatchRefusal}
 use Rattle.table_pieces.specs.declared.refusal.BatchRefusal.TheVariants as refusals
 use Rattle.run_inputs.specs.Ending.{AreInputs, IsReadFault, IsTextOf, SourceFails}

@@ -4,8 +4,8 @@ use Rattle.scan_story.specs.Views.{History}
 use Rattle.scan_story.specs.declared.cause.Cause.{Cause}
 use Rattle.scan_story.specs.declared.cause.Cause.TheVariants as cause
 use Rattle.batch_answers.specs.Lost.{IsLostBy, cause_of_query}
-use Rattle.run_output.specs.declared.outcome.Outcome.{Outcome}
-use Rattle.run_output.specs.declared.outcome.Outcome.TheVariants as outcome
+use Rattle.run_stops.specs.declared.outcome.Outcome.{Outcome}
+use Rattle.run_stops.specs.declared.outcome.Outcome.TheVariants as outcome
 
 -- HOW A STATEMENT IS LOST: a query as the story says of its scans, or when out of memory; a statement that is refused for its text
 -- has no scan that the story stopped, and isn't lost

@@ -16,8 +16,8 @@ use Rattle.scan_story.specs.Setting.{HasRoom}
 use Rattle.scan_story.specs.Views.{past}
 use Rattle.story_laws.specs.Queries.{chunks_delivered}
 use Rattle.query_gather.specs.declared.answer.Answer.{Answer}
-use Rattle.run_output.specs.declared.stop.Stop.{Stop}
-use Rattle.run_output.specs.declared.stop.Stop.TheVariants as stop
+use Rattle.run_stops.specs.declared.stop.Stop.{Stop}
+use Rattle.run_stops.specs.declared.stop.Stop.TheVariants as stop
 use Rattle.run_inputs.specs.declared.inputs.Inputs.{Inputs}
 use Rattle.batch_plan.specs.Scans.{Scan, scan_number, scans}
 use Rattle.batch_plan.specs.Setting.{batch_setting}
@@ -28,7 +28,8 @@ use Rattle.batch_answers.specs.Story.{IsStoryOver, counts}
 use Rattle.batch_answers.specs.Taken.{IsTakenBy, TookNeed}
 use Rattle.batch_answers.specs.Tasks.{CanBeLoaded}
 use Rattle.run_output.specs.Answers.{printed}
-use Rattle.run_output.specs.Outcomes.{ComeTo, losses, plans_of}
+use Rattle.run_stops.specs.Outcomes.{ComeTo, plans_of}
+use Rattle.run_output.specs.Outcomes.{losses}
 use Rattle.run_output.specs.Output.{IsOutput}
 use Rattle.run_output.specs.Printed.{output, status}
 use Rattle.run_decision.specs.Losses.{AreLostBy}

@@ -4,8 +4,8 @@ use Rattle.scan_story.specs.declared.entry.Entry.{Entry}
 use Rattle.scan_story.specs.Spent.{deliveries}
 use Rattle.scan_story.specs.Views.{past}
 use Rattle.batch_plan.specs.declared.task.Task.{Task}
-use Rattle.run_output.specs.declared.outcome.Outcome.{Outcome}
-use Rattle.run_output.specs.declared.outcome.Outcome.TheVariants as outcome
+use Rattle.run_stops.specs.declared.outcome.Outcome.{Outcome}
+use Rattle.run_stops.specs.declared.outcome.Outcome.TheVariants as outcome
 use Rattle.run_output.specs.declared.totals.Totals.{Totals}
 
 -- a task for each statement that has a plan, under the statement's number; the first statement has this one

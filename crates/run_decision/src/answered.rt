@@ -2,7 +2,7 @@
 
 use batch_answers::Ran;
 use query_gather::Answer;
-use run_output::Outcome;
+use run_stops::Outcome;
 use table_core::{Dict, Schema};
 
 /// A batch whose workers ran, with the answers to its queries.

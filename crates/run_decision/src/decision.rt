@@ -2,7 +2,7 @@
 
 use crate::output::Output;
 use batch_answers::Ran;
-use run_output::Stop;
+use run_stops::Stop;
 
 /// What a run decides before it writes a byte.
 #[derive(Drop)]

@@ -2,7 +2,7 @@
 ghost use Rattle.std.specs.Prelude.{ℕ, List, Option};
 ghost use Rattle.scan_story.specs.Views.{History};
 ghost use Rattle.scan_story.specs.declared.cause.Cause.{Cause};
-ghost use Rattle.run_output.specs.declared.outcome.Outcome.{Outcome};
+ghost use Rattle.run_stops.specs.declared.outcome.Outcome.{Outcome};
 ghost use Rattle.run_decision.specs.Losses.{AreLostBy, SomeForMemory, SomeQueryForMemory};
 
 /// What is lost when out of memory is a query, and no statement that is refused for its text: a law. It does nothing.

@@ -3,7 +3,7 @@ ghost use Rattle.std.specs.Prelude.{◌≡◌, ◌≤◌, ◌++◌, [], ◌∷�
 ghost use Rattle.run_decision.specs.Tasks.{tasks_in};
 
 use batch_plan::Task;
-use run_output::Outcome;
+use run_stops::Outcome;
 use std::alloc::{AllocError, Global};
 
 // Adds the task of a statement, where it has a plan.

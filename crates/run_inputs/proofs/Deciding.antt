@@ -9,8 +9,8 @@ use Rattle.csv_meaning.specs.Loaded.{IsLoaded}
 use Rattle.csv_meaning.specs.Meaning.{table_of}
 use Rattle.csv_meaning.specs.Judged.{Fields, or_else, refusal_of}
 use Rattle.csv_load.specs.Rows.{table_records}
-use Rattle.run_output.specs.declared.stop.Stop.{Stop}
-use Rattle.run_output.specs.declared.stop.Stop.TheVariants as stop
+use Rattle.run_stops.specs.declared.stop.Stop.{Stop}
+use Rattle.run_stops.specs.declared.stop.Stop.TheVariants as stop
 use Rattle.table_core.specs.Table.{TableRows}
 use Rattle.table_core.specs.Value.{row_values}
 use Rattle.run_inputs.specs.Ending.{AreInputs, Ends, EndsOver, IsRead, IsReadFault, IsReadWith, IsTextOf, IsTextRead, SourceFails}

@@ -10,7 +10,7 @@ use Rattle.sql_tokens.specs.declared.statements.Mode.{Mode}
 use Rattle.sql_tokens.specs.declared.statements.Mode.TheVariants.{Plain}
 use Rattle.sql_tokens.specs.Statements.{HasStatements, close, marks, mode_after, start_of, statements}
 use Rattle.sql_tokens.proofs.Parts.{has_statements, one_split}
-use Rattle.run_output.specs.declared.stop.Stop.TheVariants as stop
+use Rattle.run_stops.specs.declared.stop.Stop.TheVariants as stop
 use Rattle.run_inputs.specs.Order.{count_stop}
 use Rattle.run_inputs.specs.Statements.{IsSpanIn, spans_in}
 use Rattle.run_inputs.proofs.Texts.{is-past, not-past}

@@ -4,8 +4,8 @@ use Rattle.std.specs.Prelude.{nat_lt}
 use Rattle.std.proofs.lemmas.Bool.Decides.{nat_tests}
 use Rattle.std.proofs.lemmas.List.{length-replicate}
 use Rattle.coop_outside.specs.Held.{Held, Holds, Lacks, ReadFails}
-use Rattle.run_output.specs.declared.stop.Stop.{Stop}
-use Rattle.run_output.specs.declared.stop.Stop.TheVariants as stop
+use Rattle.run_stops.specs.declared.stop.Stop.{Stop}
+use Rattle.run_stops.specs.declared.stop.Stop.TheVariants as stop
 use Rattle.run_inputs.specs.Ending.{IsReadAs, IsTextOf, IsTextRead}
 use Rattle.run_inputs.specs.Order.{past}
 use Rattle.run_inputs.specs.Sources.{Source, made, stored, text_in}

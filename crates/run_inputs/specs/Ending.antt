@@ -6,15 +6,15 @@ use Rattle.command_words.specs.Options.{Request}
 use Rattle.csv_meaning.specs.Loaded.{IsLoaded}
 use Rattle.csv_meaning.specs.declared.limits.TheConstants.{MOST_TEXT_BYTES}
 use Rattle.csv_load.specs.Rows.{table_records}
-use Rattle.run_output.specs.declared.stop.Stop.{Stop}
-use Rattle.run_output.specs.declared.stop.Stop.TheVariants as stop
+use Rattle.run_stops.specs.declared.stop.Stop.{Stop}
+use Rattle.run_stops.specs.declared.stop.Stop.TheVariants as stop
 use Rattle.table_core.specs.Value.{places_of}
 use Rattle.table_sets.specs.declared.limits.TheConstants.{MOST_PLACES}
 use Rattle.run_inputs.specs.Order.{first_stop, frames_given, stop_in, table_stop}
 use Rattle.run_inputs.specs.Sources.{Source, made, stored, batch_source, table_source, text_in}
 use Rattle.run_inputs.specs.Statements.{statements_in}
-use Rattle.run_output.specs.Outcomes.{ComeTo}
-use Rattle.run_output.specs.declared.outcome.Outcome.{Outcome}
+use Rattle.run_stops.specs.Outcomes.{ComeTo}
+use Rattle.run_stops.specs.declared.outcome.Outcome.{Outcome}
 use Rattle.run_inputs.specs.declared.inputs.Inputs.{Inputs}
 use Rattle.run_inputs.specs.declared.inputs.ReadTexts.{ReadTexts}
 use Rattle.run_inputs.specs.declared.limits.TheConstants.{MOST_BATCH_BYTES}

@@ -4,3 +4,4 @@ pub mod Statements
 pub mod Order
 pub mod Ending
 pub mod Depots
+pub mod Unread

@@ -9,8 +9,8 @@ use Rattle.csv_meaning.specs.declared.refusal.LoadRefusal.{LoadRefusal}
 use Rattle.csv_meaning.specs.declared.refusal.LoadRefusal.TheVariants as refusal
 use Rattle.piece_format.specs.Shape.{groups_in, word_count}
 use Rattle.piece_format.specs.declared.layout.Layout.{Layout}
-use Rattle.run_output.specs.declared.stop.Stop.{Stop}
-use Rattle.run_output.specs.declared.stop.Stop.TheVariants as stop
+use Rattle.run_stops.specs.declared.stop.Stop.{Stop}
+use Rattle.run_stops.specs.declared.stop.Stop.TheVariants as stop
 use Rattle.table_core.specs.Chunk.{chunk_count}
 use Rattle.table_sets.specs.declared.limits.TheConstants.{MOST_CHUNKS}
 use Rattle.run_inputs.specs.Statements.{spans_in}

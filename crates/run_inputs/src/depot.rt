@@ -7,7 +7,7 @@ ghost use Rattle.run_inputs.specs.Depots.{IsNewFor, is_in_file};
 
 use command_words::scratch_of;
 use coop_outside::{AnyDepot, MemDepot, ScratchDepot};
-use run_output::Stop;
+use run_stops::Stop;
 use std::alloc::Global;
 use std::fs::File;
 use std::rt::Files;

@@ -4,12 +4,12 @@ ghost use Rattle.run_inputs.specs.Ending.{IsOfTable};
 ghost use Rattle.run_inputs.specs.Order.{chunks_stop, frames_given, frames_stop, size_stop};
 ghost use Rattle.command_words.specs.Limits.{IsWithinLimits};
 ghost use Rattle.command_words.specs.Views.{request_view};
-ghost use Rattle.run_output.specs.declared.stop.Stop.TheVariants as stop;
+ghost use Rattle.run_stops.specs.declared.stop.Stop.TheVariants as stop;
 
 use crate::limits::MOST_POOL_WORDS;
 use command_words::Request;
 use piece_format::{groups_in, word_count};
-use run_output::Stop;
+use run_stops::Stop;
 use table_core::{MOST_CHUNKS, MOST_COLUMNS, MOST_ROWS, Table, chunk_count};
 
 fn judge_chunks(rows: u32, per: u32) -> Result<(), Stop>

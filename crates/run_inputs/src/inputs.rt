@@ -2,7 +2,7 @@
 use batch_plan::Options;
 use coop_outside::Bytes;
 use csv_load::Loaded;
-use run_output::Outcome;
+use run_stops::Outcome;
 
 /// What a run is given: how it is to work, a table, and a batch.
 #[derive(Drop)]

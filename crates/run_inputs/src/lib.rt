@@ -15,10 +15,12 @@ mod limits;
 mod reading;
 mod request;
 mod table;
+mod unread;
 
 pub use depot::depot_of;
 pub use inputs::{Inputs, ReadTexts};
 pub use limits::{MOST_BATCH_BYTES, MOST_POOL_WORDS, MOST_SCANS, MOST_STATEMENTS};
 pub use reading::{inputs_again, inputs_of, one_batch, read_inputs};
 pub use request::request_in;
-pub use run_output::Outcome;
+pub use run_stops::Outcome;
+pub use unread::stop_of;

@@ -3,10 +3,10 @@ ghost use Rattle.std.specs.Prelude.{◌≡◌, ◌⊎◌, Err, IfErr, IfOk, None
 ghost use Rattle.run_inputs.specs.Asked.{asked_of};
 ghost use Rattle.command_words.specs.Limits.{IsWithinLimits};
 ghost use Rattle.command_words.specs.Views.{request_view};
-ghost use Rattle.run_output.specs.declared.stop.Stop.TheVariants as stop;
+ghost use Rattle.run_stops.specs.declared.stop.Stop.TheVariants as stop;
 
 use command_words::{Call, Refused, Request, options_of};
-use run_output::Stop;
+use run_stops::Stop;
 use std::alloc::Global;
 
 /// What the words after the program's name ask of a call.

@@ -7,14 +7,14 @@ ghost use Rattle.command_words.specs.Views.{table_view};
 ghost use Rattle.csv_meaning.specs.Loaded.{IsLoaded};
 ghost use Rattle.csv_meaning.specs.Judged.{refusal_of};
 ghost use Rattle.csv_load.specs.Rows.{table_records};
-ghost use Rattle.run_output.specs.declared.stop.Stop.TheVariants as stop;
+ghost use Rattle.run_stops.specs.declared.stop.Stop.TheVariants as stop;
 ghost use Rattle.table_core.specs.Value.{places_of};
 
 use command_words::Table;
 use coop_outside::{Bytes, ReadFault, Shelf, read_all};
 use csv_load::{LoadRefusal, Loaded, MOST_TEXT_BYTES, load};
 use generated_texts::table_text;
-use run_output::Stop;
+use run_stops::Stop;
 use std::alloc::Global;
 use std::hash::RandomState;
 use std::thread::Threads;

@@ -15,10 +15,10 @@ use Rattle.query_meaning.specs.RowText as rows_text
 use Rattle.query_meaning.specs.Rows.{RowQuery}
 use Rattle.sql_bind.specs.declared.plan.Plan.{Plan}
 use Rattle.sql_bind.specs.Reads.{ReadsItsColumns, SomeRowsRead}
-use Rattle.run_output.specs.declared.outcome.Outcome.{Outcome}
-use Rattle.run_output.specs.declared.outcome.Outcome.TheVariants.{Planned, Refused}
+use Rattle.run_stops.specs.declared.outcome.Outcome.{Outcome}
+use Rattle.run_stops.specs.declared.outcome.Outcome.TheVariants.{Planned, Refused}
 use Rattle.run_output.specs.Answers.{NamesColumns, columns_where}
-use Rattle.run_output.specs.Outcomes.{ComeTo, plans_of}
+use Rattle.run_stops.specs.Outcomes.{ComeTo, plans_of}
 
 -- a column at a place is one of so many, where each is
 pub column_at : (n : ℕ) (cs : List (Option ℕ)) (i : ℕ) → All (IsColumn n) cs → IsColumn n (slice_index_or cs i None)

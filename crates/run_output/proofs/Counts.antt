@@ -9,10 +9,11 @@ use Rattle.table_core.specs.declared.schema.Column.{Column}
 use Rattle.sql_bind.specs.declared.plan.Plan.{Plan}
 use Rattle.query_gather.specs.declared.answer.Answer.{Answer}
 use Rattle.query_gather.specs.declared.answer.Answer.TheVariants.{Rows, Picked, Overflow, Stopped}
-use Rattle.run_output.specs.declared.outcome.Outcome.{Outcome}
-use Rattle.run_output.specs.declared.outcome.Outcome.TheVariants.{Planned, Refused}
+use Rattle.run_stops.specs.declared.outcome.Outcome.{Outcome}
+use Rattle.run_stops.specs.declared.outcome.Outcome.TheVariants.{Planned, Refused}
 use Rattle.run_output.specs.Answers.{answer_printed, printed}
-use Rattle.run_output.specs.Outcomes.{has_rows, plans_of}
+use Rattle.run_stops.specs.Outcomes.{plans_of}
+use Rattle.run_output.specs.Outcomes.{has_rows}
 use Rattle.run_output.specs.Printed.{is_answered, status}
 
 count_more : {A : Type 0} (test : A → Bool) (x : A) (xs : List A) → count_by test (x ∷ xs) ≡ cond (test x) 1 0 + count_by test xs

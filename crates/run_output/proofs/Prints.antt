@@ -29,10 +29,11 @@ use Rattle.run_output.specs.Refusals.{refusal_line}
 use Rattle.query_gather.specs.declared.answer.Answer.{Answer}
 use Rattle.query_gather.specs.declared.answer.Answer.TheVariants as answers
 use Rattle.query_gather.specs.Answer.{IsAnswer}
-use Rattle.run_output.specs.declared.outcome.Outcome.{Outcome}
-use Rattle.run_output.specs.declared.outcome.Outcome.TheVariants.{Planned, Refused}
+use Rattle.run_stops.specs.declared.outcome.Outcome.{Outcome}
+use Rattle.run_stops.specs.declared.outcome.Outcome.TheVariants.{Planned, Refused}
 use Rattle.run_output.specs.Answers.{answer_printed, columns_where, overflow_of, printed, result_columns, rows_printed}
-use Rattle.run_output.specs.Outcomes.{ComeTo, loss_of, losses, plans_of}
+use Rattle.run_stops.specs.Outcomes.{ComeTo, plans_of}
+use Rattle.run_output.specs.Outcomes.{loss_of, losses}
 use Rattle.run_output.specs.Output.{PrintEach, groups_printed, item_kind, item_kinds, meaning_printed, query_printed}
 use Rattle.run_output.specs.Printed.{answered, refused}
 use Rattle.run_output.proofs.ItemKinds.{group_kinds, none_right, row_kinds}

@@ -13,8 +13,8 @@ use Rattle.sql_bind.specs.declared.plan.Plan.{Plan}
 use Rattle.run_output.specs.Refusals.{overflow_words, refusal_line, statement_words, stop_words}
 use Rattle.query_gather.specs.declared.answer.Answer.{Answer}
 use Rattle.query_gather.specs.declared.answer.Answer.TheVariants as answers
-use Rattle.run_output.specs.declared.outcome.Outcome.{Outcome}
-use Rattle.run_output.specs.declared.outcome.Outcome.TheVariants as outcome
+use Rattle.run_stops.specs.declared.outcome.Outcome.{Outcome}
+use Rattle.run_stops.specs.declared.outcome.Outcome.TheVariants as outcome
 use Rattle.run_output.specs.Printed.{Printed, answered, refused}
 
 abbrev pub columns_where : Plan → Option RowQuery → List (Option ℕ)

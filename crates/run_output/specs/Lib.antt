@@ -2,6 +2,5 @@ pub mod Outcomes
 pub mod Printed
 pub mod Answers
 pub mod Output
-pub mod Stops
 pub mod Refusals
 pub mod Counts

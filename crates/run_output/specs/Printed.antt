@@ -1,7 +1,7 @@
 -- What statements print, and what a run makes of it: its output and its status.
 use Rattle.std.specs.Prelude.{ℕ, Bool, true, false, List, [], ◌++◌, length, Option, Some, None, if◌then◌else◌}
 use Rattle.std.specs.List.{flat_map, list_all, count_by}
-use Rattle.scan_story.specs.Text.{story_text}
+use Rattle.story_text.specs.Text.{story_text}
 use Rattle.scan_story.specs.declared.entry.Entry.{Entry}
 use Rattle.run_output.specs.Counts.{summary_line}
 use Rattle.run_output.specs.declared.totals.Totals.{Totals}

@@ -10,9 +10,10 @@ ghost use Rattle.query_gather.specs.Answer.{IsAnswer};
 ghost use Rattle.query_gather.specs.declared.answer.Answer.{Answer};
 ghost use Rattle.scan_story.specs.declared.cause.Cause.{Cause};
 ghost use Rattle.run_output.specs.Answers.{NamesColumns, printed};
-ghost use Rattle.run_output.specs.Outcomes.{ComeTo, losses, plans_of};
+ghost use Rattle.run_stops.specs.Outcomes.{ComeTo, plans_of};
+ghost use Rattle.run_output.specs.Outcomes.{losses};
 ghost use Rattle.run_output.specs.Output.{IsOutput, PrintEach};
-ghost use Rattle.run_output.specs.declared.outcome.Outcome.{Outcome};
+ghost use Rattle.run_stops.specs.declared.outcome.Outcome.{Outcome};
 ghost use Rattle.run_output.specs.declared.totals.Totals.{Totals};
 
 /// Where outcomes are those of these texts, and answers those to a table of cells, what is printed from them is what the texts

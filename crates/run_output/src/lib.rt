@@ -11,20 +11,15 @@
 #![tactic(auto)]
 
 mod laws;
-mod outcome;
 mod output;
 mod refused;
 mod statement;
-mod stop;
-mod stop_line;
 mod summary;
 mod totals;
 
 pub use laws::{names_columns, one_output, output_alone};
-pub use outcome::Outcome;
 pub use output::{output_text, status_of};
 pub use refused::{write_overflow, write_refusal, write_stopped};
-pub use stop::Stop;
-pub use stop_line::StopLine;
+pub use run_stops::{Outcome, Stop, StopLine};
 pub use summary::{write_policy_line, write_summary};
 pub use totals::Totals;

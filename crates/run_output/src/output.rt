@@ -7,17 +7,19 @@ ghost use Rattle.table_core.specs.declared.cell.Cell.{Cell};
 ghost use Rattle.table_core.specs.declared.schema.Column.{Column};
 ghost use Rattle.query_gather.specs.Answer.{CanBeWritten, IsAnswer};
 ghost use Rattle.run_output.specs.Answers.{NamesColumns, printed};
-ghost use Rattle.run_output.specs.Outcomes.{ComeTo, has_rows, losses, plans_of};
+ghost use Rattle.run_stops.specs.Outcomes.{ComeTo, plans_of};
+ghost use Rattle.run_output.specs.Outcomes.{has_rows, losses};
 ghost use Rattle.run_output.specs.Output.{IsOutput};
 ghost use Rattle.run_output.specs.Printed.{output, status, summary_of, text_in, trace_of};
 
-use crate::outcome::Outcome;
 use crate::statement::write_statement;
 use crate::summary::write_summary;
 use crate::totals::Totals;
 use query_gather::Answer;
-use scan_story::{Entry, write_story};
+use run_stops::Outcome;
+use scan_story::Entry;
 use std::alloc::Global;
+use story_text::write_story;
 use table_core::{Bytes, Dict, Memory, Schema};
 
 // Whether the answer has rows to print.

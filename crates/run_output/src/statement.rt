@@ -8,14 +8,14 @@ ghost use Rattle.query_gather.specs.Answer.{CanBeWritten};
 ghost use Rattle.query_gather.specs.declared.answer.Answer.TheVariants as answers;
 ghost use Rattle.run_output.specs.Refusals.{refusal_line};
 ghost use Rattle.run_output.specs.Answers.{NamesColumns, answer_printed, overflow_of, printed, result_columns};
-ghost use Rattle.run_output.specs.Outcomes.{plans_of};
+ghost use Rattle.run_stops.specs.Outcomes.{plans_of};
 ghost use Rattle.run_output.specs.Printed.{text_in};
-ghost use Rattle.run_output.specs.declared.outcome.Outcome.{Outcome};
+ghost use Rattle.run_stops.specs.declared.outcome.Outcome.{Outcome};
 
-use crate::outcome::Outcome;
 use crate::refused::{write_overflow, write_refusal, write_stopped};
 use agg_groups::{Item, Rows, rows_text};
 use query_gather::Answer;
+use run_stops::Outcome;
 use sql_bind::Plan;
 use std::alloc::Global;
 use table_core::{Bytes, Column, Dict, Memory, Schema, places_of_kind};

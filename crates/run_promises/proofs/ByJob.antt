@@ -5,9 +5,9 @@ use Rattle.command_words.specs.Options.{Request}
 use Rattle.scan_story.specs.Views.{past}
 use Rattle.scan_story.specs.declared.setting.PolicyName.{PolicyName}
 use Rattle.scan_story.specs.declared.setting.PolicyName.TheVariants.{Relevance}
-use Rattle.run_output.specs.Stops.{status_of}
-use Rattle.run_output.specs.declared.stop.Stop.{Stop}
-use Rattle.run_output.specs.declared.stop.Stop.TheVariants as stop
+use Rattle.run_stops.specs.Stops.{status_of}
+use Rattle.run_stops.specs.declared.stop.Stop.{Stop}
+use Rattle.run_stops.specs.declared.stop.Stop.TheVariants as stop
 use Rattle.run_inputs.specs.Ending.{AcceptsTable}
 use Rattle.run_inputs.specs.Order.{first_stop}
 use Rattle.run_inputs.specs.Sources.{batch_source, table_source, text_in}

@@ -5,8 +5,8 @@ use Rattle.std.proofs.lemmas.List.Elements.{All-from_recursion}
 use Rattle.coop_outside.specs.Causes.{Rose}
 use Rattle.command_words.specs.Options.{Request}
 use Rattle.piece_format.specs.Shape.{TableShape}
-use Rattle.run_output.specs.declared.stop.Stop.{Stop}
-use Rattle.run_output.specs.declared.stop.Stop.TheVariants as stop
+use Rattle.run_stops.specs.declared.stop.Stop.{Stop}
+use Rattle.run_stops.specs.declared.stop.Stop.TheVariants as stop
 use Rattle.scan_story.specs.Views.{past}
 use Rattle.scan_story.specs.declared.setting.PolicyName.{PolicyName}
 use Rattle.table_core.specs.declared.cell.Cell.{Cell}

@@ -3,8 +3,8 @@ use Rattle.std.proofs.Common.{◌≡◌, ◌≢◌, ◌∙◌, ◌∷◌, [], �
 use Rattle.std.specs.Prelude.{◌⊎◌, ◌==◌, IfOk, map}
 use Rattle.std.proofs.lemmas.Bool.Decides.{nat_tests}
 use Rattle.command_words.specs.Options.{Request}
-use Rattle.run_output.specs.declared.stop.Stop.{Stop}
-use Rattle.run_output.specs.declared.stop.Stop.TheVariants as stop
+use Rattle.run_stops.specs.declared.stop.Stop.{Stop}
+use Rattle.run_stops.specs.declared.stop.Stop.TheVariants as stop
 use Rattle.scan_story.specs.Views.{past}
 use Rattle.run_inputs.specs.Ending.{IsReadAndKept, SourceFails}
 use Rattle.run_inputs.specs.Sources.{batch_source, table_source}

@@ -9,9 +9,9 @@ use Rattle.coop_outside.specs.Causes.{Rose}
 use Rattle.coop_outside.specs.Held.{Held}
 use Rattle.coop_outside.specs.Taken.{grown}
 use Rattle.csv_load.specs.Rows.{table_records}
-use Rattle.run_output.specs.Stops.{status_of}
-use Rattle.run_output.specs.declared.stop.Stop.{Stop}
-use Rattle.run_output.specs.declared.stop.Stop.TheVariants as stop
+use Rattle.run_stops.specs.Stops.{status_of}
+use Rattle.run_stops.specs.declared.stop.Stop.{Stop}
+use Rattle.run_stops.specs.declared.stop.Stop.TheVariants as stop
 use Rattle.scan_story.specs.Causes.{Licensed}
 use Rattle.scan_story.specs.Spent.{reads}
 use Rattle.scan_story.specs.Views.{past}

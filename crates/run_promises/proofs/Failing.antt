@@ -2,9 +2,9 @@
 use Rattle.std.proofs.Common.{◌≡◌, ◌∙◌, ℕ, List, Option, Result, Err, refl, ap, subst, inl, inr, ◌⊎◌}
 use Rattle.command_words.specs.Options.{Request}
 use Rattle.coop_outside.specs.Causes.{Rose}
-use Rattle.run_output.specs.Stops.{status_of}
-use Rattle.run_output.specs.declared.stop.Stop.{Stop}
-use Rattle.run_output.specs.declared.stop.Stop.TheVariants as stop
+use Rattle.run_stops.specs.Stops.{status_of}
+use Rattle.run_stops.specs.declared.stop.Stop.{Stop}
+use Rattle.run_stops.specs.declared.stop.Stop.TheVariants as stop
 use Rattle.run_inputs.specs.Ending.{AcceptsTable, HasTable, IsReadFault, SourceFails}
 use Rattle.run_inputs.specs.Order.{first_stop}
 use Rattle.run_inputs.specs.Sources.{batch_source, table_source}

@@ -3,7 +3,7 @@ use Rattle.std.proofs.Common.{◌≡◌, ◌∙◌, ◌≤◌, ◌+◌, ◌++◌
 use Rattle.std.specs.Prelude.{is_some, max}
 use Rattle.std.proofs.lemmas.List.{append-nil, reverse-append}
 use Rattle.command_words.specs.Options.{Request}
-use Rattle.run_output.specs.declared.stop.Stop.{Stop}
+use Rattle.run_stops.specs.declared.stop.Stop.{Stop}
 use Rattle.coop_outside.specs.Pieces.{Stored}
 use Rattle.piece_format.specs.Shape.{TableShape}
 use Rattle.table_core.specs.declared.cell.Cell.{Cell}

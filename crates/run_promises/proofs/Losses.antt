@@ -13,8 +13,8 @@ use Rattle.scan_story.specs.MayFollow.{IsRise}
 use Rattle.scan_story.specs.Views.{History}
 use Rattle.batch_plan.specs.Scans.{scan_number}
 use Rattle.batch_answers.specs.Lost.{IsLostBy, Tells, cause_from, or_first}
-use Rattle.run_output.specs.declared.outcome.Outcome.{Outcome}
-use Rattle.run_output.specs.declared.outcome.Outcome.TheVariants as outcome
+use Rattle.run_stops.specs.declared.outcome.Outcome.{Outcome}
+use Rattle.run_stops.specs.declared.outcome.Outcome.TheVariants as outcome
 use Rattle.run_decision.specs.Losses.{AreLostBy, IsLossOf, OnlyForMemory}
 
 -- the counts of a licensed story don't fall

@@ -5,7 +5,7 @@ use Rattle.table_core.specs.declared.schema.Column.{Column}
 use Rattle.query_gather.specs.declared.answer.Answer.{Answer}
 use Rattle.run_output.specs.Answers.{printed}
 use Rattle.run_output.specs.Printed.{status}
-use Rattle.run_output.specs.declared.outcome.Outcome.{Outcome}
+use Rattle.run_stops.specs.declared.outcome.Outcome.{Outcome}
 use Rattle.run_output.proofs.Prints.{print_each}
 use Rattle.run_inputs.specs.declared.inputs.Inputs.{Inputs}
 use Rattle.run_decision.specs.Answering.{IsAnswered}

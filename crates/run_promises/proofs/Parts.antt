@@ -17,8 +17,8 @@ use Rattle.run_inputs.specs.Statements.{statements_in}
 use Rattle.batch_plan.specs.declared.task.Task.{Task}
 use Rattle.batch_answers.specs.Lost.{cause_of_query}
 use Rattle.run_output.specs.Output.{PrintEach}
-use Rattle.run_output.specs.declared.outcome.Outcome.{Outcome}
-use Rattle.run_output.specs.declared.outcome.Outcome.TheVariants as outcome
+use Rattle.run_stops.specs.declared.outcome.Outcome.{Outcome}
+use Rattle.run_stops.specs.declared.outcome.Outcome.TheVariants as outcome
 use Rattle.run_output.specs.Printed.{Printed, summary_of, text_in, trace_of}
 use Rattle.run_decision.specs.Losses.{AreLostBy, IsLossOf, OnlyForMemory, SomeForMemory}
 use Rattle.run_decision.specs.Running.{TookEachOnce, delivered_to, queries_in, zones_in}

@@ -28,8 +28,8 @@ use Rattle.batch_plan.specs.declared.task.Task.{Task}
 use Rattle.batch_plan.specs.Scans as plan
 use Rattle.batch_plan.specs.Scans.{Scan, scans_from, scans_from_part}
 use Rattle.run_inputs.specs.declared.inputs.Inputs.{Inputs}
-use Rattle.run_output.specs.declared.outcome.Outcome.{Outcome}
-use Rattle.run_output.specs.declared.outcome.Outcome.TheVariants as outcome
+use Rattle.run_stops.specs.declared.outcome.Outcome.{Outcome}
+use Rattle.run_stops.specs.declared.outcome.Outcome.TheVariants as outcome
 use Rattle.run_decision.specs.Running.{CanRun, IsWorked, queries_in, setting_in, zones_in}
 use Rattle.run_decision.specs.Tasks.{tasks_in}
 use Rattle.run_decision.specs.Work.{Work}

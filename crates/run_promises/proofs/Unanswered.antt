@@ -12,9 +12,9 @@ use Rattle.query_gather.specs.declared.answer.Answer.TheVariants as answer
 use Rattle.run_output.specs.Answers.{printed}
 use Rattle.run_output.specs.Outcomes.{losses}
 use Rattle.run_output.specs.Printed.{is_answered, status}
-use Rattle.run_output.specs.declared.outcome.Outcome.{Outcome}
-use Rattle.run_output.specs.declared.outcome.Outcome.TheVariants as outcome
-use Rattle.run_output.specs.declared.stop.Stop.{Stop}
+use Rattle.run_stops.specs.declared.outcome.Outcome.{Outcome}
+use Rattle.run_stops.specs.declared.outcome.Outcome.TheVariants as outcome
+use Rattle.run_stops.specs.declared.stop.Stop.{Stop}
 use Rattle.run_inputs.specs.declared.inputs.Inputs.{Inputs}
 use Rattle.run_decision.specs.Deciding.{shown}
 use Rattle.run_decision.specs.Devices.{DepotAt, OverShelf}

@@ -1,8 +1,8 @@
 -- Words that are refused, and out of memory for them.
 use Rattle.std.proofs.Common.{◌≡◌, Option, Some, None, Err, refl, ap, inl, inr, ◌⊎◌}
 use Rattle.command_words.specs.Options.{Request}
-use Rattle.run_output.specs.declared.stop.Stop.{Stop}
-use Rattle.run_output.specs.declared.stop.Stop.TheVariants as stop
+use Rattle.run_stops.specs.declared.stop.Stop.{Stop}
+use Rattle.run_stops.specs.declared.stop.Stop.TheVariants as stop
 use Rattle.run_inputs.specs.Sources.{batch_source, table_source}
 use Rattle.run_inputs.proofs.Texts.{some-text}
 use Rattle.run_decision.specs.Deciding.{IsDecided, IsDecision, IsUntouched}

@@ -5,8 +5,8 @@ use Rattle.command_words.specs.Options.{Request}
 use Rattle.scan_story.specs.Causes.{Licensed}
 use Rattle.scan_story.specs.Spent.{reads}
 use Rattle.scan_story.specs.Views.{past}
-use Rattle.run_output.specs.declared.stop.Stop.{Stop}
-use Rattle.run_output.specs.declared.stop.Stop.TheVariants as stop
+use Rattle.run_stops.specs.declared.stop.Stop.{Stop}
+use Rattle.run_stops.specs.declared.stop.Stop.TheVariants as stop
 use Rattle.run_decision.specs.Deciding.{IsDecided}
 use Rattle.run_decision.specs.Devices.{DepotAt, OverShelf}
 use Rattle.run_decision.specs.Running.{Text}

@@ -1,7 +1,7 @@
 -- What a run did.
 use Rattle.std.specs.Prelude.{ℕ, List}
 use Rattle.scan_story.specs.declared.entry.Entry.{Entry}
-use Rattle.relevance.specs.declared.policy.Policy.{Ghosts as Policy}
+use Rattle.interest_book.specs.declared.policy.Policy.{Ghosts as Policy}
 use Rattle.batch_answers.specs.declared.taken.Taken.{Taken}
 use Rattle.run_decision.specs.Work.{Work, work}
 use Rattle.run_promises.specs.Policies.{PolicyAt, policy_at}

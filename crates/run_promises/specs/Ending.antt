@@ -8,9 +8,9 @@ use Rattle.csv_load.specs.Rows.{table_records}
 use Rattle.filter_zones.specs.Possible.{needed}
 use Rattle.scan_story.specs.Views.{past}
 use Rattle.scan_story.specs.declared.cause.Cause.{Cause}
-use Rattle.run_output.specs.Stops.{line_of, status_of}
-use Rattle.run_output.specs.declared.stop.Stop.{Stop}
-use Rattle.run_output.specs.declared.stop.Stop.TheVariants as stop
+use Rattle.run_stops.specs.Stops.{line_of, status_of}
+use Rattle.run_stops.specs.declared.stop.Stop.{Stop}
+use Rattle.run_stops.specs.declared.stop.Stop.TheVariants as stop
 use Rattle.run_inputs.specs.Ending.{AreInputs, HasTable, SourceFails}
 use Rattle.run_inputs.specs.Order.{first_stop}
 use Rattle.run_inputs.specs.Sources.{batch_source, table_source, text_in}

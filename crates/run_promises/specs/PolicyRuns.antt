@@ -1,6 +1,6 @@
 -- What the run with one policy comes to, over what a run is given.
 use Rattle.std.specs.Prelude.{◌≡◌, ℕ, List, []}
-use Rattle.run_output.specs.declared.stop.Stop.{Stop}
+use Rattle.run_stops.specs.declared.stop.Stop.{Stop}
 use Rattle.run_inputs.specs.declared.inputs.Inputs.{Inputs}
 use Rattle.run_decision.specs.Answering.{IsUnanswered}
 use Rattle.run_decision.specs.Devices.{DepotAt}

@@ -5,8 +5,8 @@ use Rattle.query_gather.specs.declared.answer.Answer.{Answer}
 use Rattle.query_gather.specs.declared.answer.Answer.TheVariants as answer
 use Rattle.batch_answers.specs.Lost.{IsLostBy}
 use Rattle.command_words.specs.Options.{Request}
-use Rattle.run_output.specs.declared.outcome.Outcome.{Outcome}
-use Rattle.run_output.specs.declared.outcome.Outcome.TheVariants as outcome
+use Rattle.run_stops.specs.declared.outcome.Outcome.{Outcome}
+use Rattle.run_stops.specs.declared.outcome.Outcome.TheVariants as outcome
 use Rattle.run_inputs.specs.Ending.{IsTextOf}
 use Rattle.run_inputs.specs.Sources.{batch_source, table_source}
 use Rattle.run_inputs.specs.declared.inputs.Inputs.{Inputs}

@@ -6,7 +6,7 @@ ghost use Rattle.run_promises.specs.Ending.{Prints};
 use crate::policy_run::PolicyRun;
 use crate::settled::{Settled, refuse};
 use coop_outside::Sink;
-use run_output::Stop;
+use run_stops::Stop;
 use std::alloc::Global;
 
 /// What a run with boxed policies leaves.

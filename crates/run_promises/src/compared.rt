@@ -3,7 +3,7 @@ ghost use Rattle.std.specs.Prelude.{◌≡◌, Err};
 
 use crate::policy_run::PolicyRun;
 use run_decision::Output;
-use run_output::Stop;
+use run_stops::Stop;
 
 /// What a comparison of policies comes to before a byte is written.
 #[derive(Drop)]

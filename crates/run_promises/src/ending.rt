@@ -1,7 +1,7 @@
 // How the run with one policy ends.
 
 use crate::policy_run::PolicyRun;
-use run_output::Stop;
+use run_stops::Stop;
 
 /// How the run with one policy ends.
 #[derive(Drop)]

@@ -2,13 +2,13 @@
 ghost use Rattle.std.specs.Prelude.{◌≡◌, IfErr, IfOk, IfSome, None, Some};
 ghost use Rattle.command_words.specs.Limits.{IsWithinLimits};
 ghost use Rattle.command_words.specs.Views.{request_view};
-ghost use Rattle.run_output.specs.declared.stop.Stop.TheVariants as stop;
+ghost use Rattle.run_stops.specs.declared.stop.Stop.TheVariants as stop;
 ghost use Rattle.run_inputs.specs.Ending.{AreInputs, AreKept};
 ghost use Rattle.run_inputs.specs.Order.{first_stop};
 
 use command_words::Request;
 use run_inputs::{Inputs, ReadTexts, inputs_again};
-use run_output::Stop;
+use run_stops::Stop;
 use std::alloc::Global;
 use std::hash::RandomState;
 use std::thread::Threads;

@@ -19,6 +19,7 @@ mod lines;
 mod made;
 mod policy_run;
 mod printing;
+mod program_end;
 mod settings;
 mod settled;
 
@@ -33,5 +34,6 @@ pub use made::Made;
 pub use piece_format::Layout;
 pub use policy_run::{PolicyRun, kept, name_of, run_of};
 pub use printing::print;
+pub use program_end::end;
 pub use settings::Settings;
 pub use settled::{Settled, refuse};

@@ -5,7 +5,7 @@ ghost use Rattle.run_promises.specs.Joined.{joined_story};
 ghost use Rattle.run_promises.specs.Runs.{joined_taken};
 
 use batch_answers::{Ran, Taken};
-use relevance::Policy;
+use interest_book::Policy;
 use scan_story::{Entry, PolicyName};
 
 /// What the workers of one policy's run left.

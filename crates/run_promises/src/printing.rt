@@ -5,7 +5,7 @@ ghost use Rattle.run_promises.specs.Ending.{Prints};
 
 use coop_outside::{Sink, write_all};
 use run_decision::Output;
-use run_output::Stop;
+use run_stops::Stop;
 
 /// Writes the text of a decision, or the line of its stop, and answers the status. It takes no memory.
 pub fn print<O: Sink>(ending: Result<Output, Stop>, out: &mut O) -> u8

@@ -6,7 +6,7 @@ ghost use Rattle.run_promises.specs.Ending.{Prints};
 use crate::printing::print;
 use batch_answers::Ran;
 use coop_outside::Sink;
-use run_output::Stop;
+use run_stops::Stop;
 
 /// What a run has come to when all is written.
 #[derive(Drop)]

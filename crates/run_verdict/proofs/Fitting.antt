@@ -10,7 +10,7 @@ use Rattle.scan_story.specs.declared.entry.Why.TheVariants.{Fault, Damage}
 use Rattle.scan_story.specs.declared.entry.Entry.{Entry}
 use Rattle.scan_story.specs.declared.entry.Entry.TheVariants.{Register, Plan, Evict, Fill, Filled, Failed, Deliver, Release, Stop, End}
 use Rattle.scan_story.specs.Causes.{cause_by, cause_of, or_else}
-use Rattle.scan_story.specs.Reading.{Fits}
+use Rattle.story_reading.specs.Reading.{Fits}
 use Rattle.scan_story.specs.Views.{History, past}
 use Rattle.batch_plan.specs.Scans.{scan_number}
 use Rattle.batch_answers.specs.Lost.{cause_from, cause_of_query, or_first}

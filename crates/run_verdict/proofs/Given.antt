@@ -25,9 +25,9 @@ use Rattle.batch_answers.specs.Tasks.{FitsWhere, IsPlanOfTable}
 use Rattle.batch_answers.proofs.Plans.{plan_fits}
 use Rattle.batch_answers.proofs.Tables.{dicts_rise, fits_dicts, is_shape, where_fits}
 use Rattle.run_output.specs.Answers as printing
-use Rattle.run_output.specs.Outcomes.{plans_of}
-use Rattle.run_output.specs.declared.outcome.Outcome.{Outcome}
-use Rattle.run_output.specs.declared.outcome.Outcome.TheVariants as outcome
+use Rattle.run_stops.specs.Outcomes.{plans_of}
+use Rattle.run_stops.specs.declared.outcome.Outcome.{Outcome}
+use Rattle.run_stops.specs.declared.outcome.Outcome.TheVariants as outcome
 use Rattle.run_output.proofs.Columns.{names_columns}
 use Rattle.run_inputs.specs.declared.inputs.Inputs.{Inputs}
 use Rattle.run_decision.specs.Running.{CanRun, shape_in}

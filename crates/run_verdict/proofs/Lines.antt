@@ -7,17 +7,17 @@ use Rattle.std.proofs.lemmas.List.Sums.{count_by-le-length}
 use Rattle.table_core.specs.declared.schema.Column.{Column}
 use Rattle.scan_story.specs.declared.entry.Entry.{Entry}
 use Rattle.scan_story.specs.declared.entry.Entry.TheVariants.{Register, Plan, Evict, Fill, Filled, Failed, Deliver, Release, Stop, End}
-use Rattle.scan_story.specs.Reading.{lacks}
+use Rattle.story_reading.specs.Reading.{lacks}
 use Rattle.scan_story.specs.Spent.{deliveries}
-use Rattle.scan_story.specs.Text.{entry_text, story_text}
+use Rattle.story_text.specs.Text.{entry_text, story_text}
 use Rattle.scan_story.specs.Views.{History, past}
-use Rattle.scan_story.proofs.Digits.{decimal_digits}
+use Rattle.story_reading.proofs.Digits.{decimal_digits}
 use Rattle.query_gather.specs.declared.answer.Answer.{Answer}
 use Rattle.run_output.specs.Answers.{printed}
 use Rattle.run_output.specs.Counts.{number_and, summary_line}
 use Rattle.run_output.specs.Printed.{Printed, is_answered, summary_of}
-use Rattle.run_output.specs.declared.outcome.Outcome.{Outcome}
-use Rattle.run_output.specs.declared.outcome.Outcome.TheVariants as outcome
+use Rattle.run_stops.specs.declared.outcome.Outcome.{Outcome}
+use Rattle.run_stops.specs.declared.outcome.Outcome.TheVariants as outcome
 use Rattle.run_decision.specs.Tasks.{totals_of}
 use Rattle.run_verdict.specs.Reading.{IsSummaryLine}
 

@@ -4,9 +4,9 @@ use Rattle.std.specs.List.{AllByRecursion}
 use Rattle.table_core.specs.declared.cell.Cell.{Cell}
 use Rattle.sql_bind.specs.declared.plan.Plan.{Plan}
 use Rattle.query_gather.specs.declared.answer.Answer.{Answer}
-use Rattle.run_output.specs.Outcomes.{plans_of}
-use Rattle.run_output.specs.declared.outcome.Outcome.{Outcome}
-use Rattle.run_output.specs.declared.outcome.Outcome.TheVariants as outcome
+use Rattle.run_stops.specs.Outcomes.{plans_of}
+use Rattle.run_stops.specs.declared.outcome.Outcome.{Outcome}
+use Rattle.run_stops.specs.declared.outcome.Outcome.TheVariants as outcome
 use Rattle.run_verdict.specs.Plain.{ArePlain}
 
 pub plans_head : (P : Plan → Type 0) (o : Outcome) (more : List Outcome) → AllByRecursion P (plans_of (o ∷ more)) → AllByRecursion P (plans_of (o ∷ []))

@@ -2,8 +2,8 @@
 use Rattle.std.proofs.Common.{◌≡◌, ◌∙◌, ◌≤◌, ◌<◌, ◌+◌, ◌-◌, ◌∷◌, [], ◌++◌, ℕ, zero, suc, List, append_assoc, length, take, drop, refl, sym, ap, subst, arith}
 use Rattle.std.specs.List.{AllByRecursion}
 use Rattle.std.proofs.lemmas.List.{length-take-le}
-use Rattle.scan_story.specs.Reading.{Fits, IsFirstBad}
-use Rattle.scan_story.specs.Text.{entry_text, story_text}
+use Rattle.story_reading.specs.Reading.{Fits, IsFirstBad}
+use Rattle.story_text.specs.Text.{entry_text, story_text}
 use Rattle.scan_story.specs.declared.entry.Entry.{Entry}
 use Rattle.output_parts.specs.Ends.{BeginsAtLine, EndsWith}
 use Rattle.output_parts.proofs.Lines.{end_within, line_within, lines_down}

@@ -8,15 +8,16 @@ use Rattle.scan_story.specs.declared.entry.Entry.{Entry}
 use Rattle.scan_story.specs.declared.setting.PolicyName.{PolicyName}
 use Rattle.scan_story.specs.declared.setting.Setting.{Setting}
 use Rattle.scan_story.specs.Legal.{Legal}
-use Rattle.scan_story.specs.Reading.{Fits}
+use Rattle.story_reading.specs.Reading.{Fits}
 use Rattle.scan_story.specs.Setting.{HasRoom, IsSetting}
 use Rattle.scan_story.specs.Views.{past}
 use Rattle.scan_story.specs.Whole.{IsWhole, Undisturbed}
 use Rattle.scan_story.proofs.Prefixes.{begin_legal}
 use Rattle.query_gather.specs.declared.answer.Answer.{Answer}
 use Rattle.run_output.specs.Answers.{printed}
-use Rattle.run_output.specs.Outcomes.{losses, plans_of}
-use Rattle.run_output.specs.declared.outcome.Outcome.{Outcome}
+use Rattle.run_stops.specs.Outcomes.{plans_of}
+use Rattle.run_output.specs.Outcomes.{losses}
+use Rattle.run_stops.specs.declared.outcome.Outcome.{Outcome}
 use Rattle.batch_plan.specs.declared.task.Task.{Task}
 use Rattle.run_output.specs.Printed.{status}
 use Rattle.run_output.proofs.Prints.{print_each}

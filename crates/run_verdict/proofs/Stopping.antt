@@ -12,9 +12,10 @@ use Rattle.query_gather.specs.declared.answer.Answer.{Answer}
 use Rattle.query_gather.specs.declared.answer.Answer.TheVariants as answers
 use Rattle.batch_plan.specs.declared.task.Task.{Task}
 use Rattle.batch_answers.specs.Lost.{IsLostBy, cause_of_query, stop_of}
-use Rattle.run_output.specs.Outcomes.{loss_of, losses, plans_of}
-use Rattle.run_output.specs.declared.outcome.Outcome.{Outcome}
-use Rattle.run_output.specs.declared.outcome.Outcome.TheVariants as outcome
+use Rattle.run_stops.specs.Outcomes.{plans_of}
+use Rattle.run_output.specs.Outcomes.{loss_of, losses}
+use Rattle.run_stops.specs.declared.outcome.Outcome.{Outcome}
+use Rattle.run_stops.specs.declared.outcome.Outcome.TheVariants as outcome
 use Rattle.run_decision.specs.Losses.{AreLostBy}
 use Rattle.run_decision.specs.Tasks.{tasks_in}
 use Rattle.plain_answers.specs.Parts.{IsPlainOrStopped, words_for, words_of}

@@ -6,11 +6,11 @@ use Rattle.table_core.specs.Value.{row_values}
 use Rattle.scan_story.specs.declared.cause.Cause.{Cause}
 use Rattle.scan_story.specs.declared.entry.Entry.{Entry}
 use Rattle.scan_story.specs.declared.setting.PolicyName.{PolicyName}
-use Rattle.scan_story.specs.Text.{story_text}
+use Rattle.story_text.specs.Text.{story_text}
 use Rattle.scan_story.specs.Views.{past}
 use Rattle.query_gather.specs.declared.answer.Answer.{Answer}
 use Rattle.run_output.specs.Answers.{printed}
-use Rattle.run_output.specs.Outcomes.{plans_of}
+use Rattle.run_stops.specs.Outcomes.{plans_of}
 use Rattle.run_output.specs.Output.{IsOutput, PrintEach}
 use Rattle.run_output.specs.Printed.{output, status, summary_of}
 use Rattle.run_output.proofs.Alone.{output_alone}

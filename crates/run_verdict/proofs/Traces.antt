@@ -2,7 +2,7 @@
 use Rattle.std.proofs.Common.{◌≡◌, ◌++◌, ◌∷◌, [], ℕ, Bool, true, false, List, append_assoc, refl, sym, ◌∙◌}
 use Rattle.std.specs.Borrow.{Bor}
 use Rattle.std.specs.Prelude.{IfSome, None, Option, Some}
-use Rattle.scan_story.specs.Reading.{IsCut}
+use Rattle.story_reading.specs.Reading.{IsCut}
 use Rattle.run_verdict.specs.Reading.{IsSummaryLine}
 
 -- where there is to be one, the first line is a summary line

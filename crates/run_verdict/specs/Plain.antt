@@ -7,8 +7,8 @@ use Rattle.sql_bind.specs.declared.plan.Plan.{Plan}
 use Rattle.query_gather.specs.Answer.{IsAnswer, IsAnswerOver, is_stopped}
 use Rattle.query_gather.specs.Partial.{matching}
 use Rattle.query_gather.specs.declared.answer.Answer.{Answer}
-use Rattle.run_output.specs.Outcomes.{plans_of}
-use Rattle.run_output.specs.declared.outcome.Outcome.{Outcome}
+use Rattle.run_stops.specs.Outcomes.{plans_of}
+use Rattle.run_stops.specs.declared.outcome.Outcome.{Outcome}
 
 -- the answer to a plan over the rows of a table, and not that its query was stopped
 pub record IsPlain (rows : List (List Cell)) (p : Plan) (a : Answer) : Type 0 where

@@ -3,8 +3,8 @@ use Rattle.std.specs.Prelude.{◌≡◌, ◌≤◌, ◌^◌, true, false, ℕ, B
 use Rattle.std.specs.List.{AllByRecursion, flat_map}
 use Rattle.std.specs.declared.vec.Vec.{Vec}
 use Rattle.std.specs.declared.alloc.Global.{Global}
-use Rattle.scan_story.specs.Reading.{Fits, lacks}
-use Rattle.scan_story.specs.Text.{story_text}
+use Rattle.story_reading.specs.Reading.{Fits, lacks}
+use Rattle.story_text.specs.Text.{story_text}
 use Rattle.scan_story.specs.declared.entry.Entry.{Entry}
 use Rattle.query_gather.specs.declared.answer.Answer.{Answer}
 use Rattle.run_output.specs.Answers.{printed}
@@ -13,7 +13,7 @@ use Rattle.run_decision.specs.Tasks.{totals_of}
 use Rattle.run_inputs.specs.declared.inputs.Inputs.{Inputs}
 use Rattle.output_parts.specs.Parts.{StandsBehind}
 use Rattle.plain_answers.specs.Parts.{parts_in, words_of}
-use Rattle.run_output.specs.Outcomes.{plans_of}
+use Rattle.run_stops.specs.Outcomes.{plans_of}
 use Rattle.run_verdict.specs.Plain.{ArePlain}
 use Rattle.run_verdict.specs.declared.reading.Told.{Told}
 use Rattle.run_verdict.specs.declared.verdict.Verdict.{Verdict}

@@ -7,11 +7,11 @@ use Rattle.scan_story.specs.declared.entry.Entry.{Entry}
 use Rattle.scan_story.specs.declared.setting.PolicyName.{PolicyName}
 use Rattle.scan_story.specs.declared.setting.Setting.{Setting}
 use Rattle.scan_story.specs.Legal.{Legal}
-use Rattle.scan_story.specs.Reading.{Fits}
+use Rattle.story_reading.specs.Reading.{Fits}
 use Rattle.scan_story.specs.Setting.{first_cursor}
 use Rattle.scan_story.specs.Views.{past}
 use Rattle.scan_story.specs.Whole.{IsWhole, Undisturbed}
-use Rattle.run_output.specs.Outcomes.{ComeTo}
+use Rattle.run_stops.specs.Outcomes.{ComeTo}
 use Rattle.run_output.specs.Output.{IsOutput}
 use Rattle.run_inputs.specs.declared.inputs.Inputs.{Inputs}
 use Rattle.run_decision.specs.Losses.{AreLostBy}

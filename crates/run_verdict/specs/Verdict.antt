@@ -4,9 +4,9 @@ use Rattle.std.specs.List.{AllByRecursion}
 use Rattle.scan_story.specs.declared.entry.Entry.{Entry}
 use Rattle.scan_story.specs.declared.setting.PolicyName.{PolicyName}
 use Rattle.scan_story.specs.Legal.{Legal}
-use Rattle.scan_story.specs.Reading.{BeginsBadly, Fits}
+use Rattle.story_reading.specs.Reading.{BeginsBadly, Fits}
 use Rattle.scan_story.specs.Spent.{reads, stopped_queries}
-use Rattle.scan_story.specs.Text.{story_text}
+use Rattle.story_text.specs.Text.{story_text}
 use Rattle.scan_story.specs.Views.{past}
 use Rattle.scan_story.specs.Whole.{IsWhole}
 use Rattle.output_parts.specs.Ends.{BeginsAtLine}

@@ -5,13 +5,13 @@ ghost use Rattle.table_core.specs.Fitting.{FitsRow};
 ghost use Rattle.csv_meaning.specs.Judged.{Fields};
 ghost use Rattle.table_sets.specs.declared.limits.TheConstants.{MOST_ROWS};
 ghost use Rattle.batch_answers.specs.Tasks.{IsPlanOfTable};
-ghost use Rattle.run_output.specs.Outcomes.{plans_of};
-ghost use Rattle.run_output.specs.declared.outcome.Outcome.{Outcome as OutcomeOf};
+ghost use Rattle.run_stops.specs.Outcomes.{plans_of};
+ghost use Rattle.run_stops.specs.declared.outcome.Outcome.{Outcome as OutcomeOf};
 ghost use Rattle.run_verdict.specs.Plain.{AddsAnswer, ArePlain};
 
 use plain_answers::plain_answer;
 use query_gather::Answer;
-use run_output::Outcome;
+use run_stops::Outcome;
 use std::alloc::Global;
 use table_core::{Memory, Table};
 

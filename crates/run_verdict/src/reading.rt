@@ -1,14 +1,14 @@
 // What an output tells.
 ghost use Rattle.std.specs.Prelude.{◌≡◌, ◌≤◌, ◌^◌, ◌++◌, All, IfErr, IfOk, List, IfSome, MatchOption, Some, length, ℕ};
 ghost use Rattle.std.specs.List.{AllByRecursion, AllZip};
-ghost use Rattle.scan_story.specs.Reading.{Fits, IsFirstBad};
-ghost use Rattle.scan_story.specs.Text.{story_text};
+ghost use Rattle.story_reading.specs.Reading.{Fits, IsFirstBad};
+ghost use Rattle.story_text.specs.Text.{story_text};
 ghost use Rattle.scan_story.specs.declared.entry.Entry.{Entry as EntryOf};
 ghost use Rattle.table_core.specs.Value.{places_of};
 ghost use Rattle.query_gather.specs.Answer.{CanBeWritten};
 ghost use Rattle.query_gather.specs.declared.answer.Answer.{Answer as AnswerOf};
 ghost use Rattle.run_output.specs.Answers.{NamesColumns};
-ghost use Rattle.run_output.specs.Outcomes.{plans_of};
+ghost use Rattle.run_stops.specs.Outcomes.{plans_of};
 ghost use Rattle.output_parts.specs.Ends.{BeginsAtLine, EndsWith};
 ghost use Rattle.plain_answers.specs.Parts.{IsPlainOrStopped};
 ghost use Rattle.run_inputs.specs.declared.inputs.Inputs.{Inputs as InputsOf};
@@ -21,8 +21,9 @@ use output_parts::{Split, behind_line, line_of_end, numbers_fit, one_story, take
 use plain_answers::parts_of;
 use query_gather::Answer;
 use run_inputs::Inputs;
-use scan_story::{Entry, StoryRefusal, read_story};
+use scan_story::Entry;
 use std::alloc::Global;
+use story_reading::{StoryRefusal, read_story};
 use table_core::Memory;
 
 /// What an output tells: whether a line stands for the answer to each statement, and the story behind them, which begins

@@ -4,7 +4,7 @@ ghost use Rattle.std.specs.List.{AllByRecursion, AllZip};
 ghost use Rattle.table_core.specs.Value.{places_of};
 ghost use Rattle.query_gather.specs.Answer.{CanBeWritten};
 ghost use Rattle.run_output.specs.Answers.{NamesColumns};
-ghost use Rattle.run_output.specs.Outcomes.{plans_of};
+ghost use Rattle.run_stops.specs.Outcomes.{plans_of};
 ghost use Rattle.run_verdict.specs.Reading.{text_with};
 
 use query_gather::Answer;

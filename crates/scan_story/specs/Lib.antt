@@ -11,6 +11,4 @@ pub mod Whole
 pub mod Spent
 pub mod Causes
 pub mod Kept
-pub mod Text
-pub mod Reading
 pub mod Makers

@@ -6,10 +6,3 @@ pub mod ReadLists
 pub mod ReadThings
 pub mod ReadQueries
 pub mod ReadTexts
-pub mod Written
-pub mod Quoted
-pub mod Spelling
-pub mod SpelledWords
-pub mod SpelledTokens
-pub mod SpelledConditions
-pub mod SpelledQueries

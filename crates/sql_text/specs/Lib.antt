@@ -2,4 +2,3 @@ pub mod Grammar
 pub mod Words
 pub mod Reading
 pub mod Queries
-pub mod Writing

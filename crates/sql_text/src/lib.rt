@@ -1,8 +1,6 @@
 //! Reads the text of a query into a tree.
 //!
 //!     let query = read_query(alloc, b"SELECT COUNT(*) FROM t WHERE a < 10")?;    // or TextRefusal
-//!     let text = write_query(alloc, &query)?;           // in its one form
-//!     let again = read_query(alloc, text.as_slice())?;  // the same query
 //!
 //! `docs/SQL.md` has the language.
 #![tactic(auto)]
@@ -16,10 +14,8 @@ mod reading;
 mod steps;
 mod tail;
 mod word;
-mod writing;
 
 pub use condition::{Literal, QCond};
 pub use query::{QItem, QOrder, Query};
 pub use reading::{one_query, read_query};
 pub use sql_tokens::{Span, TextRefusal, Token, TokenKind, lex, split};
-pub use writing::write_query;

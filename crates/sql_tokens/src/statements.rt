@@ -7,7 +7,7 @@ ghost use Rattle.sql_tokens.specs.declared.statements.Mode.TheVariants.{Plain};
 use crate::class::{Class, is_in};
 use crate::span::Span;
 use std::alloc::{AllocError, Global};
-use table_core::Memory;
+use table_sets::Memory;
 
 /// What a byte of a batch stands in.
 #[derive(Clone, Copy, Debug)]

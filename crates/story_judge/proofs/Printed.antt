@@ -6,7 +6,7 @@ use Rattle.scan_story.specs.declared.setting.Setting.{Setting}
 use Rattle.scan_story.specs.declared.entry.Entry.TheVariants.{Plan, Fill, Filled, Deliver}
 use Rattle.scan_story.specs.Views.{past}
 use Rattle.scan_story.specs.Legal.{Legal}
-use Rattle.scan_story.proofs.Stories.{one_count, one_count_story, two_counts, fault_story, six_chunks, six_story, shorter, both, columns}
+use Rattle.story_judge.proofs.Stories.{one_count, one_count_story, two_counts, fault_story, six_chunks, six_story, shorter, both, columns}
 use Rattle.story_judge.specs.Tests.{is_legal}
 use Rattle.story_judge.proofs.Legality.{legal_is, legal_true}
 

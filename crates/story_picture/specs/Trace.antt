@@ -1,7 +1,7 @@
 -- Where the trace begins in what a run prints.
 use Rattle.std.specs.Prelude.{◌≡◌, ◌==◌, ◌+◌, ◌&&◌, ℕ, Bool, nat_eq, true, false, List, [], ◌∷◌, codes, if◌then◌else◌}
 use Rattle.std.specs.List.{starts_with}
-use Rattle.scan_story.specs.Reading.{IsFirstBad}
+use Rattle.story_reading.specs.Reading.{IsFirstBad}
 use Rattle.story_picture.specs.declared.trace.TraceRefusal.{TraceRefusal}
 use Rattle.story_picture.specs.declared.trace.TraceRefusal.TheVariants.{NoTrace, BadLine, Memory}
 

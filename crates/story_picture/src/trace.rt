@@ -2,13 +2,14 @@
 ghost use Rattle.std.specs.Prelude.{◌≡◌, ◌≢◌, ◌≤◌, ◌^◌, [], ℕ, List, true, drop, length, IfOk, IfErr, Err};
 ghost use Rattle.std.specs.List.{AllByRecursion};
 ghost use Rattle.scan_story.specs.declared.entry.Entry.{Entry};
-ghost use Rattle.scan_story.specs.Reading.{Fits};
-ghost use Rattle.scan_story.specs.Text.{story_text};
+ghost use Rattle.story_reading.specs.Reading.{Fits};
+ghost use Rattle.story_text.specs.Text.{story_text};
 ghost use Rattle.story_picture.specs.Trace.{IsTraceRefusal, lines_before, starts_story, trace};
 ghost use Rattle.story_picture.specs.declared.trace.TraceRefusal.TheVariants as TraceRefusal;
 
-use scan_story::{Entry, StoryRefusal, read_story};
+use scan_story::Entry;
 use std::alloc::Global;
+use story_reading::{StoryRefusal, read_story};
 
 /// Why a text has no story.
 #[derive(Clone, Copy, Debug, PartialEq, Eq)]

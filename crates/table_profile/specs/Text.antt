@@ -2,7 +2,7 @@
 use Rattle.std.specs.Prelude.{◌+◌, ℕ, List, [], ◌∷◌, ◌++◌, length, Option, Some, None, codes, decimal, slice_index_or}
 use Rattle.csv_meaning.specs.Judged.{Fields}
 use Rattle.csv_meaning.specs.declared.loaded.Loaded.{Loaded}
-use Rattle.sql_text.specs.Writing.{name_text}
+use Rattle.sql_writing.specs.Writing.{name_text}
 use Rattle.table_core.specs.Value.{value_text, value_in, quoted}
 use Rattle.table_core.specs.declared.cell.Cell.{Cell}
 use Rattle.table_core.specs.declared.schema.Column.{Column}

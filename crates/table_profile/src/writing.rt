@@ -6,7 +6,7 @@ ghost use Rattle.table_profile.specs.Written.{AreWritable, IsReadable, IsReasonO
 ghost use Rattle.table_profile.specs.declared.profile.ColumnProfile.{ColumnProfile};
 ghost use Rattle.table_core.specs.Fitting.{dict_at};
 ghost use Rattle.table_profile.specs.Text as spec;
-ghost use Rattle.sql_text.specs.Writing.{name_text};
+ghost use Rattle.sql_writing.specs.Writing.{name_text};
 
 use crate::profile::ColumnProfile;
 use crate::reason::Reason;

@@ -1,7 +1,8 @@
 // Texts with their queries or refusals, written by hand from the rules of `docs/SQL.md`.
 
 use crate::line::Line;
-use sql_text::{Literal, QCond, QItem, QOrder, Query, TextRefusal, read_query, write_query};
+use sql_text::{Literal, QCond, QItem, QOrder, Query, TextRefusal, read_query};
+use sql_writing::write_query;
 use std::alloc::{AllocError, Global};
 use std::process::Abort;
 use std::test::Fail;

@@ -7,8 +7,9 @@ use crate::stories::{
     COLUMNS, FAULT, FIRST_OF_SIX, FROM_2, FROM_5, FULL, IN_PLACE_OF_0, IN_PLACE_OF_2,
     IN_PLACE_OF_3, ONE_COUNT, SHORTER, TRIGGER_STOPS, TWO_LOADED,
 };
-use scan_story::{Entry, PolicyName, Setting, StoryRefusal, read_story};
+use scan_story::{Entry, PolicyName, Setting};
 use std::alloc::{AllocError, Global};
+use story_reading::{StoryRefusal, read_story};
 
 /// A story, and what it is of.
 #[derive(Clone, Copy, Debug)]

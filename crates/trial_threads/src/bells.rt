@@ -1,5 +1,4 @@
 //! Workers that sleep at a baton's bell until it is rung for them.
-use baton::example::Diary;
 use baton::{Baton, Bell};
 use scan_story::{Memory, Origin};
 use std::alloc::Global;
@@ -9,6 +8,7 @@ use std::test::Fail;
 use std::thread;
 use std::thread::{Threads, join};
 use std::time::Duration;
+use thread_examples::diary::Diary;
 
 // The seconds that a wait may take, more than a test may.
 const LONG: u64 = 600;

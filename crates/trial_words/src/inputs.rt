@@ -3,7 +3,7 @@ use command_words::Call;
 use coop_outside::{Bytes, MemShelf};
 use piece_format::Layout;
 use run_inputs::{Inputs, Outcome, inputs_again, inputs_of, read_inputs, request_in};
-use run_output::Stop;
+use run_stops::Stop;
 use sql_bind::{BindRefusal, StatementRefusal};
 use sql_tokens::TextRefusal;
 use std::alloc::Global;

@@ -1,7 +1,6 @@
 // What no contract says: that the lines have the words that people expect, and that calls succeed with ample memory.
-use run_output::{
-    Stop, write_overflow, write_policy_line, write_refusal, write_stopped, write_summary,
-};
+use run_output::{write_overflow, write_policy_line, write_refusal, write_stopped, write_summary};
+use run_stops::Stop;
 use scan_story::Cause;
 use sql_bind::{BindRefusal, StatementRefusal};
 use sql_tokens::TextRefusal;

@@ -7,12 +7,13 @@ ghost use Rattle.table_core.specs.Answer.{dict_at};
 ghost use Rattle.query_gather.specs.Answer.{CanBeWritten};
 ghost use Rattle.sql_bind.specs.declared.plan.Plan as spec_plan;
 ghost use Rattle.run_output.specs.Answers.{NamesColumns};
-ghost use Rattle.run_output.specs.Outcomes.{plans_of};
+ghost use Rattle.run_stops.specs.Outcomes.{plans_of};
 
 use crate::lines::{Named, refusal_of};
 use agg_groups::{Item, Rows};
 use query_gather::{Answer, Cause};
-use run_output::{Outcome, Totals, output_text, status_of};
+use run_output::{Totals, output_text, status_of};
+use run_stops::Outcome;
 use scan_story::Entry;
 use sql_bind::{BindRefusal, Plan, StatementRefusal};
 use sql_tokens::TextRefusal;

@@ -1,10 +1,11 @@
 // What is expected of a trial.
 use crate::notes::Saw;
 use crate::outcome::Outcome;
-use scan_story::{Entry, write_story};
+use scan_story::Entry;
 use std::alloc::{AllocError, Global};
 use std::process::Abort;
 use std::test::Fail;
+use story_text::write_story;
 use table_core::Cell;
 
 /// The parts of the story, what the scans answered, the rows that they read, and the depot's counts of gets and faults.

@@ -2,7 +2,7 @@ use Rattle.std.proofs.Common.{◌≡◌, ◌≤◌, ◌∙◌, ◌*◌, length, 
 use Rattle.query_gather.specs.Answer.{CanBeWritten, IsAnswer}
 use Rattle.scan_story.specs.Views.{past}
 use Rattle.batch_answers.specs.Tasks.{IsPlanOfTable}
-use Rattle.run_output.specs.Outcomes.{plans_of}
+use Rattle.run_stops.specs.Outcomes.{plans_of}
 use Rattle.run_decision.specs.Devices.{depot_at}
 use Rattle.run_decision.specs.Running.{setting_in, zones_in}
 use Rattle.run_decision.specs.Tasks.{tasks_in}

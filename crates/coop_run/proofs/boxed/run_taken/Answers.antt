@@ -1,5 +1,5 @@
 use Rattle.std.proofs.Common.{Err, inl, inr, refl}
-use Rattle.run_output.specs.declared.stop.Stop.TheVariants as stop
+use Rattle.run_stops.specs.declared.stop.Stop.TheVariants as stop
 use Rattle.run_inputs.specs.Asked.{asked_of}
 use Rattle.command_words.specs.declared.call.Call.TheVariants.{RunBoxed}
 use Rattle.run_promises.proofs.ByJob.{are-of-each, none-left, stops-job}

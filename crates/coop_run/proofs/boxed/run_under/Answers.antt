@@ -1,5 +1,5 @@
 use Rattle.std.proofs.Common.{◌≡◌, Err, All, refl, subst}
-use Rattle.run_output.specs.declared.stop.Stop.TheVariants as stop
+use Rattle.run_stops.specs.declared.stop.Stop.TheVariants as stop
 use Rattle.scan_story.specs.declared.setting.PolicyName.{PolicyName}
 use Rattle.run_promises.specs.declared.policy_run.PolicyRun.{PolicyRun}
 use Rattle.run_promises.specs.Did.{policy_of}

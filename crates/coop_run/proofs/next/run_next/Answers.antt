@@ -1,5 +1,5 @@
 use Rattle.std.proofs.Common.{◌≡◌, ◌∙◌, ◌++◌, ◌∷◌, [], refl, ap, inl, inr, arith}
-use Rattle.run_output.specs.declared.stop.Stop.TheVariants as stop
+use Rattle.run_stops.specs.declared.stop.Stop.TheVariants as stop
 use Rattle.scan_story.specs.Views.{past}
 use Rattle.run_promises.specs.Lines.{counted, line_of}
 use Rattle.run_promises.proofs.Small.{stopped_small}

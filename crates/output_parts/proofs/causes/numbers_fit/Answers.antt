@@ -1,7 +1,7 @@
 use Rattle.std.proofs.Common.{sym, arith}
 use Rattle.std.proofs.lemmas.List.{take_all}
 use Rattle.std.proofs.lemmas.List.Elements.{All-more, All-same, recursion_from_All}
-use Rattle.scan_story.specs.Reading.{Fits}
+use Rattle.story_reading.specs.Reading.{Fits}
 use Rattle.output_parts.proofs.causes.numbers_fit.Goals as goal
 
 pub loop-entry-preserved : goal.loop-entry-preserved

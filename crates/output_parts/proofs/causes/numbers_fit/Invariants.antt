@@ -1,6 +1,6 @@
 use Rattle.std.proofs.Common.{take}
 use Rattle.std.specs.Prelude.{All}
-use Rattle.scan_story.specs.Reading.{Fits}
+use Rattle.story_reading.specs.Reading.{Fits}
 use Rattle.output_parts.proofs.causes.numbers_fit.Given as goal
 
 abbrev pub invariant-loop-entry : goal.invariant-loop-entry

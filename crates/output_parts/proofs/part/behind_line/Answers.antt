@@ -1,5 +1,5 @@
 use Rattle.std.proofs.Common.{sym, ◌∙◌}
-use Rattle.scan_story.proofs.Cuts.{cut_here, none_here, one_cut, no_cut}
+use Rattle.story_reading.proofs.Cuts.{cut_here, none_here, one_cut, no_cut}
 use Rattle.output_parts.proofs.Lines.{cut_end}
 use Rattle.output_parts.proofs.part.behind_line.Goals as goal
 

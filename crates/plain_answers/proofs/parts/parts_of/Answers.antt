@@ -3,8 +3,8 @@ use Rattle.std.proofs.lemmas.List.{append-nil}
 use Rattle.std.specs.List.{AllByRecursion, AllZip}
 use Rattle.query_gather.specs.Answer.{CanBeWritten}
 use Rattle.run_output.specs.Answers.{NamesColumns}
-use Rattle.run_output.specs.Outcomes.{plans_of}
-use Rattle.run_output.specs.declared.outcome.Outcome.{Outcome}
+use Rattle.run_stops.specs.Outcomes.{plans_of}
+use Rattle.run_stops.specs.declared.outcome.Outcome.{Outcome}
 use Rattle.output_parts.specs.declared.part.Part.{Part}
 use Rattle.plain_answers.specs.Parts.{ArePartsFrom, parts_in}
 use Rattle.plain_answers.proofs.Statements.{first_of, no_parts, none_left, parts_print, plans_tail}

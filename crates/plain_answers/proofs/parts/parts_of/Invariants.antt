@@ -2,7 +2,7 @@ use Rattle.std.proofs.Common.{◌≡◌, ◌+◌, ◌++◌, length}
 use Rattle.std.specs.List.{AllByRecursion, AllZip}
 use Rattle.query_gather.specs.Answer.{CanBeWritten}
 use Rattle.run_output.specs.Answers.{NamesColumns}
-use Rattle.run_output.specs.Outcomes.{plans_of}
+use Rattle.run_stops.specs.Outcomes.{plans_of}
 use Rattle.plain_answers.specs.Parts.{parts_in}
 use Rattle.plain_answers.proofs.parts.parts_of.Given as goal
 

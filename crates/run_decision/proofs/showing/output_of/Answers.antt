@@ -1,5 +1,5 @@
 use Rattle.query_gather.specs.Answer.{CanBeWritten}
-use Rattle.run_output.specs.Outcomes.{plans_of}
+use Rattle.run_stops.specs.Outcomes.{plans_of}
 use Rattle.run_decision.proofs.Tasked.{zip-length}
 use Rattle.run_decision.proofs.showing.output_of.Goals as goal
 

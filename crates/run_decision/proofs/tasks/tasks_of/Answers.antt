@@ -1,6 +1,6 @@
 use Rattle.std.proofs.Common.{◌≡◌, ◌∙◌, ◌<◌, ◌+◌, ◌∷◌, length, drop, arith, ap, sym}
 use Rattle.std.proofs.lemmas.List.{drop_more}
-use Rattle.run_output.specs.declared.outcome.Outcome.{Outcome}
+use Rattle.run_stops.specs.declared.outcome.Outcome.{Outcome}
 use Rattle.run_decision.specs.Tasks.{tasks_in}
 use Rattle.run_decision.proofs.Tasked.{tasks-more}
 use Rattle.run_decision.proofs.tasks.tasks_of.Goals as goal

@@ -1,4 +1,4 @@
-use Rattle.run_output.specs.declared.stop.Stop.TheVariants as stop
+use Rattle.run_stops.specs.declared.stop.Stop.TheVariants as stop
 use Rattle.run_inputs.specs.Order.{long_batch}
 use Rattle.run_inputs.specs.Sources.{source_of_batch}
 use Rattle.command_words.specs.Views.{batch_view}

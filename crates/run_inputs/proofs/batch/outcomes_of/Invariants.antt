@@ -1,6 +1,6 @@
 use Rattle.std.proofs.Common.{map, take}
 use Rattle.run_inputs.specs.Statements.{part}
-use Rattle.run_output.specs.Outcomes.{ComeTo}
+use Rattle.run_stops.specs.Outcomes.{ComeTo}
 use Rattle.run_inputs.proofs.batch.outcomes_of.Given as goal
 
 abbrev pub invariant-loop-span : goal.invariant-loop-span

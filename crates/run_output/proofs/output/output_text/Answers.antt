@@ -4,7 +4,7 @@ use Rattle.std.specs.List.{flat_map}
 use Rattle.std.proofs.lemmas.Slice.Zip.{AllZip-long}
 use Rattle.query_gather.specs.Answer.{CanBeWritten}
 use Rattle.run_output.specs.Answers.{printed}
-use Rattle.run_output.specs.Outcomes.{plans_of}
+use Rattle.run_stops.specs.Outcomes.{plans_of}
 use Rattle.run_output.specs.Printed.{summary_of, text_in, trace_of}
 use Rattle.run_output.proofs.Prints.{print_each}
 use Rattle.run_output.proofs.output.output_text.Goals as goal

@@ -2,7 +2,7 @@ use Rattle.std.proofs.Common.{◌≡◌, ◌+◌, ◌++◌, length}
 use Rattle.std.specs.List.{AllByRecursion, AllZip, flat_map}
 use Rattle.query_gather.specs.Answer.{CanBeWritten}
 use Rattle.run_output.specs.Answers.{NamesColumns, printed}
-use Rattle.run_output.specs.Outcomes.{plans_of}
+use Rattle.run_stops.specs.Outcomes.{plans_of}
 use Rattle.run_output.specs.Printed.{text_in}
 use Rattle.run_output.proofs.output.statements_text.Given as goal
 

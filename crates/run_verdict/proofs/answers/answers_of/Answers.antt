@@ -1,8 +1,8 @@
 use Rattle.std.proofs.Common.{[], List, sym, subst}
 use Rattle.std.proofs.lemmas.List.{append-nil}
 use Rattle.query_gather.specs.declared.answer.Answer.{Answer}
-use Rattle.run_output.specs.Outcomes.{plans_of}
-use Rattle.run_output.specs.declared.outcome.Outcome.{Outcome}
+use Rattle.run_stops.specs.Outcomes.{plans_of}
+use Rattle.run_stops.specs.declared.outcome.Outcome.{Outcome}
 use Rattle.plain_answers.proofs.Statements.{none_left}
 use Rattle.run_verdict.specs.Plain.{ArePlain}
 use Rattle.run_verdict.proofs.answers.answers_of.Goals as goal

@@ -5,7 +5,7 @@ use Rattle.table_core.specs.Fitting.{FitsRow}
 use Rattle.csv_meaning.specs.Judged.{Fields}
 use Rattle.batch_answers.specs.Tasks.{IsPlanOfTable}
 use Rattle.query_gather.specs.declared.answer.Answer.{Answer}
-use Rattle.run_output.specs.Outcomes.{plans_of}
+use Rattle.run_stops.specs.Outcomes.{plans_of}
 use Rattle.run_verdict.specs.Plain.{ArePlain}
 use Rattle.run_verdict.proofs.answers.answers_of.Given as goal
 

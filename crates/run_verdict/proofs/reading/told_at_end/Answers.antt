@@ -2,7 +2,7 @@ use Rattle.std.proofs.Common.{ℕ, refl, subst, arith}
 use Rattle.std.specs.Prelude.{IfErr, Result}
 use Rattle.std.specs.declared.alloc.Global.{Global}
 use Rattle.std.specs.declared.vec.Vec.{Vec}
-use Rattle.scan_story.specs.Reading.{IsFirstBad}
+use Rattle.story_reading.specs.Reading.{IsFirstBad}
 use Rattle.scan_story.specs.declared.entry.Entry.{Entry}
 use Rattle.output_parts.proofs.Lines.{line_within}
 use Rattle.run_verdict.proofs.Placed.{no_entry_at}

@@ -3,9 +3,9 @@ use Rattle.std.specs.Prelude.{All, IfErr, IfOk, Result}
 use Rattle.std.specs.List.{AllByRecursion, AllZip}
 use Rattle.std.proofs.lemmas.List.{length-map}
 use Rattle.std.proofs.lemmas.List.Elements.{All-from_recursion}
-use Rattle.scan_story.specs.Reading.{Fits}
+use Rattle.story_reading.specs.Reading.{Fits}
 use Rattle.scan_story.specs.Spent.{reads}
-use Rattle.scan_story.specs.Text.{story_text}
+use Rattle.story_text.specs.Text.{story_text}
 use Rattle.scan_story.specs.Views.{past}
 use Rattle.scan_story.specs.declared.entry.Entry.{Entry}
 use Rattle.query_gather.specs.Answer.{CanBeWritten}
@@ -13,8 +13,8 @@ use Rattle.query_gather.specs.declared.answer.Answer.{Answer}
 use Rattle.batch_plan.specs.declared.task.Task.{Task}
 use Rattle.batch_answers.specs.Tasks.{IsPlanOfTable}
 use Rattle.output_parts.specs.Ends.{BeginsAtLine}
-use Rattle.run_output.specs.Outcomes.{plans_of}
-use Rattle.run_output.specs.declared.outcome.Outcome.{Outcome}
+use Rattle.run_stops.specs.Outcomes.{plans_of}
+use Rattle.run_stops.specs.declared.outcome.Outcome.{Outcome}
 use Rattle.run_decision.specs.Tasks.{tasks_in}
 use Rattle.run_decision.proofs.Tasked.{scans-few, zip-length}
 use Rattle.run_verdict.specs.Judged.{IsJudged}

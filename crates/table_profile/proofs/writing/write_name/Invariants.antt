@@ -1,6 +1,6 @@
 use Rattle.std.proofs.Common.{◌≡◌, ◌++◌, ◌∷◌, take}
 use Rattle.std.specs.Prelude.{flat_map}
-use Rattle.sql_text.specs.Writing.{doubled}
+use Rattle.sql_writing.specs.Writing.{doubled}
 use Rattle.table_profile.proofs.writing.write_name.Given as goal
 
 abbrev pub invariant-loop-byte : goal.invariant-loop-byte

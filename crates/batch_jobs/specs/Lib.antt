@@ -1,0 +1,4 @@
+pub mod Gathered
+pub mod Came
+pub mod Jobs
+pub mod Lists

@@ -1,9 +1,0 @@
-use Rattle.std.proofs.Common.{◌≡◌, ◌++◌, length}
-use Rattle.sql_text.specs.Writing.{list_text, item_text}
-use Rattle.sql_text.proofs.writing.write_items.Given as goal
-
-abbrev pub invariant-loop-left : goal.invariant-loop-left
-invariant-loop-left l = l.out ++ list_text item_text l.word l.left ≡ l.fn.out ++ list_text item_text l.fn.word l.fn.items
-
-abbrev pub decreases-loop-left : goal.decreases-loop-left
-decreases-loop-left l = length l.left
