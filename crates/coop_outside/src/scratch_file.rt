@@ -8,7 +8,7 @@ use std::os::unix::fs::FileExt;
 use std::rt::Files;
 
 // Where a piece stands in the file, and how many bytes it has.
-#[derive(Clone, Copy, Debug)]
+#[derive(Clone, Copy)]
 struct Place {
     from: u64,
     size: usize,

@@ -10,7 +10,7 @@ pub struct Underway {
 }
 
 /// What the book keeps of the load that is underway.
-#[derive(Clone, Copy, Debug, PartialEq, Eq)]
+#[derive(Clone, Copy)]
 pub struct Loading {
     pub worker: u32,
     pub query: u32,

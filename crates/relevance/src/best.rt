@@ -5,14 +5,14 @@ ghost use Rattle.relevance.specs.Best.{is_greater, greater_of, lesser_of, higher
 use scan_story::Ratio;
 
 /// A chunk with its ratio.
-#[derive(Clone, Copy, Debug, PartialEq, Eq)]
+#[derive(Clone, Copy)]
 pub struct BestChunk {
     pub chunk: u32,
     pub ratio: Ratio,
 }
 
 /// A query with its rank.
-#[derive(Clone, Copy, Debug, PartialEq, Eq)]
+#[derive(Clone, Copy)]
 pub struct BestQuery {
     pub query: u32,
     pub rank: i64,

@@ -3,7 +3,7 @@ ghost use Rattle.std.specs.Prelude.{◌≡◌};
 ghost use Rattle.relevance.specs.Rated.{lesser_of, greater_of, number_in};
 
 /// A number with what it is compared by.
-#[derive(Clone, Copy, Debug, PartialEq, Eq)]
+#[derive(Clone, Copy)]
 pub struct Rated {
     pub number: u32,
     pub by: u64,

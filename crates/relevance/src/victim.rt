@@ -12,7 +12,7 @@ pub struct Fitness {
 }
 
 /// A chunk that may be evicted, with its fitness.
-#[derive(Clone, Copy, Debug, PartialEq, Eq)]
+#[derive(Clone, Copy)]
 pub struct Victim {
     pub chunk: u32,
     pub fitness: Fitness,
