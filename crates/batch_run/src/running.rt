@@ -37,7 +37,6 @@ use std::sync::Wait;
 use std::thread::Threads;
 
 /// What the scans of a batch leave.
-#[derive(Drop)]
 pub struct ScansEnd<D> {
     /// What all turns of the workers recorded, the oldest entry first.
     pub story: Vec<Entry>,

@@ -14,7 +14,7 @@ use command_words::Request;
 use coop_outside::{Depot, Shelf};
 use cscan::Gate;
 use interest_book::Policy;
-use run_decision::{Answered, Decision, output_of, totals_of, trace_of};
+use run_decision::{Decision, decision_of};
 use run_inputs::{Inputs, inputs_of};
 use std::alloc::Global;
 use std::hash::RandomState;
@@ -41,31 +41,13 @@ fn decide_over<P: Policy, D: Depot + Send, T: Gate + Sync, R: Threads + Wait + S
     let summary = inputs.summary;
     let trace = inputs.trace;
     let rows = inputs.loaded.table.len() as u32;
-    let answered = match answer(rt, alloc, inputs, depot, policy, gate) {
-        Ok(answered) => answered,
-        Err((depot, stop)) => {
-            return Decision {
-                ending: Err(stop),
-                ran: None,
-                depot,
-            };
-        }
-    };
-    let Answered {
-        outcomes,
-        answers,
-        schema,
-        dicts,
-        ran,
-        depot,
-    } = answered;
-    let totals = totals_of(summary, &ran.story, rows);
-    let story = trace_of(trace, &ran.story);
-    let ending = output_of(alloc, &outcomes, &answers, &schema, &dicts, totals, story);
-    Decision {
-        ending,
-        ran: Some(ran),
-        depot,
+    match answer(rt, alloc, inputs, depot, policy, gate) {
+        Ok(answered) => decision_of(alloc, answered, summary, trace, rows),
+        Err((depot, stop)) => Decision {
+            ending: Err(stop),
+            ran: None,
+            depot,
+        },
     }
 }
 

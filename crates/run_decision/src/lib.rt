@@ -24,5 +24,5 @@ pub use counts::Counts;
 pub use decision::Decision;
 pub use laws::lost_for_memory_are_queries;
 pub use output::Output;
-pub use showing::{output_of, totals_of, trace_of};
+pub use showing::{decision_of, output_of, totals_of, trace_of};
 pub use tasks::tasks_of;

@@ -1,5 +1,5 @@
 // What is shown of the answers of a run.
-ghost use Rattle.std.specs.Prelude.{◌≡◌, ◌≤◌, ◌<◌, ◌^◌, ℕ, List, All, IfErr, IfOk, length, map, option_map};
+ghost use Rattle.std.specs.Prelude.{◌≡◌, ◌≤◌, ◌<◌, ◌^◌, ℕ, List, All, IfErr, IfOk, Some, length, map, option_map};
 ghost use Rattle.std.specs.List.{AllByRecursion, AllZip};
 ghost use Rattle.run_output.specs.Answers.{NamesColumns, printed};
 ghost use Rattle.run_stops.specs.Outcomes.{ComeTo, plans_of};
@@ -13,8 +13,11 @@ ghost use Rattle.table_core.specs.Value.{places_of, row_values};
 ghost use Rattle.table_core.specs.declared.cell.Cell.{Cell};
 ghost use Rattle.run_decision.specs.Tasks as spec;
 
+use crate::answered::Answered;
 use crate::counts::Counts;
+use crate::decision::Decision;
 use crate::output::Output;
+use coop_outside::Depot;
 use query_gather::Answer;
 use run_output::{Totals, output_text, status_of};
 use run_stops::{Outcome, Stop};
@@ -73,5 +76,51 @@ pub fn output_of(
             text,
         }),
         Err(_) => Err(Stop::Memory),
+    }
+}
+
+/// What a run decides once its queries are answered: what is to be written, where memory suffices for it. The table has so
+/// many rows; the summary and the story are shown where they are asked for.
+pub fn decision_of<D: Depot>(
+    alloc: Global,
+    answered: Answered<D>,
+    summary: bool,
+    trace: bool,
+    rows: u32,
+) -> Decision<D>
+    requires few { length answered.outcomes.items < 2 ^ 32 }
+    requires dicts { length answered.dicts.items ≡ length answered.schema }
+    requires places { All (λ c. places_of c.kind ≤ 9) answered.schema }
+    requires columns { AllByRecursion (NamesColumns (length answered.schema)) (plans_of answered.outcomes.items) }
+    requires answers { AllZip (CanBeWritten answered.dicts.items) (plans_of answered.outcomes.items)
+        answered.answers.items }
+    ensures status { IfOk result.ending (λ o. o.status ≡ status
+        (printed answered.schema answered.dicts.items 1 answered.outcomes.items answered.answers.items)) }
+    ensures text { IfOk result.ending (λ o. o.text ≡ output
+        (printed answered.schema answered.dicts.items 1 answered.outcomes.items answered.answers.items)
+        (spec.totals_of summary answered.ran.story.items rows) (spec.trace_of trace answered.ran.story.items)) }
+    ensures means { IfOk result.ending (λ o. (texts : List (List ℕ)) (table : List (List Cell))
+        → ComeTo answered.schema answered.dicts.items texts answered.outcomes.items
+        → AllZip (λ p a. IsAnswer p table a) (plans_of answered.outcomes.items) answered.answers.items → All (FitsRow answered.schema answered.dicts.items) table
+        → IsOutput answered.schema (map (row_values answered.dicts.items) table) texts (losses answered.outcomes.items answered.answers.items) (spec.totals_of summary answered.ran.story.items rows) (spec.trace_of trace answered.ran.story.items) o.status o.text) }
+    ensures err { IfErr result.ending (λ s. s ≡ stop.Memory) }
+    ensures ran { result.ran ≡ Some answered.ran }
+    ensures depot { result.depot ≡ answered.depot }
+{
+    let Answered {
+        outcomes,
+        answers,
+        schema,
+        dicts,
+        ran,
+        depot,
+    } = answered;
+    let totals = totals_of(summary, &ran.story, rows);
+    let story = trace_of(trace, &ran.story);
+    let ending = output_of(alloc, &outcomes, &answers, &schema, &dicts, totals, story);
+    Decision {
+        ending,
+        ran: Some(ran),
+        depot,
     }
 }
