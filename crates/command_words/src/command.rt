@@ -65,8 +65,7 @@ fn command<'a>(alloc: Global, call: Call) -> Result<Command<'a>, AllocError>
         .no_binary_name(true)
         .disable_help_flag(true);
     let known = with_known(alloc, start, call)?;
-    let places = vec![in alloc; place(alloc, "TABLE"), place(alloc, "BATCH")]?;
-    known.args(places)
+    known.arg(place(alloc, "TABLE"))?.arg(place(alloc, "BATCH"))
 }
 
 // The options that the call knows.
@@ -80,10 +79,9 @@ fn with_known<'a>(
     let plain = with_plain(alloc, command)?;
     match call {
         Call::Run => Ok(plain),
-        Call::RunBoxed => {
-            let more = vec![in alloc; option(alloc, "policy"), flag(alloc, "compare")]?;
-            plain.args(more)
-        }
+        Call::RunBoxed => plain
+            .arg(option(alloc, "policy"))?
+            .arg(flag(alloc, "compare")),
     }
 }
 
@@ -91,17 +89,15 @@ fn with_known<'a>(
 fn with_plain<'a>(alloc: Global, command: Command<'a>) -> Result<Command<'a>, AllocError>
     ensures { IfOk result (λ c. app_of c ≡ with_options (app_of command.entry) plain_known) }
 {
-    let options = vec![in alloc;
-        option(alloc, "threads"),
-        option(alloc, "frames"),
-        option(alloc, "rows"),
-        option(alloc, "layout"),
-        option(alloc, "parts"),
-        option(alloc, "scratch"),
-        flag(alloc, "summary"),
-        flag(alloc, "trace"),
-    ]?;
-    command.args(options)
+    command
+        .arg(option(alloc, "threads"))?
+        .arg(option(alloc, "frames"))?
+        .arg(option(alloc, "rows"))?
+        .arg(option(alloc, "layout"))?
+        .arg(option(alloc, "parts"))?
+        .arg(option(alloc, "scratch"))?
+        .arg(flag(alloc, "summary"))?
+        .arg(flag(alloc, "trace"))
 }
 
 fn option<'a>(alloc: Global, name: &'a str) -> Arg<'a>

@@ -1,6 +1,7 @@
 //! What the words name.
-ghost use Rattle.std.specs.Prelude.{◌≡◌, option_map};
-ghost use Rattle.command_words.specs.Options.{layout_or, policy_or, scratch_or, table_of, batch_of};
+ghost use Rattle.std.specs.List.{list_any};
+ghost use Rattle.std.specs.Prelude.{◌≡◌, None, if◌then◌else◌, option_map};
+ghost use Rattle.command_words.specs.Options.{generated_by, is_colon, layout_or, policy_or, scratch_or, table_of, batch_of};
 ghost use Rattle.command_words.specs.Views.{table_view, batch_view};
 
 use crate::limits::MOST_GENERATED_ROWS;
@@ -23,16 +24,21 @@ impl<'a> Table<'a> {
     pub fn named(word: &'a str) -> Option<Table<'a>>
         ensures { option_map table_view result ≡ table_of word.now }
     {
-        let Some(rest) = word.strip_prefix("gen:") else {
-            return Some(Table::File(word));
-        };
-        let Some((seed, rows)) = rest.split_once(':') else {
-            return None;
-        };
-        let seed = number_in(seed, 20, 0, u64::MAX)?;
-        let rows = small_number(rows, 0, MOST_GENERATED_ROWS)?;
-        Some(Table::Generated { seed, rows })
+        match word.strip_prefix("gen:") {
+            Some(rest) => generated(rest),
+            None => Some(Table::File(word)),
+        }
     }
+}
+
+// The generated table that `SEED:ROWS` names.
+fn generated<'a>(text: &str) -> Option<Table<'a>>
+    ensures { option_map table_view result ≡ (if list_any is_colon text.now then generated_by text.now else None) }
+{
+    let (seed, rows) = text.split_once(':')?;
+    let seed = number_in(seed, 20, 0, u64::MAX)?;
+    let rows = small_number(rows, 0, MOST_GENERATED_ROWS)?;
+    Some(Table::Generated { seed, rows })
 }
 
 /// What a BATCH names.

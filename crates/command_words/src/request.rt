@@ -89,8 +89,7 @@ fn workers_of(values: &Values<'_>) -> Option<u32>
     ensures within { IfSome result (λ n. (1 ≤ n) × (n ≤ MOST_WORKERS)) }
 {
     if values.compare {
-        let one = number_or(values.threads, 1, 1, 1)?;
-        return Some(one);
+        return number_or(values.threads, 1, 1, 1);
     }
     number_or(values.threads, 1, MOST_WORKERS, USUAL_WORKERS)
 }

@@ -52,8 +52,5 @@ impl<'a> Values<'a> {
 fn is_true(text: Option<&str>) -> bool
     ensures { result ≡ is_true (option_map (λ s. s.now) text.entry) }
 {
-    match text {
-        None => false,
-        Some(text) => text == "true",
-    }
+    matches!(text, Some("true"))
 }

@@ -63,11 +63,9 @@ fn push_value(text: &mut Vec<u8>, blank: u32, value: u32) -> Result<(), AllocErr
     let n = value % 2001;
     if n < 1000 {
         text.push(b'-')?;
-        push_number(text, 1000 - n)?;
-        return Ok(());
+        return push_number(text, 1000 - n);
     }
-    push_number(text, n - 1000)?;
-    Ok(())
+    push_number(text, n - 1000)
 }
 
 fn tag_of(tag: u32) -> &'static [u8]
@@ -85,6 +83,5 @@ fn push_number(text: &mut Vec<u8>, n: u32) -> Result<(), AllocError>
     ensures { OnOk result (text.new.items ≡ text.old.items ++ decimal n) }
 {
     let mut buffer = Buffer::new();
-    text.extend_from_slice(buffer.format(n).as_bytes())?;
-    Ok(())
+    text.extend_from_slice(buffer.format(n).as_bytes())
 }

@@ -1,7 +1,6 @@
-use Rattle.std.proofs.Common.{◌≡◌, ◌∙◌, [], ◌∷◌, ap, codes, subst, sym, true}
+use Rattle.std.proofs.Common.{◌≡◌, ◌∙◌, ap, codes, true}
 use Rattle.std.proofs.lemmas.Result.{IfOk-weaker}
 use Rattle.clap.specs.Simple.{App, app_of, app_of_fields}
-use Rattle.clap.specs.Words.{AddsArg, AddsInTurn}
 use Rattle.clap.specs.declared.builder.command.Command.{Command}
 use Rattle.clap.specs.declared.builder.command.Command.TheOpen.{Command-F}
 use Rattle.command_words.specs.Command.{start, with_options}
@@ -16,7 +15,5 @@ returns c =
     ∙ ap (λ (f : Command-F Command). app_of_fields (record f { disable_help_flag = true })) c.no_binary_name.ensures
     ∙ ap (λ (a : App). record a { top = record a.top { no_binary_name = true; disable_help_flag = true } }) c.new.ensures.app in
     let known = c.in_ok-known.ensures ∙ ap (λ (a : App). with_options a (known_to c.args.call)) begun in
-    IfOk-weaker c.args-2.result _ _ (λ new adds.
-    let both : AddsInTurn AddsArg c.in_ok-known.known (c.place.result ∷ c.place-2.result ∷ []) new = subst (λ args. AddsInTurn AddsArg c.in_ok-known.known args new) c.in_ok-places.ensures.items adds in
-    ap app_of (sym both.2.2) ∙ next _ _ _ _ _ (next _ _ _ _ _ known c.place.ensures.rule c.place.ensures.local both.1) c.place-2.ensures.rule c.place-2.ensures.local both.2.1)
-    c.args-2.ensures
+    let table = next _ _ _ _ _ known c.place.ensures.rule c.place.ensures.local c.in_ok-arg.ensures in
+    IfOk-weaker c.arg-2.result _ _ (λ new. next _ _ _ _ _ table c.place-2.ensures.rule c.place-2.ensures.local) c.arg-2.ensures
