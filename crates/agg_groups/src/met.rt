@@ -12,7 +12,7 @@ use std::alloc::{AllocError, Global};
 use table_core::Cell;
 
 /// A key and its place. A key of one cell has NULL for the second.
-#[derive(Clone, Copy, Debug)]
+#[derive(Clone, Copy)]
 pub struct Met {
     /// The cell of the first key column.
     pub first: Cell,

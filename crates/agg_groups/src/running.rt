@@ -13,7 +13,7 @@ use std::alloc::{AllocError, Global};
 use table_core::{Cell, MOST_ROWS};
 
 /// The value of an item over the rows so far.
-#[derive(Clone, Copy, Debug)]
+#[derive(Clone, Copy)]
 pub enum Running {
     /// So many rows, or cells that aren't NULL.
     Count(u64),

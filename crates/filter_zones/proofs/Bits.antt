@@ -7,8 +7,8 @@ use Rattle.std.proofs.lemmas.Nat.Bits.{bit_at_and, bit_at_or, bit_at-lt, bit_at-
 use Rattle.filter_zones.specs.declared.masks.Masks.{Masks}
 use Rattle.filter_zones.specs.declared.truth.Truth.TheVariants as truth
 use Rattle.filter_zones.specs.declared.truth_set.TruthSet.{TruthSet}
-use Rattle.filter_zones.specs.Truth.{least}
-use Rattle.filter_zones.specs.Possible.{is_pair, pairs}
+use Rattle.filter_zones.specs.Truth.{greatest, least}
+use Rattle.filter_zones.specs.Possible.{is_pair, opposites, pairs}
 use Rattle.filter_zones.specs.Masks.{is_set, truths_at, no_truths}
 
 pub and_set : (a b k : ℕ) → is_set (bit_and a b) k ≡ (is_set a k && is_set b k)
@@ -117,6 +117,20 @@ pub least_bits : (a b c : Masks) (k : ℕ)
     → c.can_unknown ≡ bit_or (bit_and a.can_unknown (bit_or b.can_unknown b.can_true)) (bit_and a.can_true b.can_unknown) → c.can_true ≡ bit_and a.can_true b.can_true
     → truths_at c k ≡ pairs least (truths_at a k) (truths_at b k)
 least_bits a b c k f u t = rw (f, u, t, least_false_bits a b k, least_unknown_bits a b k, least_true_bits a b k) refl
+
+-- ---- the greatest of a truth of each set: the opposite of the least of the opposites
+
+greatest_false : (a b : TruthSet) → is_pair least (opposites a) (opposites b) truth.True ≡ is_pair greatest a b truth.False
+greatest_false = by_cases (λ a b. is_pair least (opposites a) (opposites b) truth.True) (λ a b. is_pair greatest a b truth.False) refl
+
+greatest_unknown : (a b : TruthSet) → is_pair least (opposites a) (opposites b) truth.Unknown ≡ is_pair greatest a b truth.Unknown
+greatest_unknown = by_cases (λ a b. is_pair least (opposites a) (opposites b) truth.Unknown) (λ a b. is_pair greatest a b truth.Unknown) refl
+
+greatest_true : (a b : TruthSet) → is_pair least (opposites a) (opposites b) truth.False ≡ is_pair greatest a b truth.True
+greatest_true = by_cases (λ a b. is_pair least (opposites a) (opposites b) truth.False) (λ a b. is_pair greatest a b truth.True) refl
+
+pub opposite_least : (a b : TruthSet) → opposites (pairs least (opposites a) (opposites b)) ≡ pairs greatest a b
+opposite_least a b = λ i. record { can_false = greatest_false a b i; can_unknown = greatest_unknown a b i; can_true = greatest_true a b i }
 
 -- the truths of one more chunk
 pub one_more : (truths : ℕ → TruthSet) (k : ℕ) (old new : ℕ → TruthSet) → ((j : ℕ) → old j ≡ (if nat_lt j k then truths j else no_truths)) → ((j : ℕ) → new j ≡ (if j == k then truths k else old j))

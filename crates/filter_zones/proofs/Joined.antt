@@ -1,13 +1,17 @@
 -- The truths of a comparison by how the ends of a zone stand to the value are those of its range.
-use Rattle.std.proofs.Common.{◌≡◌, ◌<◌, ◌≤◌, ◌+◌, ◌-◌, ℕ, zero, suc, Bool, true, false, refl, ap, ◌∙◌, arith}
+use Rattle.std.proofs.Common.{◌≡◌, ◌<◌, ◌≤◌, ◌+◌, ◌-◌, ℕ, zero, suc, Bool, true, false, List, refl, ap, ◌∙◌, arith}
 use Rattle.std.specs.Prelude.{Option, Some, None}
 use Rattle.std.specs.declared.cmp.Ordering.{Ordering}
 use Rattle.table_core.specs.declared.cell.Cell.{Cell}
 use Rattle.table_core.specs.declared.op.Op.{Op}
 use Rattle.table_core.specs.declared.op.Op.TheVariants as op
 use Rattle.filter_zones.specs.declared.cond.Bound.{Bound}
+use Rattle.filter_zones.specs.declared.cond.Cond.{Cond}
+use Rattle.filter_zones.specs.declared.truth.Truth.{Truth}
+use Rattle.filter_zones.specs.declared.truth_set.TruthSet.{TruthSet}
+use Rattle.filter_zones.specs.declared.zone.Zone.{Zone}
 use Rattle.filter_zones.specs.Truth.{order_of}
-use Rattle.filter_zones.specs.Possible.{may_hold, may_fail, ranged}
+use Rattle.filter_zones.specs.Possible.{may_hold, may_fail, pairs, possible, ranged}
 use Rattle.filter_zones.specs.Ends.{stand, ends_of, truths_of}
 use Rattle.filter_zones.proofs.Law.{each_order, order_in}
 use Rattle.filter_zones.proofs.Bits.{alike, alike_is}
@@ -57,6 +61,13 @@ ends_truths op.Lt v null (Some p) = λ i. record { can_false = fails op.Lt (orde
 ends_truths op.Le v null (Some p) = λ i. record { can_false = fails op.Le (order_of p.0 v) (order_of p.1 v) i; can_unknown = null; can_true = holds op.Le (order_of p.0 v) (order_of p.1 v) i }
 ends_truths op.Gt v null (Some p) = λ i. record { can_false = fails op.Gt (order_of p.0 v) (order_of p.1 v) i; can_unknown = null; can_true = holds op.Gt (order_of p.0 v) (order_of p.1 v) i }
 ends_truths op.Ge v null (Some p) = λ i. record { can_false = fails op.Ge (order_of p.0 v) (order_of p.1 v) i; can_unknown = null; can_true = holds op.Ge (order_of p.0 v) (order_of p.1 v) i }
+
+-- ---- a condition of two
+
+pub pairs_of : (f : Truth → Truth → Truth) (zones : List Zone) {a b c d : Cond} {r s t : TruthSet} → c ≡ a → d ≡ b → s ≡ possible c zones → t ≡ possible d zones → r ≡ pairs f s t
+    → r ≡ pairs f (possible a zones) (possible b zones)
+pairs_of f zones {a = a} {t = t} is_a is_b first second both =
+    both ∙ ap (λ s. pairs f s t) (first ∙ ap (λ (e : Cond). possible e zones) is_a) ∙ ap (pairs f (possible a zones)) (second ∙ ap (λ (e : Cond). possible e zones) is_b)
 
 -- ---- one more, put in before the others
 

@@ -14,7 +14,7 @@ use std::cmp::{Ordering, Reverse};
 use table_core::Cell;
 
 /// A row's cell in an order: as it is, or turned round.
-#[derive(Clone, Copy, Debug, PartialEq, Eq, PartialOrd, Ord)]
+#[derive(Clone, Copy, PartialEq, Eq, PartialOrd, Ord)]
 pub enum Place {
     /// From small to great.
     Up(Cell),
@@ -23,7 +23,7 @@ pub enum Place {
 }
 
 /// Where a row stands: by its cells in the orders from left to right, then by its number.
-#[derive(Debug, PartialEq, Eq, PartialOrd, Ord, Drop)]
+#[derive(PartialEq, Eq, PartialOrd, Ord, Drop)]
 pub struct Standing {
     /// The cells by which it is ordered.
     pub places: Vec<Place>,
