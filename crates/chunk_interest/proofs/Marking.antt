@@ -1,5 +1,5 @@
 -- Marks follow the change of one client, and what is counted by them.
-use Rattle.std.proofs.Common.{◌≡◌, ◌≢◌, ◌<◌, ◌≤◌, ◌+◌, ◌&&◌, ◌==◌, not, ℕ, zero, suc, Bool, true, false, if◌then◌else◌, List, [], length, get_or, set, nat_lt, nat_le, refl, sym, ◌∙◌, ap, subst, arith, inl, inr}
+use Rattle.std.proofs.Common.{◌≡◌, ◌≢◌, ◌<◌, ◌≤◌, ◌+◌, ◌&&◌, ◌==◌, not, ℕ, zero, suc, Bool, true, false, if◌then◌else◌, List, Option, [], length, get_or, set, nat_lt, nat_le, refl, sym, ◌∙◌, ap, subst, arith, inl, inr}
 use Rattle.std.proofs.lemmas.Bool.{cases_Bool, cases_eq}
 use Rattle.std.proofs.lemmas.List.{get_or-set_same, get_or-set_other, get_or_default, get_or_past, length-set}
 use Rattle.scan_story.specs.declared.view.Phase.{Phase}
@@ -9,12 +9,13 @@ use Rattle.chunk_interest.specs.declared.client.Client.{Client}
 use Rattle.chunk_interest.specs.declared.marks.Marks.{Marks}
 use Rattle.chunk_interest.specs.declared.frame.Frame.{Frame}
 use Rattle.chunk_interest.specs.declared.frame.Frame.TheVariants.{Free}
-use Rattle.chunk_interest.specs.Frames.{frame_at, free_in, is_free_frame}
+use Rattle.chunk_interest.specs.Frames.{frame_at, free_in, is_free_frame, missing_in}
 use Rattle.chunk_interest.specs.Freed.{bit}
 use Rattle.chunk_interest.specs.Clients.{client_at, vacant, is_active_phase}
 use Rattle.chunk_interest.specs.Counted.{size_of}
 use Rattle.chunk_interest.specs.Counts.{is_active_in, needs_in, is_interested_in, is_starved_for, is_close_in, overlaps_by, starved_overlaps_by, feeds_in}
 use Rattle.chunk_interest.specs.Marked.{is_active, is_starved, is_near, is_over_phase, is_over, row_at, AreMarks, IsNear, Follows, BeginsMarks}
+use Rattle.chunk_interest.specs.Renewed.{IsRenewed}
 use Rattle.chunk_interest.proofs.Below.{count_same, equal_number, other_number, true_false}
 use Rattle.chunk_interest.proofs.Counting.{counted_one, count_cut}
 
@@ -134,6 +135,18 @@ marks_follow ks q c new m n there nobody near f are = record {
   near = one_marked is_near ks q new m.near n.near there are.near f.near;
   over = one_marked is_over ks q new m.over n.over there are.over f.over;
 }
+
+-- a client for which a chunk was looked up anew is as it was, but for what is available at that chunk
+renewed_near : (ps : List (Option ℕ)) (n c : ℕ) (old new : Client) → IsRenewed ps n c old new → IsNear c old new
+renewed_near ps n c old new is over = (
+  sym (ap is_over is.kept) ∙ over,
+  λ x ne. (ap (λ (k : Client). has k.remaining x) is.kept, is.available x ∙ ap (λ (b : Bool). if b then has old.remaining c && missing_in ps n old.reads c == 0 else has old.available x) (other_number x c ne)),
+)
+
+pub marks_renewed : (ps : List (Option ℕ)) (groups q c : ℕ) (ks : List Client) (new : Client) (m n : Marks) → q < length ks → IsRenewed ps groups c (client_at ks q) new → Follows q c new m n → AreMarks ks m → AreMarks (set ks q new) n
+marks_renewed ps groups q c ks new m n there is f are =
+    let nobody : q ≡ 0 → is_active new ≡ false = λ at. ap is_active is.kept ∙ (ap (λ (k : ℕ). is_active (client_at ks k)) at ∙ are.nobody) in
+    marks_follow ks q c new m n there (still_nobody ks q new there are.nobody nobody) (renewed_near ps groups c (client_at ks q) new is) f are
 
 -- before the first entry
 pub marks_begin : (ks : List Client) (m : Marks) → length ks ≡ 257 → ((q : ℕ) → is_active (client_at ks q) ≡ false) → ((q : ℕ) → is_over (client_at ks q) ≡ false) → ((q : ℕ) → (client_at ks q).available ≡ []) → BeginsMarks ks m → AreMarks ks m
