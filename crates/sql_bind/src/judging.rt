@@ -40,7 +40,7 @@ fn is_misused(columns: &[Column], place: &Place<'_>) -> bool
 }
 
 /// What may be wrong at a place.
-#[derive(Clone, Copy, Debug, PartialEq, Eq)]
+#[derive(Clone, Copy)]
 pub enum Wrong {
     /// No column has its name.
     Name,

@@ -8,7 +8,7 @@ use std::alloc::{AllocError, Global};
 use table_core::Bytes;
 
 /// How a query uses a column at a place.
-#[derive(Clone, Copy, Debug, PartialEq, Eq)]
+#[derive(Clone, Copy)]
 pub enum Use {
     /// It is summed.
     Sum,
@@ -21,7 +21,7 @@ pub enum Use {
 }
 
 /// A place of a query.
-#[derive(Clone, Copy, Debug)]
+#[derive(Clone, Copy)]
 pub struct Place<'q> {
     pub name: &'q [u8],
     pub used: Use,
