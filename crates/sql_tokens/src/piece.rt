@@ -10,7 +10,7 @@ use crate::keyword::keyword_of;
 use crate::token::TokenKind;
 
 /// What a part of a text is.
-#[derive(Clone, Copy, Debug)]
+#[derive(Clone, Copy)]
 pub enum Piece {
     /// White space.
     Blank,

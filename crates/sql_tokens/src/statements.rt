@@ -10,7 +10,7 @@ use std::alloc::{AllocError, Global};
 use table_sets::Memory;
 
 /// What a byte of a batch stands in.
-#[derive(Clone, Copy, Debug)]
+#[derive(Clone, Copy)]
 pub enum Mode {
     Plain,
     InText,
@@ -19,7 +19,7 @@ pub enum Mode {
 }
 
 /// What a byte of a batch is to its statement.
-#[derive(Clone, Copy, Debug)]
+#[derive(Clone, Copy)]
 pub enum Mark {
     /// A part of something that counts.
     Inside,
