@@ -29,8 +29,10 @@ impl Lobby {
     // Notes that one more worker is to be called, which looks once more before it sleeps. How often somebody was called
     // until then.
     pub(crate) fn enter(&self) -> u64 {
+        // (read first: whoever takes this worker out of `waiting` before it sleeps changes the count)
+        let calls = self.calls.load(SeqCst);
         self.waiting.fetch_add(1, SeqCst);
-        self.calls.load(SeqCst)
+        calls
     }
 
     // Sleeps until somebody is called once more than so often. It may return early.

@@ -24,8 +24,10 @@ impl Place {
 
     // Notes that its worker sleeps for the query, and answers how often it was rung for.
     pub(crate) fn lie_down(&self, query: u32) -> u64 {
+        // (read first: whoever clears the place before its worker sleeps changes the count)
+        let rings = self.rings.load(SeqCst);
         self.query.store(query as u64, SeqCst);
-        self.rings.load(SeqCst)
+        rings
     }
 
     // Notes that its worker is awake. Whether it slept until now.
