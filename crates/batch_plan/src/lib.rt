@@ -11,13 +11,13 @@
 #![tactic(auto)]
 
 mod dealing;
-mod laws;
+mod dealt_chunks;
 mod needs;
 mod options;
 mod task;
 
 pub use dealing::deal;
-pub use laws::{all_are_dealt, needs_add_up};
+pub use dealt_chunks::{all_are_dealt, needs_add_up};
 pub use needs::{needs_of, scan_number};
 pub use options::Options;
 pub use task::Task;

@@ -20,10 +20,10 @@ use Rattle.sql_bind.specs.Reads.{ReadsItsColumns}
 use Rattle.query_gather.specs.declared.answer.Answer.{Answer}
 use Rattle.batch_plan.specs.declared.task.Task.{Task}
 use Rattle.batch_plan.specs.Scans.{Scan, needs, scans_from, scans_from_part}
-use Rattle.batch_jobs.specs.Came.{CameOf, IsNeedOf}
-use Rattle.batch_answers.specs.Answering.{AnswersSome, AreAllJoinable, Came, IsStoppedFor}
-use Rattle.batch_answers.specs.Lost.{IsLostBy, stop_of}
-use Rattle.batch_answers.specs.Taken.{TookNeed}
+use Rattle.batch_ends.specs.Came.{CameOf, IsNeedOf}
+use Rattle.batch_ends.specs.Answering.{AnswersSome, AreAllJoinable, Came, IsStoppedFor}
+use Rattle.batch_ends.specs.Lost.{IsLostBy, stop_of}
+use Rattle.batch_ends.specs.Taken.{TookNeed}
 use Rattle.batch_run.proofs.Parts.{IsAnswerRead, is_read, joinable, same_cause}
 
 -- ---- lists in two parts

@@ -19,9 +19,9 @@ use Rattle.frame_pool.specs.Frames.{Told}
 use Rattle.piece_format.specs.Shape.{TableShape}
 use Rattle.sql_bind.specs.declared.plan.Plan.{Plan as Query}
 use Rattle.query_gather.specs.declared.partial.Partial.{Partial}
-use Rattle.batch_jobs.specs.Gathered.{Gathered}
+use Rattle.batch_ends.specs.Gathered.{Gathered}
 use Rattle.batch_run.proofs.Delivered.{delivered_by}
-use Rattle.batch_jobs.specs.Came.{CameFor}
+use Rattle.batch_ends.specs.Came.{CameFor}
 
 -- As the history grows
 

@@ -10,8 +10,8 @@ use Rattle.table_core.specs.Fitting.{FitsRow}
 use Rattle.table_sets.specs.Sets.{Rising}
 use Rattle.table_core.specs.Table.{TableRows}
 use Rattle.table_core.specs.declared.cell.Cell.{Cell}
-use Rattle.csv_meaning.specs.Judged.{Fields}
-use Rattle.csv_meaning.specs.Loaded.{IsLoaded}
+use Rattle.csv_load.specs.Judged.{Fields}
+use Rattle.csv_load.specs.Loaded.{IsLoaded}
 use Rattle.filter_zones.specs.Possible.{needed}
 use Rattle.filter_zones.specs.Truth as codes
 use Rattle.filter_zones.specs.declared.cond.Cond.{Cond}
@@ -43,24 +43,24 @@ use Rattle.batch_plan.specs.declared.task.Task.{Task}
 use Rattle.batch_plan.specs.Scans.{Scan, needs, scans}
 use Rattle.batch_plan.specs.Setting.{AreOptions, batch_setting}
 use Rattle.batch_plan.proofs.Planned.{some_queries}
-use Rattle.batch_answers.specs.Rows.{AreOfShape, FitsShape, IsPlanOfShape}
-use Rattle.batch_jobs.specs.Came.{CameOf, IsNeedOf}
-use Rattle.batch_answers.specs.Whole.{IsWholeStory}
-use Rattle.batch_answers.specs.Answering.{AnswersSome, AreAllJoinable, Came}
-use Rattle.batch_answers.specs.Lost.{IsLostBy, Tells, stop_of}
-use Rattle.batch_answers.specs.Noting.{HasRoomFor, IsOpened, NotesAll}
+use Rattle.batch_ends.specs.Rows.{AreOfShape, FitsShape, IsPlanOfShape}
+use Rattle.batch_ends.specs.Came.{CameOf, IsNeedOf}
+use Rattle.batch_ends.specs.Whole.{IsWholeStory}
+use Rattle.batch_ends.specs.Answering.{AnswersSome, AreAllJoinable, Came}
+use Rattle.batch_ends.specs.Lost.{IsLostBy, Tells, stop_of}
+use Rattle.batch_ends.specs.Noting.{HasRoomFor, IsOpened, NotesAll}
 use Rattle.batch_run.specs.Picked.{content_of}
-use Rattle.batch_answers.specs.Story.{IsStoryOver, counts}
-use Rattle.batch_answers.specs.Taken.{IsTakenBy, TookNeed}
-use Rattle.batch_answers.specs.Tasks.{IsPlanOfTable}
-use Rattle.batch_answers.specs.declared.taken.Taken.{Taken}
+use Rattle.batch_ends.specs.Story.{IsStoryOver, counts}
+use Rattle.batch_ends.specs.Taken.{IsTakenBy, TookNeed}
+use Rattle.batch_ends.specs.Tasks.{IsPlanOfTable}
+use Rattle.batch_ends.specs.declared.taken.Taken.{Taken}
 use Rattle.batch_run.proofs.Batches.{IsTaskAnswered, all_answered, all_joinable, needs_of_scans}
-use Rattle.batch_answers.proofs.Faultless.{licensed_sooner}
+use Rattle.batch_ends.proofs.Faultless.{licensed_sooner}
 use Rattle.batch_run.proofs.Held.{table_put}
 use Rattle.batch_run.proofs.Matched.{matching_all}
-use Rattle.batch_answers.proofs.Noted.{IsOpenAs, all_taken, has_room, opened, scans_are, zip_since}
+use Rattle.batch_ends.proofs.Noted.{IsOpenAs, all_taken, has_room, opened, scans_are, zip_since}
 use Rattle.batch_run.proofs.Stories.{all_took, no_cause}
-use Rattle.batch_answers.proofs.Tables.{dicts_rise, fits_columns, is_plan, rows_wide, where_fits}
+use Rattle.batch_ends.proofs.Tables.{dicts_rise, fits_columns, is_plan, rows_wide, where_fits}
 use Rattle.batch_run.proofs.Written.{read_written}
 
 -- the pieces of the table are put

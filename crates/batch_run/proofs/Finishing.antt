@@ -30,27 +30,27 @@ use Rattle.frame_pool.specs.Frames.{Told}
 use Rattle.piece_format.specs.Shape.{TableShape}
 use Rattle.query_gather.specs.declared.partial.Partial.{Partial}
 use Rattle.batch_run.proofs.Delivered.{reverse-first}
-use Rattle.batch_jobs.specs.declared.job.Job.{Job}
+use Rattle.batch_ends.specs.declared.job.Job.{Job}
 use Rattle.batch_run.specs.declared.worker.Worker.{Worker}
 use Rattle.batch_run.specs.declared.crew.Crew.{Crew}
 use Rattle.batch_run.specs.declared.seating.Works.{Works}
-use Rattle.batch_jobs.specs.Came.{CameFor, CameOf}
+use Rattle.batch_ends.specs.Came.{CameFor, CameOf}
 use Rattle.batch_run.specs.Crews.{AreFresh, passes_of, up_to, workers_of}
 use Rattle.batch_run.specs.Works.{HasWorked}
 use Rattle.sql_bind.specs.declared.plan.Plan.{Plan}
 use Rattle.batch_plan.specs.Scans.{Scan}
-use Rattle.batch_jobs.specs.Jobs.{IsJobOf, jobs_on, numbers_of}
+use Rattle.batch_ends.specs.Jobs.{IsJobOf, jobs_on, numbers_of}
 use Rattle.batch_run.specs.Jobs.{AreJobs, IsJob}
-use Rattle.batch_jobs.specs.Lists.{AreCounted, AreSorted, CameOfAll, CameOfJob}
-use Rattle.batch_answers.specs.Registering.{numbers_on, registered}
-use Rattle.batch_answers.specs.Whole.{LoadsAreBounded}
+use Rattle.batch_ends.specs.Lists.{AreCounted, AreSorted, CameOfAll, CameOfJob}
+use Rattle.batch_ends.specs.Registering.{numbers_on, registered}
+use Rattle.batch_ends.specs.Whole.{LoadsAreBounded}
 use Rattle.batch_run.specs.Workers.{HasRun, Rests}
 use Rattle.batch_run.proofs.Coming.{came_later, came_over, over_inactive}
 use Rattle.batch_run.proofs.Endings.{none_underway}
 use Rattle.baton.proofs.Zips.{zip_length}
 use Rattle.batch_run.proofs.Registered.{registered_by, registered_once}
 use Rattle.batch_run.proofs.Serving.{AreOn, all_on}
-use Rattle.batch_jobs.proofs.Sorting.{map_at}
+use Rattle.batch_ends.proofs.Sorting.{map_at}
 
 abbrev pub Queue : Type 0
 Queue = VecDeque (Result Partial Cause) Global

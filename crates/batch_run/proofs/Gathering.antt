@@ -22,8 +22,8 @@ use Rattle.query_gather.specs.Agree.{Agree, RowsAgree}
 use Rattle.query_gather.specs.Partial.{FitsPlan, MayJoin, Stands, matching, row_count}
 use Rattle.query_gather.proofs.Below.{numbered-append}
 use Rattle.frame_rows.specs.Tables.{HoldsTable}
-use Rattle.batch_jobs.specs.Gathered.{Gathered, GatheredRows}
-use Rattle.batch_answers.specs.Rows.{AreOfShape, FitsShape, chunk_numbers, chunk_rows, numbers_of_chunks, rows_of_chunks}
+use Rattle.batch_ends.specs.Gathered.{Gathered, GatheredRows}
+use Rattle.batch_ends.specs.Rows.{AreOfShape, FitsShape, chunk_numbers, chunk_rows, numbers_of_chunks, rows_of_chunks}
 use Rattle.batch_run.proofs.Numbers.{may_join, new_number, numbers_more, numbers_of, range_more}
 
 agree_push : (columns : List ℕ) (xs ys : List (Numbered Cell)) (a b : Numbered Cell) → Agree columns xs ys → a.0 ≡ b.0 → RowsAgree columns a.1 b.1 → Agree columns (xs ++ a ∷ []) (ys ++ b ∷ [])

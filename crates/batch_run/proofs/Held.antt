@@ -13,9 +13,9 @@ use Rattle.table_pieces.specs.Putting.{AreLong, ArePut, AreSound, GiveBack, IsPu
 use Rattle.table_pieces.specs.declared.refusal.BatchRefusal.{BatchRefusal}
 use Rattle.table_pieces.specs.declared.refusal.BatchRefusal.TheVariants as refusals
 use Rattle.frame_rows.specs.Tables.{HoldsTable, IsPieceThere, TellAlike, first_words}
-use Rattle.batch_answers.specs.Lost.{Tells}
+use Rattle.batch_ends.specs.Lost.{Tells}
 use Rattle.batch_run.specs.Picked.{HoldsRows, HoldsSomeTable, content_of, or_none, words_held}
-use Rattle.batch_answers.specs.Refusals.{IsRefusal}
+use Rattle.batch_ends.specs.Refusals.{IsRefusal}
 
 -- the first words, where each is that of a list
 words_are : (word : ℕ → ℕ) (n : ℕ) (words : List ℕ) → n ≤ length words → ((i : ℕ) → i < n → word i ≡ get_or words i 0) → first_words word n ≡ take n words

@@ -21,7 +21,7 @@ use Rattle.sql_bind.specs.Meaning.{is_true, matches, numbered}
 use Rattle.query_gather.specs.Partial.{matching}
 use Rattle.table_pieces.specs.Zoning.{NoMatchOutside}
 use Rattle.table_pieces.proofs.Passing.{passing_chunks}
-use Rattle.batch_answers.specs.Rows.{chunk_rows, rows_of_chunks}
+use Rattle.batch_ends.specs.Rows.{chunk_rows, rows_of_chunks}
 
 -- ---- parts of numbered rows
 

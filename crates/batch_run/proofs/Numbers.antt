@@ -21,7 +21,7 @@ use Rattle.query_gather.specs.Partial.{MayJoin, matching}
 use Rattle.story_laws.specs.Lists.{NoneTwice}
 use Rattle.story_laws.proofs.Bools.{either, if_not, not_both, or_false, or_left, or_off, same_number, equal_number, flipped, or_right, self_number}
 use Rattle.story_laws.proofs.Lists.{length_below}
-use Rattle.batch_answers.specs.Rows.{chunk_numbers, numbers_of_chunks}
+use Rattle.batch_ends.specs.Rows.{chunk_numbers, numbers_of_chunks}
 
 -- Lists of numbers
 

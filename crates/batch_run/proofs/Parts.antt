@@ -42,11 +42,11 @@ use Rattle.frame_rows.specs.Tables.{HoldsTable}
 use Rattle.batch_plan.specs.declared.task.Task.{Task}
 use Rattle.batch_plan.specs.Scans.{scan_number, scans_from_part}
 use Rattle.batch_plan.proofs.Rises.{is_rising, rises_to}
-use Rattle.batch_answers.specs.Rows.{AreOfShape, FitsShape, chunk_numbers, chunk_rows, numbers_of_chunks, rows_of_chunks}
-use Rattle.batch_jobs.specs.Came.{CameOf}
-use Rattle.batch_answers.specs.Answering.{AreApart, AreJoinable, Came, IsAnswerOf, first_cause}
-use Rattle.batch_answers.specs.Lost.{cause_from, or_first, stop_of}
-use Rattle.batch_answers.specs.Taken.{TookNeed}
+use Rattle.batch_ends.specs.Rows.{AreOfShape, FitsShape, chunk_numbers, chunk_rows, numbers_of_chunks, rows_of_chunks}
+use Rattle.batch_ends.specs.Came.{CameOf}
+use Rattle.batch_ends.specs.Answering.{AreApart, AreJoinable, Came, IsAnswerOf, first_cause}
+use Rattle.batch_ends.specs.Lost.{cause_from, or_first, stop_of}
+use Rattle.batch_ends.specs.Taken.{TookNeed}
 use Rattle.batch_run.proofs.Numbers.{few_numbers, in_chunks, in_numbers}
 use Rattle.batch_run.proofs.Orders.{agree_in_order, mapped_in_order, passing_in_order}
 use Rattle.batch_run.proofs.Stories.{took_dealt}

@@ -14,10 +14,10 @@ use Rattle.piece_format.specs.Shape.{TableShape, IsShape}
 use Rattle.sql_bind.specs.declared.plan.Plan.{Plan}
 use Rattle.batch_plan.specs.declared.task.Task.{Task}
 use Rattle.batch_plan.specs.Scans.{Scan, scans, scans_from, scans_from_part}
-use Rattle.batch_answers.specs.Rows.{IsPlanOfShape}
-use Rattle.batch_jobs.specs.declared.job.Job.{Job}
-use Rattle.batch_jobs.specs.Came.{IsNeedOf}
-use Rattle.batch_jobs.specs.Jobs.{IsJobOf, numbers_of}
+use Rattle.batch_ends.specs.Rows.{IsPlanOfShape}
+use Rattle.batch_ends.specs.declared.job.Job.{Job}
+use Rattle.batch_ends.specs.Came.{IsNeedOf}
+use Rattle.batch_ends.specs.Jobs.{IsJobOf, numbers_of}
 use Rattle.batch_run.specs.Jobs.{AreJobs, IsJob}
 
 -- Needs

@@ -9,7 +9,7 @@ use Rattle.table_core.specs.declared.cell.Cell.{Cell}
 use Rattle.piece_format.specs.Shape.{TableShape, rows_in}
 use Rattle.query_gather.specs.Agree.{RowsAgree}
 use Rattle.frame_rows.specs.Rows.{FitColumns, HasCellsOf, OthersAreNull}
-use Rattle.batch_answers.specs.Rows.{AreOfShape, FitsShape}
+use Rattle.batch_ends.specs.Rows.{AreOfShape, FitsShape}
 
 -- cells that some columns may have, and NULL in the other places
 pub read_fits : (z : TableShape) (columns : List ℕ) (cells : List Cell) → length cells ≡ length z.kinds → FitColumns z columns cells → OthersAreNull columns cells → FitsShape z cells

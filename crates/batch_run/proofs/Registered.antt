@@ -17,7 +17,7 @@ use Rattle.story_laws.proofs.Active.{active_parts}
 use Rattle.story_laws.proofs.Bools.{if_not, not_both, or_false, same_number}
 use Rattle.story_laws.proofs.Sums.{among_none}
 use Rattle.abm_policy.proofs.Meanwhile.{not_mine}
-use Rattle.batch_answers.specs.Registering.{registered}
+use Rattle.batch_ends.specs.Registering.{registered}
 use Rattle.batch_run.proofs.Delivered.{by-past, delivered-past}
 
 -- By the entries of its worker

@@ -28,18 +28,18 @@ use Rattle.cscan.specs.Stations.{Waits}
 use Rattle.atomic_table.specs.Seated.{TableId}
 use Rattle.frame_pool.specs.Berths.{PoolView}
 use Rattle.sql_bind.specs.declared.plan.Plan.{Plan}
-use Rattle.batch_jobs.specs.Gathered.{Gathered}
+use Rattle.batch_ends.specs.Gathered.{Gathered}
 use Rattle.batch_run.proofs.Delivered.{delivered_by}
 use Rattle.batch_run.specs.declared.part.Unfinished.{Unfinished}
 use Rattle.batch_run.specs.declared.part.Unfinished.TheVariants as unfinished
-use Rattle.batch_answers.specs.Registering.{registered}
+use Rattle.batch_ends.specs.Registering.{registered}
 use Rattle.batch_run.specs.Parts.{CameTo, WentFor}
-use Rattle.batch_jobs.specs.Came.{CameFor}
+use Rattle.batch_ends.specs.Came.{CameFor}
 use Rattle.story_laws.proofs.Delivering.{delivered_append}
 use Rattle.cscan.specs.declared.scan.CScan.{CScan}
-use Rattle.batch_jobs.specs.declared.job.Job.{Job}
-use Rattle.batch_jobs.specs.Jobs.{numbers_of}
-use Rattle.batch_jobs.specs.Lists.{CameOfAll}
+use Rattle.batch_ends.specs.declared.job.Job.{Job}
+use Rattle.batch_ends.specs.Jobs.{numbers_of}
+use Rattle.batch_ends.specs.Lists.{CameOfAll}
 use Rattle.batch_run.specs.Workers.{Ran}
 use Rattle.batch_run.proofs.Coming.{came_over, over_inactive}
 use Rattle.batch_run.proofs.Registered.{delivered_none, registered-append, registered_by}

@@ -27,12 +27,12 @@ use Rattle.query_gather.specs.declared.partial.Partial.{Partial}
 use Rattle.cscan.specs.declared.station.Station.{Station}
 use Rattle.cscan.specs.Scans.{IsOver}
 use Rattle.cscan.specs.Stations.{Waits}
-use Rattle.batch_answers.specs.Registering.{registered}
-use Rattle.batch_jobs.specs.declared.job.Job.{Job}
-use Rattle.batch_jobs.specs.Came.{CameFor}
-use Rattle.batch_jobs.specs.Jobs.{jobs_on, numbers_of}
+use Rattle.batch_ends.specs.Registering.{registered}
+use Rattle.batch_ends.specs.declared.job.Job.{Job}
+use Rattle.batch_ends.specs.Came.{CameFor}
+use Rattle.batch_ends.specs.Jobs.{jobs_on, numbers_of}
 use Rattle.batch_run.specs.Jobs.{AreJobs, IsJob}
-use Rattle.batch_jobs.specs.Lists.{CameOfAll}
+use Rattle.batch_ends.specs.Lists.{CameOfAll}
 use Rattle.batch_run.specs.declared.worker.Worker.{Worker}
 use Rattle.batch_run.specs.Workers.{HasRun, Ran, Rests}
 use Rattle.batch_run.proofs.Resting.{may_register}

@@ -22,7 +22,7 @@ use Rattle.chunk_interest.specs.Fresh.{as_need}
 use Rattle.batch_plan.specs.Deal.{deal, is_dealt}
 use Rattle.batch_plan.specs.Scans.{Scan, need_of, needs}
 use Rattle.batch_run.proofs.Delivered.{story_all, story_once}
-use Rattle.batch_answers.specs.Taken.{TookNeed}
+use Rattle.batch_ends.specs.Taken.{TookNeed}
 use Rattle.batch_run.proofs.Orders.{alike_below, rising_order}
 use Rattle.batch_run.proofs.Planned.{find_themselves}
 

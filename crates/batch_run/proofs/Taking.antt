@@ -25,8 +25,8 @@ use Rattle.cscan.specs.Answers.{AreOfLoads, Ends, FindsStopped, Releases, TakesC
 use Rattle.cscan.specs.Scans.{IsOver, IsSameScan, IsScan}
 use Rattle.cscan.proofs.Stories.{loads_deliver_none}
 use Rattle.story_laws.proofs.Delivering.{delivered_append}
-use Rattle.batch_jobs.specs.Gathered.{Gathered}
-use Rattle.batch_answers.specs.Registering.{registered}
+use Rattle.batch_ends.specs.Gathered.{Gathered}
+use Rattle.batch_ends.specs.Registering.{registered}
 use Rattle.batch_run.specs.Parts.{AreAllOnce, WentFor}
 use Rattle.batch_run.proofs.Delivered.{delivered_by, once_push, story_all, story_once}
 use Rattle.batch_run.proofs.Gathering.{count_of}

@@ -13,14 +13,14 @@ use Rattle.piece_format.specs.Shape.{TableShape}
 use Rattle.query_gather.specs.declared.partial.Partial.{Partial}
 use Rattle.cscan.specs.Scans.{Fits}
 use Rattle.cscan.specs.Stations.{IsSeated}
-use Rattle.batch_answers.specs.Registering.{registered}
-use Rattle.batch_jobs.specs.declared.job.Job.{Job}
+use Rattle.batch_ends.specs.Registering.{registered}
+use Rattle.batch_ends.specs.declared.job.Job.{Job}
 use Rattle.batch_run.specs.declared.shop.Shop.{Shop}
 use Rattle.batch_run.specs.declared.worker.Worker.{Worker}
 use Rattle.batch_run.specs.Crews.{IsFresh}
-use Rattle.batch_jobs.specs.Jobs.{jobs_on}
+use Rattle.batch_ends.specs.Jobs.{jobs_on}
 use Rattle.batch_run.specs.Jobs.{AreJobs}
-use Rattle.batch_jobs.specs.Lists.{CameOfAll}
+use Rattle.batch_ends.specs.Lists.{CameOfAll}
 use Rattle.batch_run.specs.Workers.{HasDone, HasRun, IsReady, Rests}
 
 pub fresh_rests : (id : TableId) (o : Start) (n : ℕ) (p : PassView) → p ≡ new_pass id n o [] → Rests o p

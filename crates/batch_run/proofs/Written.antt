@@ -16,7 +16,7 @@ use Rattle.query_gather.specs.declared.answer.Answer.{Answer}
 use Rattle.query_gather.specs.Answer.{CanBeWritten, IsAnswerOver}
 use Rattle.query_gather.specs.Partial.{matching, unnumbered}
 use Rattle.query_gather.proofs.Written.{can_be_written}
-use Rattle.batch_answers.specs.Rows.{FitsShape}
+use Rattle.batch_ends.specs.Rows.{FitsShape}
 
 -- what holds of each row that has a shape holds of those that match
 matching_hold : (s : TableShape) (P : List Cell → Type 0) (p : Plan) (rows : List (Numbered Cell)) → ((row : List Cell) → FitsShape s row → P row) → AllByRecursion (λ (r : Numbered Cell). FitsShape s r.1) rows

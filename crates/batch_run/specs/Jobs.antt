@@ -6,9 +6,9 @@ use Rattle.story_laws.specs.Lists.{NoneTwice}
 use Rattle.piece_format.specs.Shape.{TableShape}
 use Rattle.cscan.specs.Scans.{HasColumns}
 use Rattle.batch_run.specs.Parts.{ReadsPlan}
-use Rattle.batch_answers.specs.Rows.{IsPlanOfShape}
-use Rattle.batch_jobs.specs.declared.job.Job.{Job}
-use Rattle.batch_jobs.specs.Jobs.{numbers_of}
+use Rattle.batch_ends.specs.Rows.{IsPlanOfShape}
+use Rattle.batch_ends.specs.declared.job.Job.{Job}
+use Rattle.batch_ends.specs.Jobs.{numbers_of}
 
 -- a job that may be done: its number's need names its worker and the columns of its plan, which is over tables of the shape
 pub record IsJob (s : Setting) (z : TableShape) (j : Job) : Type 0 where

@@ -18,8 +18,8 @@ use Rattle.cscan.specs.declared.scan.CScan.{CScan}
 use Rattle.cscan.specs.Scans.{IsOver, IsScan, reads_column}
 use Rattle.batch_run.specs.declared.part.Unfinished.{Unfinished}
 use Rattle.batch_run.specs.declared.part.Unfinished.TheVariants as unfinished
-use Rattle.batch_answers.specs.Registering.{registered}
-use Rattle.batch_jobs.specs.Gathered.{Gathered}
+use Rattle.batch_ends.specs.Registering.{registered}
+use Rattle.batch_ends.specs.Gathered.{Gathered}
 
 -- the query reads just the columns that the plan names
 abbrev pub ReadsPlan : Setting → ℕ → Plan → Type 0

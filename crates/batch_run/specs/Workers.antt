@@ -16,13 +16,13 @@ use Rattle.frame_pool.specs.Frames.{Told}
 use Rattle.piece_format.specs.Shape.{TableShape}
 use Rattle.cscan.specs.Scans.{Fits}
 use Rattle.cscan.specs.Stations.{IsSeated}
-use Rattle.batch_answers.specs.Registering.{registered}
-use Rattle.batch_jobs.specs.declared.job.Job.{Job}
+use Rattle.batch_ends.specs.Registering.{registered}
+use Rattle.batch_ends.specs.declared.job.Job.{Job}
 use Rattle.batch_run.specs.declared.shop.Shop.{Shop}
 use Rattle.batch_run.specs.declared.worker.Worker.{Worker}
-use Rattle.batch_jobs.specs.Jobs.{jobs_on, numbers_of}
+use Rattle.batch_ends.specs.Jobs.{jobs_on, numbers_of}
 use Rattle.batch_run.specs.Jobs.{AreJobs}
-use Rattle.batch_jobs.specs.Lists.{CameOfAll}
+use Rattle.batch_ends.specs.Lists.{CameOfAll}
 
 -- the worker registered the query and no other one, and took chunks for no other one
 pub record Ran (q : ℕ) (p r : PassView) : Type 0 where

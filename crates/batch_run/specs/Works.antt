@@ -3,11 +3,11 @@ use Rattle.std.specs.Prelude.{◌≡◌, ℕ, List, [], All, map}
 use Rattle.scan_story.specs.declared.origin.Start.{Start}
 use Rattle.frame_pool.specs.Frames.{Told}
 use Rattle.piece_format.specs.Shape.{TableShape}
-use Rattle.batch_jobs.specs.declared.job.Job.{Job}
+use Rattle.batch_ends.specs.declared.job.Job.{Job}
 use Rattle.batch_run.specs.declared.seating.Works.{Works}
 use Rattle.batch_run.specs.declared.worker.Worker.{Worker}
 use Rattle.batch_run.specs.Crews.{AreFresh, IsCrew, passes_of}
-use Rattle.batch_jobs.specs.Jobs.{jobs_on}
+use Rattle.batch_ends.specs.Jobs.{jobs_on}
 use Rattle.batch_run.specs.Workers.{HasRun}
 
 module _ {S C P D : Type 0} where

@@ -24,7 +24,7 @@ mod shop;
 mod worker;
 
 pub use batch::run_batch;
-pub use batch_answers::{BatchEnd, Ran, Taken, lost_without_faults, plans_fit};
+pub use batch_ends::{BatchEnd, Ran, Taken, lost_without_faults, plans_fit};
 pub use batch_plan::{Options, Task};
 pub use query_gather::{Answer, Cause};
 pub use table_pieces::BatchRefusal;

@@ -5,7 +5,7 @@ ghost use Rattle.story_laws.specs.Queries.{chunks_delivered};
 ghost use Rattle.query_gather.specs.Partial.{FitsPlan, Stands, row_count};
 ghost use Rattle.cscan.specs.Scans.{IsSameScan, IsScan};
 ghost use Rattle.batch_run.specs.Parts.{CameTo, ReadsPlan, WentFor};
-ghost use Rattle.batch_answers.specs.Rows.{IsPlanOfShape};
+ghost use Rattle.batch_ends.specs.Rows.{IsPlanOfShape};
 
 use crate::rows::add_rows;
 use coop_outside::Depot;

@@ -8,11 +8,11 @@ ghost use Rattle.abm_policy.specs.Sound.{setting_of, start_of};
 ghost use Rattle.piece_format.specs.Shape.{IsShape, chunks, frame_words, groups};
 ghost use Rattle.batch_plan.specs.Scans.{scans};
 ghost use Rattle.batch_plan.specs.Setting.{AreOptions};
-ghost use Rattle.batch_answers.specs.Rows.{IsPlanOfShape};
-ghost use Rattle.batch_jobs.specs.Came.{CameOf, IsNeedOf};
-ghost use Rattle.batch_answers.specs.Whole.{IsWholeStory};
+ghost use Rattle.batch_ends.specs.Rows.{IsPlanOfShape};
+ghost use Rattle.batch_ends.specs.Came.{CameOf, IsNeedOf};
+ghost use Rattle.batch_ends.specs.Whole.{IsWholeStory};
 ghost use Rattle.batch_run.specs.Picked.{HoldsSomeTable, content_of};
-ghost use Rattle.batch_answers.specs.Registering.{RegistersInOrder};
+ghost use Rattle.batch_ends.specs.Registering.{RegistersInOrder};
 
 use crate::running::{ScansEnd, run_scans};
 use batch_plan::{Options, Task};

@@ -4,9 +4,9 @@ ghost use Rattle.scan_story.specs.Counting.{has};
 ghost use Rattle.piece_format.specs.Shape.{rows_in};
 ghost use Rattle.query_gather.specs.Partial.{FitsPlan, row_count};
 ghost use Rattle.cscan.specs.Scans.{IsScan};
-ghost use Rattle.batch_jobs.specs.Gathered.{Gathered};
+ghost use Rattle.batch_ends.specs.Gathered.{Gathered};
 ghost use Rattle.batch_run.specs.Parts.{ReadsPlan};
-ghost use Rattle.batch_answers.specs.Rows.{IsPlanOfShape};
+ghost use Rattle.batch_ends.specs.Rows.{IsPlanOfShape};
 
 use coop_outside::Depot;
 use cscan::{CScan, Held};

@@ -9,20 +9,20 @@ ghost use Rattle.piece_format.specs.Shape.{IsShape, chunks, frame_words, groups}
 ghost use Rattle.frame_rows.specs.Tables.{TellAlike};
 ghost use Rattle.batch_plan.specs.Scans.{scans};
 ghost use Rattle.batch_plan.specs.Setting.{AreOptions};
-ghost use Rattle.batch_answers.specs.Rows.{IsPlanOfShape};
-ghost use Rattle.batch_jobs.specs.Came.{CameOf, IsNeedOf};
+ghost use Rattle.batch_ends.specs.Rows.{IsPlanOfShape};
+ghost use Rattle.batch_ends.specs.Came.{CameOf, IsNeedOf};
 ghost use Rattle.cscan.specs.Scans.{Fits};
 ghost use Rattle.batch_run.specs.Crews.{AreFresh, IsCrew};
 ghost use Rattle.batch_run.specs.Jobs.{AreJobs};
-ghost use Rattle.batch_answers.specs.Registering.{RegistersInOrder};
-ghost use Rattle.batch_answers.specs.Whole.{IsWholeStory};
+ghost use Rattle.batch_ends.specs.Registering.{RegistersInOrder};
+ghost use Rattle.batch_ends.specs.Whole.{IsWholeStory};
 ghost use Rattle.batch_run.specs.Works.{HasWorked, IsSeating};
 
 use crate::crew::{Crew, seat_all};
 use crate::scanning::run_at_once;
 use crate::seating::{Works, close, open};
 use crate::shop::Shop;
-use batch_jobs::{Job, in_order, jobs_of};
+use batch_ends::{Job, in_order, jobs_of};
 use batch_plan::{Options, Task};
 use chunk_interest::Need;
 use coop_outside::Depot;

@@ -8,7 +8,7 @@ ghost use Rattle.scan_story.specs.Setting.{IsStart};
 ghost use Rattle.scan_story.specs.Views.{past};
 ghost use Rattle.cscan.specs.Scans.{Fits, IsOver};
 ghost use Rattle.cscan.specs.Stations.{IsSeated};
-ghost use Rattle.batch_jobs.specs.Came.{CameFor};
+ghost use Rattle.batch_ends.specs.Came.{CameFor};
 ghost use Rattle.batch_run.specs.Jobs.{IsJob};
 ghost use Rattle.batch_run.specs.Workers.{HasDone, IsReady, Ran};
 
@@ -16,7 +16,7 @@ use crate::part::{Unfinished, scan_part};
 use crate::shop::Shop;
 use crate::worker::Worker;
 use abm_policy::Desk;
-use batch_jobs::Job;
+use batch_ends::Job;
 use baton::Baton;
 use coop_outside::Depot;
 use cscan::{CScan, Gate, Station};

@@ -1,7 +1,7 @@
 // What all workers of a batch share.
 
 use abm_policy::Desk;
-use batch_jobs::Job;
+use batch_ends::Job;
 use baton::Baton;
 use coop_outside::Depot;
 use frame_pool::{Content, Pool};

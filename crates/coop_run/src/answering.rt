@@ -1,16 +1,16 @@
 // From what a run is given to the answers of its queries.
 ghost use Rattle.std.specs.Prelude.{◌≡◌, ◌≤◌, ◌^◌, [], IfErr, IfOk};
-ghost use Rattle.run_decision.specs.Answering.{IsAnswered, IsUnanswered};
-ghost use Rattle.run_decision.specs.Deciding.{stop_for};
-ghost use Rattle.run_decision.specs.Devices.{depot_at};
-ghost use Rattle.run_decision.specs.Running.{CanRun};
-ghost use Rattle.run_decision.specs.Work.{work};
+ghost use Rattle.run_ends.specs.Answering.{IsAnswered, IsUnanswered};
+ghost use Rattle.run_ends.specs.Deciding.{stop_for};
+ghost use Rattle.run_ends.specs.Devices.{depot_at};
+ghost use Rattle.run_ends.specs.Running.{CanRun};
+ghost use Rattle.run_ends.specs.Work.{work};
 
 use batch_run::{BatchEnd, BatchRefusal, plans_fit, run_batch};
 use coop_outside::Depot;
 use cscan::Gate;
 use interest_book::Policy;
-use run_decision::{Answered, tasks_of};
+use run_ends::{Answered, tasks_of};
 use run_inputs::Inputs;
 use run_stops::Stop;
 use std::alloc::Global;

@@ -4,13 +4,13 @@ ghost use Rattle.command_words.specs.Limits.{IsWithinLimits};
 ghost use Rattle.command_words.specs.Views.{request_view};
 ghost use Rattle.command_words.specs.declared.call.Call.TheVariants.{RunBoxed};
 ghost use Rattle.run_inputs.specs.Asked.{asked_of};
-ghost use Rattle.run_promises.specs.Policies.{policy_at};
-ghost use Rattle.run_promises.specs.Boxed.{ComparesAndPrints, DecidesAndPrintsOn, KeepsPromisesOn, LeavesRuns};
-ghost use Rattle.run_promises.specs.Devices.{devices};
-ghost use Rattle.run_promises.specs.Did.{policy_of};
-ghost use Rattle.run_promises.specs.Jobs.{job_of};
-ghost use Rattle.run_promises.specs.Promises.{DecidesAndPrints};
-ghost use Rattle.run_promises.specs.Runs.{AreOfOne, did_runs, did_under};
+ghost use Rattle.run_ends.specs.Policies.{policy_at};
+ghost use Rattle.run_ends.specs.Boxed.{ComparesAndPrints, DecidesAndPrintsOn, KeepsPromisesOn, LeavesRuns};
+ghost use Rattle.run_ends.specs.OverDevices.{devices};
+ghost use Rattle.run_ends.specs.Did.{policy_of};
+ghost use Rattle.run_ends.specs.Jobs.{job_of};
+ghost use Rattle.run_ends.specs.Promises.{DecidesAndPrints};
+ghost use Rattle.run_ends.specs.Runs.{AreOfOne, did_runs, did_under};
 
 use crate::comparing::compare;
 use crate::settle::settle;
@@ -20,8 +20,8 @@ use coop_outside::{Depot, Shelf, Sink};
 use cscan::Gate;
 use interest_book::Policy;
 use policy_box::{Boxed, choose};
+use run_ends::{BoxedEnd, Compared, Settled, kept, print, stop_before};
 use run_inputs::request_in;
-use run_promises::{BoxedEnd, Compared, Settled, kept, print, stop_before};
 use run_stops::Stop;
 use std::alloc::Global;
 use std::hash::RandomState;
@@ -48,7 +48,7 @@ pub fn run_boxed<F: Shelf, D: Depot + Send, O: Sink, T: Gate + Sync, R: Threads 
 ) -> BoxedEnd<D>
     requires few { length policies.items ≤ 16 }
     requires gets { D.gets depot ≤ 2 ^ 62 }
-    // the clauses by their names, 0 and 1 with THE HEADLINE first: specs/Boxed.antt of run_promises
+    // the clauses by their names, 0 and 1 with THE HEADLINE first: specs/Boxed.antt of run_ends
     ensures promises { KeepsPromisesOn
         (job_of (map (λ p. policy_at (name p) (cursor p)) policies.items) (asked_of RunBoxed words.now))
         (devices F.Shelf shelf.old shelf.new D.Depot depot result.depot O.Sink out.old out.new)

@@ -3,18 +3,18 @@ ghost use Rattle.std.specs.Prelude.{◌≡◌, ◌≢◌, ◌≤◌, ◌^◌, If
 ghost use Rattle.command_words.specs.Limits.{IsWithinLimits};
 ghost use Rattle.command_words.specs.Views.{request_view};
 ghost use Rattle.run_stops.specs.declared.stop.Stop.TheVariants as stop;
-ghost use Rattle.run_decision.specs.Answering.{story_in, taken_in};
-ghost use Rattle.run_decision.specs.Deciding.{ComesOf, IsDecided, shown};
-ghost use Rattle.run_decision.specs.Devices.{depot_at, over_shelf};
-ghost use Rattle.run_decision.specs.Running.{CanRun};
-ghost use Rattle.run_decision.specs.Work.{work};
+ghost use Rattle.run_ends.specs.Answering.{story_in, taken_in};
+ghost use Rattle.run_ends.specs.Deciding.{ComesOf, IsDecided, shown};
+ghost use Rattle.run_ends.specs.Devices.{depot_at, over_shelf};
+ghost use Rattle.run_ends.specs.Running.{CanRun};
+ghost use Rattle.run_ends.specs.Work.{work};
 
 use crate::answering::answer;
 use command_words::Request;
 use coop_outside::{Depot, Shelf};
 use cscan::Gate;
 use interest_book::Policy;
-use run_decision::{Decision, decision_of};
+use run_ends::{Decision, decision_of};
 use run_inputs::{Inputs, inputs_of};
 use std::alloc::Global;
 use std::hash::RandomState;

@@ -7,7 +7,7 @@
 //!     let ended = run(&rt, alloc, keys, &words, &mut shelf, depot, Relevance, &NoGate, &mut out);
 //!     Ok(ExitCode::from(ended.status))
 //!
-//! `run` takes the words of the command line and carries the theorem, whose clauses are in `run_promises`; `run_settings`
+//! `run` takes the words of the command line and carries the theorem, whose clauses are in `run_ends`; `run_settings`
 //! takes `Settings` in their place; `run_boxed` takes a list of policies in boxes, of which the words name one, or compares
 //! all. `decide` and `answer` go as far as the texts and the answers. docs/COMMAND_LINE.md is the manual, and
 //! docs/POLICIES.md tells the rules of a comparison.
@@ -28,4 +28,4 @@ pub use boxed::run_boxed;
 pub use deciding::decide;
 pub use one_policy::{run, run_settings};
 pub use piece_format::Layout;
-pub use run_promises::{BoxedEnd, Ended, PolicyRun, Settings, stops_are_stopped_queries};
+pub use run_ends::{BoxedEnd, Ended, PolicyRun, Settings, stops_are_stopped_queries};

@@ -1,17 +1,17 @@
 // One run more of a comparison.
 ghost use Rattle.std.specs.Prelude.{◌≤◌, ◌^◌, IfErr, IfOk};
-ghost use Rattle.run_decision.specs.Deciding.{shown};
-ghost use Rattle.run_decision.specs.Devices.{depot_at};
-ghost use Rattle.run_decision.specs.Running.{CanRun};
-ghost use Rattle.run_promises.specs.Next.{EndsIn, IsNext};
-ghost use Rattle.run_promises.specs.Policies.{policy_at};
+ghost use Rattle.run_ends.specs.Deciding.{shown};
+ghost use Rattle.run_ends.specs.Devices.{depot_at};
+ghost use Rattle.run_ends.specs.Running.{CanRun};
+ghost use Rattle.run_ends.specs.Next.{EndsIn, IsNext};
+ghost use Rattle.run_ends.specs.Policies.{policy_at};
 
 use crate::single::run_single;
 use coop_outside::Depot;
 use cscan::Gate;
 use interest_book::Policy;
+use run_ends::{Compared, Ending, Made, write_line};
 use run_inputs::Inputs;
-use run_promises::{Compared, Ending, Made, write_line};
 use run_stops::Stop;
 use std::alloc::Global;
 use std::sync::Wait;

@@ -4,17 +4,17 @@ ghost use Rattle.command_words.specs.Limits.{IsWithinLimits};
 ghost use Rattle.command_words.specs.Views.{request_view};
 ghost use Rattle.command_words.specs.declared.call.Call.TheVariants.{Run};
 ghost use Rattle.run_inputs.specs.Asked.{asked_of};
-ghost use Rattle.run_promises.specs.Devices.{devices};
-ghost use Rattle.run_promises.specs.Did.{did_with, policy_of};
-ghost use Rattle.run_promises.specs.Promises.{DecidesAndPrints, KeepsPromises};
-ghost use Rattle.run_promises.specs.Settings.{asked_in_settings};
+ghost use Rattle.run_ends.specs.OverDevices.{devices};
+ghost use Rattle.run_ends.specs.Did.{did_with, policy_of};
+ghost use Rattle.run_ends.specs.Promises.{DecidesAndPrints, KeepsPromises};
+ghost use Rattle.run_ends.specs.Settings.{asked_in_settings};
 
 use crate::settle::{settle, settle_words};
 use command_words::Request;
 use coop_outside::{Depot, Shelf, Sink};
 use cscan::Gate;
 use interest_book::Policy;
-use run_promises::{Ended, Settings, leave};
+use run_ends::{Ended, Settings, leave};
 use std::alloc::Global;
 use std::hash::RandomState;
 use std::sync::Wait;
@@ -39,7 +39,7 @@ pub fn run<F: Shelf, P: Policy, D: Depot + Send, O: Sink, T: Gate + Sync, R: Thr
     out: &mut O,
 ) -> Ended<D>
     requires gets { D.gets depot ≤ 2 ^ 63 }
-    // the clauses by their names, 0 and 1 with THE HEADLINE first: specs/Promises.antt of run_promises
+    // the clauses by their names, 0 and 1 with THE HEADLINE first: specs/Promises.antt of run_ends
     ensures promises { KeepsPromises (asked_of Run words.now)
         (devices F.Shelf shelf.old shelf.new D.Depot depot result.depot O.Sink out.old out.new)
         (did_with (policy_of P.Policy policy) result.status result.story.items result.taken.items) }

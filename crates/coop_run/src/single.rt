@@ -1,19 +1,18 @@
 // The run with one policy.
 ghost use Rattle.std.specs.Prelude.{◌≤◌, ◌^◌};
-ghost use Rattle.run_decision.specs.Devices.{depot_at};
-ghost use Rattle.run_decision.specs.Running.{CanRun};
-ghost use Rattle.run_promises.specs.Policies.{policy_at};
-ghost use Rattle.run_promises.specs.PolicyRuns.{RunComesTo};
+ghost use Rattle.run_ends.specs.Devices.{depot_at};
+ghost use Rattle.run_ends.specs.Running.{CanRun};
+ghost use Rattle.run_ends.specs.Policies.{policy_at};
+ghost use Rattle.run_ends.specs.PolicyRuns.{RunComesTo};
 
 use crate::answering::answer;
 use crate::taken_policy::TakenPolicy;
 use coop_outside::Depot;
 use cscan::Gate;
 use interest_book::Policy;
-use run_decision::Answered;
+use run_ends::{Answered, Ending, name_of, run_of};
 use run_inputs::Inputs;
 use run_output::status_of;
-use run_promises::{Ending, name_of, run_of};
 use std::alloc::Global;
 use std::sync::Wait;
 use std::thread::Threads;

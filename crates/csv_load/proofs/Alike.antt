@@ -5,8 +5,8 @@ use Rattle.std.proofs.lemmas.List.{map_push}
 use Rattle.std.proofs.lemmas.List.Elements.{All-head, All-push, All-tail, All-weaker}
 use Rattle.std.proofs.Math.Seq.{get_or-append_seam}
 use Rattle.csv_load.specs.Gathered.{AreNumbers, Follows, number_fields, spelled, with_places}
-use Rattle.csv_meaning.specs.Number.{number_read}
-use Rattle.csv_meaning.specs.declared.number.Number.{Number}
+use Rattle.csv_load.specs.Number.{number_read}
+use Rattle.csv_load.specs.declared.number.Number.{Number}
 use Rattle.csv_load.proofs.Spelled.{number-spelled}
 use Rattle.table_core.specs.Value.{number_text}
 

@@ -6,12 +6,12 @@ use Rattle.std.proofs.lemmas.Bool.{cases_Bool}
 use Rattle.std.proofs.lemmas.Bool.Decides.{nat_tests}
 use Rattle.std.proofs.lemmas.List.{ext_get_or, get_or-map, length-map}
 use Rattle.std.proofs.lemmas.List.Elements.{All-nil, All-cons, All-head, All-tail, All-from_get_or, All-get_or}
-use Rattle.csv_meaning.specs.Kinds.{value_as}
-use Rattle.csv_meaning.specs.Judged.{Fields, refusal_of}
+use Rattle.csv_load.specs.Kinds.{value_as}
+use Rattle.csv_load.specs.Judged.{Fields, refusal_of}
 use Rattle.csv_load.specs.Finished.{column_with, columns_with}
 use Rattle.csv_load.specs.Gathered.{AreGathered}
-use Rattle.csv_meaning.specs.Loaded.{IsLoaded}
-use Rattle.csv_meaning.specs.Meaning.{IsColumnDict, column_at, columns_from, row_of}
+use Rattle.csv_load.specs.Loaded.{IsLoaded}
+use Rattle.csv_load.specs.Meaning.{IsColumnDict, column_at, columns_from, row_of}
 use Rattle.csv_load.specs.Reading.{IsRead}
 use Rattle.csv_load.specs.Typed.{IsCell, IsTyped}
 use Rattle.csv_load.specs.declared.typed.Typed.{Typed}

@@ -3,8 +3,8 @@ use Rattle.std.proofs.Common.{◌≡◌, ◌≤◌, ◌^◌, ◌&&◌, ◌==◌,
 use Rattle.std.specs.Prelude.{Option, Some, None, IfSome, pos, neg_ℤ}
 use Rattle.std.proofs.lemmas.Bool.{cases_Bool}
 use Rattle.std.proofs.lemmas.Bool.Decides.{nat_tests}
-use Rattle.csv_meaning.specs.Number.{made, rest_read, unsigned_read, number_read, is_whole_part, digits_from, fits_i64}
-use Rattle.csv_meaning.specs.declared.number.Number.{Number}
+use Rattle.csv_load.specs.Number.{made, rest_read, unsigned_read, number_read, is_whole_part, digits_from, fits_i64}
+use Rattle.csv_load.specs.declared.number.Number.{Number}
 
 pub record IsSmall (n : Number) : Type 0 where
   pub few : n.places ≤ 9

@@ -4,11 +4,11 @@ use Rattle.std.specs.Prelude.{All, Contains, ◌⊎◌, None, Some, Option, IfSo
 use Rattle.std.specs.List.{AllZip}
 use Rattle.std.proofs.lemmas.List.{get_or-map, length-map, get_or_default}
 use Rattle.std.proofs.lemmas.List.Elements.{All-get_or, All-weaker, All-contains, Contains-get_or}
-use Rattle.csv_meaning.specs.Kinds.{kind_of, value_as}
+use Rattle.csv_load.specs.Kinds.{kind_of, value_as}
 use Rattle.csv_load.proofs.Holding.{AreSame}
-use Rattle.csv_meaning.specs.Judged.{Fields}
+use Rattle.csv_load.specs.Judged.{Fields}
 use Rattle.csv_load.specs.Finished.{columns_with}
-use Rattle.csv_meaning.specs.Meaning.{IsDictionary, column_at, columns_from}
+use Rattle.csv_load.specs.Meaning.{IsDictionary, column_at, columns_from}
 use Rattle.csv_load.specs.Typed.{IsCell}
 use Rattle.csv_load.specs.declared.typed.Typed.{Typed}
 use Rattle.table_core.specs.Columns.{code_cell}

@@ -7,9 +7,9 @@ use Rattle.std.proofs.lemmas.Bool.{cases_Bool, and_parts}
 use Rattle.std.proofs.lemmas.Bool.Decides.{nat_tests}
 use Rattle.std.proofs.lemmas.List.Elements.{All-nil, All-cons, All-head, All-tail, All-weaker, All-contains}
 use Rattle.std.specs.Cmp.{both_ways}
-use Rattle.csv_meaning.specs.Number.{number_read, fits_i64}
-use Rattle.csv_meaning.specs.declared.number.Number.{Number}
-use Rattle.csv_meaning.specs.Kinds.{is_plain, is_whole, is_decimal, is_of, places_in, most_places, scaled, fits_places, kind_of, value_as}
+use Rattle.csv_load.specs.Number.{number_read, fits_i64}
+use Rattle.csv_load.specs.declared.number.Number.{Number}
+use Rattle.csv_load.specs.Kinds.{is_plain, is_whole, is_decimal, is_of, places_in, most_places, scaled, fits_places, kind_of, value_as}
 use Rattle.csv_load.proofs.Few.{small-number, AreSmall}
 use Rattle.table_core.specs.declared.schema.Kind.{Kind}
 use Rattle.table_core.specs.declared.schema.Kind.TheVariants.{Int, Text, Dec}

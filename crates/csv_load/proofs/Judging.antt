@@ -4,8 +4,8 @@ use Rattle.std.specs.Prelude.{All}
 use Rattle.std.proofs.lemmas.Bool.{cases_eq}
 use Rattle.std.proofs.lemmas.Bool.Decides.{nat_tests}
 use Rattle.std.proofs.lemmas.List.Elements.{All-head, All-same}
-use Rattle.csv_meaning.specs.Judged.{refusal_of, header_refusal, first_bad_row, row_refusal}
-use Rattle.csv_meaning.specs.declared.limits.TheConstants.{MOST_TEXT_BYTES}
+use Rattle.csv_load.specs.Judged.{refusal_of, header_refusal, first_bad_row, row_refusal}
+use Rattle.csv_load.specs.declared.limits.TheConstants.{MOST_TEXT_BYTES}
 use Rattle.table_sets.specs.declared.limits.TheConstants.{MOST_ROWS}
 
 -- a row of fields that are few enough is counted in 32 bits

@@ -6,7 +6,7 @@ use Rattle.std.proofs.lemmas.List.{get_or_append_left, map_push, set_at}
 use Rattle.std.proofs.lemmas.List.Elements.{All-head, All-push, All-tail, All-weaker, Contains-append_left, Contains-push}
 use Rattle.std.proofs.Math.Seq.{get_or-append_seam}
 use Rattle.csv_load.specs.Gathered.{AreKept, ArePlaced}
-use Rattle.csv_meaning.specs.Judged.{Fields}
+use Rattle.csv_load.specs.Judged.{Fields}
 use Rattle.csv_load.specs.Ranks.{stands_for}
 use Rattle.csv_load.specs.Seen.{AreSound}
 use Rattle.csv_load.proofs.Sounds.{remembered}

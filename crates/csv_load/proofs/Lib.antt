@@ -1,3 +1,4 @@
+pub mod Zips
 pub mod Alike
 pub mod Assembled
 pub mod Keeping

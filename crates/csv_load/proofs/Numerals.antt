@@ -3,7 +3,7 @@ use Rattle.std.proofs.Common.{◌≡◌, ◌+◌, ◌-◌, ◌*◌, ◌^◌, ◌
 use Rattle.std.specs.Char.{is_ascii_digit}
 use Rattle.std.proofs.lemmas.Bool.{cases_Bool}
 use Rattle.std.proofs.lemmas.Bool.Decides.{nat_tests}
-use Rattle.csv_meaning.specs.Number.{digits_from, made, rest_read, unsigned_read, is_whole_part}
+use Rattle.csv_load.specs.Number.{digits_from, made, rest_read, unsigned_read, is_whole_part}
 
 pub digits_from-ge : (n : ℕ) (cs : List ℕ) → n ≤ (digits_from n cs).0
 digits_from-ge n [] = omega arith

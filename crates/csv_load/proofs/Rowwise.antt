@@ -4,9 +4,9 @@ use Rattle.std.specs.Prelude.{None}
 use Rattle.std.proofs.lemmas.Bool.{cases_eq}
 use Rattle.std.proofs.lemmas.List.{append-nil, drop_all, get_or-replicate, length-replicate, map-append, take_all}
 use Rattle.std.proofs.lemmas.List.Elements.{All-nil, All-push}
-use Rattle.csv_meaning.specs.Judged.{Fields, refusal_of}
+use Rattle.csv_load.specs.Judged.{Fields, refusal_of}
 use Rattle.csv_load.specs.Gathered.{AreGathered, RowPut}
-use Rattle.csv_meaning.specs.Meaning.{column_at}
+use Rattle.csv_load.specs.Meaning.{column_at}
 use Rattle.csv_load.specs.Reading.{IsRead}
 use Rattle.table_sets.specs.declared.limits.TheConstants.{MOST_ROWS}
 

@@ -9,8 +9,8 @@ use Rattle.std.proofs.lemmas.Fmt.{decimal_digit, decimal_step}
 use Rattle.std.proofs.lemmas.Bool.{cases_Bool, cases_lt}
 use Rattle.std.proofs.lemmas.Bool.Decides.{nat_tests}
 use Rattle.std.proofs.lemmas.List.{append-nil, nil_from_length}
-use Rattle.csv_meaning.specs.Number.{digits_from, is_whole_part, made, rest_read, unsigned_read, number_read}
-use Rattle.csv_meaning.specs.declared.number.Number.{Number}
+use Rattle.csv_load.specs.Number.{digits_from, is_whole_part, made, rest_read, unsigned_read, number_read}
+use Rattle.csv_load.specs.declared.number.Number.{Number}
 use Rattle.csv_load.proofs.Numerals.{digits_from-ge}
 use Rattle.table_core.specs.Value.{last_digits, number_text, unsigned_text}
 

@@ -7,11 +7,11 @@ use Rattle.std.proofs.lemmas.Bool.Decides.{nat_tests}
 use Rattle.std.proofs.lemmas.List.{ext_get_or, get_or-map, get_or_append_left, get_or_push, length-map}
 use Rattle.std.proofs.lemmas.List.Elements.{All-from_get_or, All-get_or, All-map, All-weaker, Contains-get_or}
 use Rattle.csv_load.specs.Gathered.{AreNumbers, AreSpelled, ArePlaced, kind_with, number_fields, spelled, with_places}
-use Rattle.csv_meaning.specs.Judged.{Fields}
-use Rattle.csv_meaning.specs.Kinds.{is_decimal, is_of, is_whole, kind_of, most_places, places_in, scaled}
-use Rattle.csv_meaning.specs.Meaning.{IsColumnDict}
-use Rattle.csv_meaning.specs.Number.{fits_i64, number_read}
-use Rattle.csv_meaning.specs.declared.number.Number.{Number}
+use Rattle.csv_load.specs.Judged.{Fields}
+use Rattle.csv_load.specs.Kinds.{is_decimal, is_of, is_whole, kind_of, most_places, places_in, scaled}
+use Rattle.csv_load.specs.Meaning.{IsColumnDict}
+use Rattle.csv_load.specs.Number.{fits_i64, number_read}
+use Rattle.csv_load.specs.declared.number.Number.{Number}
 use Rattle.csv_load.specs.Ranks.{IsRanked, stands_for}
 use Rattle.csv_load.specs.Typed.{AreNumbersOf, IsCell, IsTyped, through}
 use Rattle.csv_load.specs.declared.typed.Typed.{Typed}

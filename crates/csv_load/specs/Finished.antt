@@ -1,7 +1,7 @@
 -- Columns with their names and the kinds that were found for them.
 use Rattle.std.specs.Prelude.{ℕ, List}
 use Rattle.csv_load.specs.declared.typed.Typed.{Typed}
-use Rattle.csv_meaning.specs.Judged.{Fields}
+use Rattle.csv_load.specs.Judged.{Fields}
 use Rattle.table_core.specs.Value.{zip_with}
 use Rattle.table_core.specs.declared.schema.Column.{Column}
 

@@ -1,16 +1,16 @@
 -- The fields of a column as they are kept: numbers that are spelled alike, or the places of texts.
 use Rattle.std.specs.Prelude.{◌≡◌, ◌≢◌, ◌<◌, ◌≤◌, ◌++◌, ℕ, zero, suc, ℤ, List, [], ◌∷◌, length, map, slice_index_or, All, Contains, Option, Some, None, IfSome, is_some, true, false, Vec}
-use Rattle.csv_meaning.specs.Number.{number_read}
-use Rattle.csv_meaning.specs.Judged.{Fields}
+use Rattle.csv_load.specs.Number.{number_read}
+use Rattle.csv_load.specs.Judged.{Fields}
 use Rattle.csv_load.specs.Ranks.{stands_for}
 use Rattle.std.specs.Global.{Global}
 use Rattle.csv_load.specs.Seen.{AreSound}
-use Rattle.csv_meaning.specs.declared.number.Number.{Number}
+use Rattle.csv_load.specs.declared.number.Number.{Number}
 use Rattle.table_core.specs.Value.{number_text}
 use Rattle.table_sets.specs.declared.limits.TheConstants.{MOST_PLACES}
 use Rattle.table_core.specs.declared.schema.Kind.{Kind}
 use Rattle.table_core.specs.declared.schema.Kind.TheVariants.{Int, Dec}
-use Rattle.csv_meaning.specs.Meaning.{column_at}
+use Rattle.csv_load.specs.Meaning.{column_at}
 
 -- ---- numbers
 

@@ -1,7 +1,7 @@
 -- What is kept of a column's fields, once all have come.
 use Rattle.std.specs.Prelude.{◌≡◌}
 use Rattle.csv_load.specs.Gathered.{AreNumbers, number_fields}
-use Rattle.csv_meaning.specs.Judged.{Fields}
+use Rattle.csv_load.specs.Judged.{Fields}
 use Rattle.csv_load.specs.declared.gathered.Kept.{Kept}
 use Rattle.csv_load.specs.declared.gathered.Kept.TheVariants.{Numbers, Texts}
 

@@ -1,3 +1,8 @@
+pub mod Number
+pub mod Kinds
+pub mod Judged
+pub mod Meaning
+pub mod Loaded
 pub mod Finished
 pub mod Fronts
 pub mod Gathered

@@ -1,7 +1,7 @@
 -- What reading a text gives, before the kinds of its columns are known.
 use Rattle.std.specs.Prelude.{◌≡◌, ◌≤◌, ◌<◌, ℕ, List, ◌∷◌, length, None}
 use Rattle.csv_load.specs.Gathered.{AreGathered}
-use Rattle.csv_meaning.specs.Judged.{Fields, refusal_of}
+use Rattle.csv_load.specs.Judged.{Fields, refusal_of}
 use Rattle.table_sets.specs.declared.limits.TheConstants.{MOST_ROWS}
 
 -- the header's names, and the fields of so many rows column by column

@@ -1,9 +1,9 @@
 -- A column whose kind is known.
 use Rattle.std.specs.Prelude.{◌≡◌, ◌<◌, ◌≤◌, ℕ, ℤ, List, [], length, slice_index_or, Option, Some, None, true}
-use Rattle.csv_meaning.specs.Kinds.{is_of, kind_of, value_as}
+use Rattle.csv_load.specs.Kinds.{is_of, kind_of, value_as}
 use Rattle.csv_load.specs.declared.typed.Typed.{Typed}
-use Rattle.csv_meaning.specs.Judged.{Fields}
-use Rattle.csv_meaning.specs.Meaning.{IsColumnDict}
+use Rattle.csv_load.specs.Judged.{Fields}
+use Rattle.csv_load.specs.Meaning.{IsColumnDict}
 use Rattle.table_core.specs.Columns.{column_cells, number_cell}
 use Rattle.table_core.specs.Value.{FitsColumn, places_of, value_in}
 use Rattle.table_core.specs.declared.cell.Cell.{Cell}

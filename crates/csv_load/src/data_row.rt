@@ -1,10 +1,10 @@
 // What a data record is refused for.
 ghost use Rattle.std.specs.Prelude.{◌≡◌, ◌≤◌, ◌<◌, ◌^◌, length};
 ghost use Rattle.csv.specs.Records.{fields_of};
-ghost use Rattle.csv_meaning.specs.Judged.{row_refusal};
+ghost use Rattle.csv_load.specs.Judged.{row_refusal};
 
+use crate::refusal::LoadRefusal;
 use csv::ByteRecord;
-use csv_meaning::LoadRefusal;
 use table_core::MOST_ROWS;
 
 /// Why a record is no row of a table of so many columns, where so many rows stand before it, if it is none: one row past

@@ -2,13 +2,13 @@
 ghost use Rattle.std.specs.Prelude.{◌≡◌, ◌≤◌, ◌++◌, ◌∷◌, [], false, true, IfOk, IfSome, Some};
 ghost use Rattle.csv_load.specs.Gathered.{Follows};
 ghost use Rattle.csv_load.specs.Kept.{IsKept};
-ghost use Rattle.csv_meaning.specs.Number.{number_read};
+ghost use Rattle.csv_load.specs.Number.{number_read};
 
 use crate::kept_texts::KeptTexts;
-use crate::number::number_of;
+use crate::number::Number;
+use crate::numeral::number_of;
 use crate::seeded::Seeded;
 use crate::spelling::spelled_texts;
-use csv_meaning::Number;
 use std::alloc::{AllocError, Global};
 use std::marker::Model;
 use table_core::{MOST_PLACES, Numbers};

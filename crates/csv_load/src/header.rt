@@ -1,11 +1,12 @@
 // What a header is refused for.
 ghost use Rattle.std.specs.Prelude.{◌≡◌, ◌≤◌, ◌<◌, ◌^◌, length, take};
 ghost use Rattle.csv.specs.Records.{fields_of};
-ghost use Rattle.csv_meaning.specs.Judged.{first_equal, first_long, first_twice, header_refusal};
+ghost use Rattle.csv_load.specs.Judged.{first_equal, first_long, first_twice, header_refusal};
 
 use crate::fields::field;
+use crate::limits::MOST_NAME_BYTES;
+use crate::refusal::LoadRefusal;
 use csv::ByteRecord;
-use csv_meaning::{LoadRefusal, MOST_NAME_BYTES};
 use table_core::MOST_COLUMNS;
 
 fn long_name(row: &ByteRecord) -> Option<u32>

@@ -3,7 +3,7 @@ ghost use Rattle.std.specs.Prelude.{◌≡◌, ◌≢◌, ◌<◌, ◌++◌, ◌
 ghost use Rattle.csv_load.specs.Gathered.{AreKept};
 ghost use Rattle.csv_load.specs.Ranks.{stands_for};
 ghost use Rattle.csv_load.specs.Seen.{AreSound};
-ghost use Rattle.csv_meaning.specs.Judged.{Fields};
+ghost use Rattle.csv_load.specs.Judged.{Fields};
 
 use crate::recent::{Recent, mark_of};
 use crate::seeded::Seeded;

@@ -1,14 +1,14 @@
 // The kind of a column, and the cells of its numbers.
 ghost use Rattle.std.specs.Prelude.{◌≡◌, ◌≢◌, ◌≤◌, ◌^◌, List, ℕ, false, true, pos, MatchOption};
 ghost use Rattle.std.specs.List.{list_all};
-ghost use Rattle.csv_meaning.specs.Number.{fits_i64, number_read};
-ghost use Rattle.csv_meaning.specs.Kinds.{fits_places, is_decimal, is_of, is_plain, is_whole, kind_of, most_places, places_in, scaled, value_as};
+ghost use Rattle.csv_load.specs.Number.{fits_i64, number_read};
+ghost use Rattle.csv_load.specs.Kinds.{fits_places, is_decimal, is_of, is_plain, is_whole, kind_of, most_places, places_in, scaled, value_as};
 ghost use Rattle.table_core.specs.Columns.{number_cell};
 ghost use Rattle.table_core.specs.Value.{FitsColumn, places_of, value_in};
 ghost use Rattle.table_core.specs.declared.schema.Kind.TheVariants.{Text};
 
-use crate::number::number_of;
-use csv_meaning::Number;
+use crate::number::Number;
+use crate::numeral::number_of;
 use table_core::{Kind, MOST_PLACES, Texts, places_of_kind};
 
 // Whether a field is empty, or spells a whole number.

@@ -1,6 +1,6 @@
 //! From CSV text to a table of typed cells: `load` reads a text's records once, finds the kind of each column by the
 //! numbers that its fields spell, and ranks the texts of a column into its dictionary. Contracts say that the result
-//! is the table of the text's records, whose definition knows nothing of the way it is made.
+//! is the table of the text's records, whose definition (specs/Meaning.antt) knows nothing of the way it is made.
 //!
 //!     let keys = RandomState::new(&rt)?;
 //!     let most_threads = 3;               // beside this one
@@ -20,16 +20,23 @@ mod gathered;
 mod header;
 mod kept_texts;
 mod kind;
+mod limits;
+mod loaded;
 mod loading;
 mod number;
+mod numeral;
 mod rank;
-mod reading;
 mod recent;
+mod records;
+mod refusal;
 mod rows;
 mod seeded;
 mod side_by_side;
 mod spelling;
 mod typed;
 
-pub use csv_meaning::{LoadRefusal, Loaded, MOST_TEXT_BYTES};
+pub use limits::{MOST_NAME_BYTES, MOST_TEXT_BYTES};
+pub use loaded::Loaded;
 pub use loading::load;
+pub use number::Number;
+pub use refusal::LoadRefusal;

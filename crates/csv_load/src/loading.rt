@@ -1,17 +1,19 @@
 // The table of a text.
 ghost use Rattle.std.specs.Prelude.{◌≡◌, ◌≢◌, ◌≤◌, All, IfErr, IfOk, Some, length, map};
 ghost use Rattle.csv_load.specs.Finished.{columns_with};
-ghost use Rattle.csv_meaning.specs.Loaded.{IsLoaded};
-ghost use Rattle.csv_meaning.specs.Judged.{refusal_of};
+ghost use Rattle.csv_load.specs.Loaded.{IsLoaded};
+ghost use Rattle.csv_load.specs.Judged.{refusal_of};
 ghost use Rattle.csv_load.specs.Rows.{table_records};
-ghost use Rattle.csv_meaning.specs.declared.refusal.LoadRefusal.TheVariants as refusal;
+ghost use Rattle.csv_load.specs.declared.refusal.LoadRefusal.TheVariants as refusal;
 ghost use Rattle.table_core.specs.Value.{places_of};
 
-use crate::reading::{Read, read_rows};
+use crate::limits::MOST_TEXT_BYTES;
+use crate::loaded::Loaded;
+use crate::records::{Read, read_rows};
+use crate::refusal::LoadRefusal;
 use crate::seeded::Seeded;
 use crate::side_by_side::type_side_by_side;
 use crate::typed::Typed;
-use csv_meaning::{LoadRefusal, Loaded, MOST_TEXT_BYTES};
 use std::alloc::{AllocError, Global};
 use std::hash::RandomState;
 use std::thread::Threads;

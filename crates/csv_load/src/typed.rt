@@ -2,7 +2,7 @@
 ghost use Rattle.std.specs.Prelude.{◌≡◌, ◌≢◌, ◌≤◌, ◌<◌, [], ℕ, All, IfOk, IfSome, length, map};
 ghost use Rattle.std.specs.List.{AllZip};
 ghost use Rattle.csv_load.specs.Gathered.{AreNumbers, ArePlaced, kind_with, number_fields};
-ghost use Rattle.csv_meaning.specs.Kinds.{kind_of};
+ghost use Rattle.csv_load.specs.Kinds.{kind_of};
 ghost use Rattle.csv_load.specs.Ranks.{stands_for};
 ghost use Rattle.csv_load.specs.Typed.{AreNumbersOf, IsTyped, through};
 ghost use Rattle.csv_load.specs.declared.typed.Typed.{Typed};

@@ -3,9 +3,9 @@ use Rattle.std.specs.Prelude.{◌≡◌, ◌≤◌, ◌⊎◌, ◌++◌, ℕ, fa
 use Rattle.coop_outside.specs.Held.{Held}
 use Rattle.story_text.specs.Text.{story_text}
 use Rattle.scan_story.specs.declared.entry.Entry.{Entry}
-use Rattle.story_picture.specs.Svg.{picture}
-use Rattle.story_picture.specs.Groups.{IsLeastGroups, fills_agree}
-use Rattle.story_picture.specs.Trace.{IsBadLine, trace}
+use Rattle.inspect_picture.specs.Svg.{picture}
+use Rattle.inspect_picture.specs.Groups.{IsLeastGroups, fills_agree}
+use Rattle.inspect_picture.specs.Trace.{IsBadLine, trace}
 use Rattle.inspect_calls.specs.Output.{IsReadAs, IsUnread}
 use Rattle.inspect_calls.specs.Replies.{IsAnswer, IsFault, IsMemory}
 use Rattle.inspect_calls.specs.declared.reply.Reply.{Reply}

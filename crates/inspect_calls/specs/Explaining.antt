@@ -2,18 +2,18 @@
 use Rattle.std.specs.Prelude.{◌≡◌, ◌⊎◌, ℕ, Bool, List, Result, Ok, Err, if◌then◌else◌}
 use Rattle.command_words.specs.Options.{Request}
 use Rattle.coop_outside.specs.Held.{Held}
-use Rattle.csv_meaning.specs.declared.loaded.Loaded.{Loaded}
+use Rattle.csv_load.specs.declared.loaded.Loaded.{Loaded}
 use Rattle.filter_zones.specs.declared.zone.ChunkZones.{ChunkZones}
-use Rattle.run_decision.specs.Running.{zones_in}
+use Rattle.run_ends.specs.Running.{zones_in}
 use Rattle.run_inputs.specs.Ending.{IsReadAndKept}
 use Rattle.run_inputs.specs.declared.inputs.Inputs.{Inputs}
 use Rattle.run_inputs.specs.declared.inputs.ReadTexts.{ReadTexts}
 use Rattle.run_stops.specs.declared.stop.Stop.{Stop}
 use Rattle.sql_tokens.specs.Statements.{HasStatements}
 use Rattle.sql_tokens.specs.declared.span.Span.{Span}
-use Rattle.table_profile.specs.Profiles.{AreProfiles}
-use Rattle.table_profile.specs.Text.{profile_text}
-use Rattle.table_profile.specs.declared.profile.ColumnProfile.{ColumnProfile}
+use Rattle.inspect_notes.specs.Profiles.{AreProfiles}
+use Rattle.inspect_notes.specs.ProfileText.{profile_text}
+use Rattle.inspect_notes.specs.declared.profile.ColumnProfile.{ColumnProfile}
 use Rattle.inspect_calls.specs.Replies.{IsAnswer, IsMemory, IsStop}
 use Rattle.inspect_calls.specs.Telling.{AreTold}
 use Rattle.inspect_calls.specs.declared.reply.Reply.{Reply}

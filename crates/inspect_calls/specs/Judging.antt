@@ -5,8 +5,8 @@ use Rattle.command_words.specs.Options.{Request}
 use Rattle.run_inputs.specs.Ending.{IsRead}
 use Rattle.run_inputs.specs.declared.inputs.Inputs.{Inputs}
 use Rattle.run_stops.specs.declared.stop.Stop.{Stop}
-use Rattle.run_verdict.specs.Verdict.{IsVerdict}
-use Rattle.run_verdict.specs.declared.verdict.Verdict.{Verdict}
+use Rattle.inspect_verdict.specs.Verdict.{IsVerdict}
+use Rattle.inspect_verdict.specs.declared.verdict.Verdict.{Verdict}
 use Rattle.scan_story.specs.declared.setting.PolicyName.{PolicyName}
 use Rattle.inspect_calls.specs.Output.{IsReadAs, IsUnread}
 use Rattle.inspect_calls.specs.Replies.{IsAnswer, IsMemory, IsStop}

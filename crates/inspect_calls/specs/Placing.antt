@@ -1,8 +1,8 @@
 -- Where a statement is refused.
 use Rattle.std.specs.Prelude.{◌≡◌, ◌+◌, ◌++◌, ◌&&◌, ℕ, List, [], length, min, nat_le, take, codes, decimal, if◌then◌else◌}
-use Rattle.refusal_places.specs.Lines.{column_of, line_of}
-use Rattle.refusal_places.specs.Statements.{IsStatementPlace}
-use Rattle.refusal_places.specs.declared.place.Place.{Place}
+use Rattle.inspect_places.specs.Lines.{column_of, line_of}
+use Rattle.inspect_places.specs.Statements.{IsStatementPlace}
+use Rattle.inspect_places.specs.declared.place.Place.{Place}
 use Rattle.run_inputs.specs.Statements.{part}
 use Rattle.sql_bind.specs.declared.statement.StatementRefusal.{StatementRefusal}
 use Rattle.sql_tokens.specs.declared.span.Span.{Span}

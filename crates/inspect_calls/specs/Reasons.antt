@@ -1,14 +1,14 @@
 -- Why an entry may not come, in words.
 use Rattle.std.specs.Prelude.{◌++◌, ℕ, List, codes, decimal}
 use Rattle.std.specs.Fmt.{signed_decimal}
-use Rattle.story_referee.specs.declared.rank.Choice.{Choice}
-use Rattle.story_referee.specs.declared.rank.Choice.TheVariants as choice
-use Rattle.story_referee.specs.declared.rank.Rank.{Rank}
-use Rattle.story_referee.specs.declared.rank.Rank.TheVariants as rank
-use Rattle.story_referee.specs.declared.rule.Rule.{Rule}
-use Rattle.story_referee.specs.declared.rule.Rule.TheVariants as rule
-use Rattle.story_referee.specs.declared.ruling.Reason.{Reason}
-use Rattle.story_referee.specs.declared.ruling.Reason.TheVariants as reason
+use Rattle.inspect_referee.specs.declared.rank.Choice.{Choice}
+use Rattle.inspect_referee.specs.declared.rank.Choice.TheVariants as choice
+use Rattle.inspect_referee.specs.declared.rank.Rank.{Rank}
+use Rattle.inspect_referee.specs.declared.rank.Rank.TheVariants as rank
+use Rattle.inspect_referee.specs.declared.rule.Rule.{Rule}
+use Rattle.inspect_referee.specs.declared.rule.Rule.TheVariants as rule
+use Rattle.inspect_referee.specs.declared.ruling.Reason.{Reason}
+use Rattle.inspect_referee.specs.declared.ruling.Reason.TheVariants as reason
 
 -- the rule that is broken
 abbrev pub rule_words : Rule → List ℕ

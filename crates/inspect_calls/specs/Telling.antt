@@ -1,10 +1,10 @@
 -- What is told of the statements of a batch over a table.
 use Rattle.std.specs.Prelude.{◌≡◌, ◌<◌, ◌≤◌, ◌||◌, ◌++◌, ℕ, suc, Bool, true, false, List, [], ◌∷◌, All, length}
-use Rattle.batch_notes.specs.Notes.{IsNote}
-use Rattle.batch_notes.specs.Text.{note_text}
-use Rattle.batch_notes.specs.Zones.{AreZonesOf}
-use Rattle.batch_notes.specs.declared.note.Note.{Note}
-use Rattle.csv_meaning.specs.Judged.{Fields}
+use Rattle.inspect_notes.specs.Notes.{IsNote}
+use Rattle.inspect_notes.specs.NoteText.{note_text}
+use Rattle.inspect_notes.specs.Zones.{AreZonesOf}
+use Rattle.inspect_notes.specs.declared.note.Note.{Note}
+use Rattle.csv_load.specs.Judged.{Fields}
 use Rattle.filter_zones.specs.declared.zone.ChunkZones.{ChunkZones}
 use Rattle.run_inputs.specs.Statements.{part}
 use Rattle.run_output.specs.Refusals.{refusal_line, statement_words}

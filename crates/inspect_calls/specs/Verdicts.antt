@@ -1,9 +1,9 @@
 -- The text of a verdict.
 use Rattle.std.specs.Prelude.{◌≡◌, ◌++◌, ℕ, List, codes, decimal}
-use Rattle.run_verdict.specs.declared.verdict.Verdict.{Verdict}
-use Rattle.run_verdict.specs.declared.verdict.Verdict.TheVariants as verdict
-use Rattle.story_referee.specs.declared.counts.Counts.{Counts}
-use Rattle.story_referee.specs.declared.ruling.Reason.{Reason}
+use Rattle.inspect_verdict.specs.declared.verdict.Verdict.{Verdict}
+use Rattle.inspect_verdict.specs.declared.verdict.Verdict.TheVariants as verdict
+use Rattle.inspect_referee.specs.declared.counts.Counts.{Counts}
+use Rattle.inspect_referee.specs.declared.ruling.Reason.{Reason}
 use Rattle.inspect_calls.specs.Reasons.{reason_text}
 
 -- a text with a number behind some words

@@ -6,9 +6,9 @@ use crate::lines::numbered;
 use crate::output::read_output;
 use crate::reply::Reply;
 use coop_outside::Shelf;
+use inspect_picture::{TraceRefusal, draw, groups_of, story_of_output};
 use scan_story::Entry;
 use std::alloc::Global;
-use story_picture::{TraceRefusal, draw, groups_of, story_of_output};
 
 /// What is said to `draw`: the picture of the trace at the end of the file of this name, or why there is none.
 pub(crate) fn drawing<F: Shelf>(alloc: Global, name: &str, shelf: &mut F) -> Reply

@@ -2,24 +2,23 @@
 ghost use Rattle.std.specs.Prelude.{◌≤◌, All, IfOk, length};
 ghost use Rattle.command_words.specs.Limits.{IsWithinLimits};
 ghost use Rattle.command_words.specs.Views.{request_view};
-ghost use Rattle.run_decision.specs.Running.{CanRun};
-ghost use Rattle.table_profile.specs.Profiles.{IsOfRecords};
+ghost use Rattle.run_ends.specs.Running.{CanRun};
+ghost use Rattle.inspect_notes.specs.Profiles.{IsOfRecords};
 ghost use Rattle.table_core.specs.Value.{places_of};
 ghost use Rattle.inspect_calls.specs.Explaining.{IsExplained, IsExplanation, IsExplanationOf, IsTableTold};
 
 use crate::reply::Reply;
 use crate::statements::tell_statements;
-use batch_notes::zones_of_table;
 use command_words::Request;
 use coop_outside::Shelf;
-use csv_meaning::Loaded;
+use csv_load::Loaded;
+use inspect_notes::{profile_of, write_profile, zones_of_table};
 use run_inputs::{Inputs, read_inputs};
 use sql_tokens::split;
 use std::alloc::Global;
 use std::hash::RandomState;
 use std::thread::Threads;
 use table_core::{Bytes, Memory};
-use table_profile::{profile_of, write_profile};
 
 /// What is said to `explain`: what the table holds and what becomes of each statement; or why a run would stop.
 pub(crate) fn explanation<F: Shelf, R: Threads + Sync>(

@@ -2,7 +2,7 @@
 ghost use Rattle.std.specs.Prelude.{◌≤◌, ◌^◌, length};
 ghost use Rattle.command_words.specs.Limits.{IsWithinLimits};
 ghost use Rattle.command_words.specs.Views.{request_view};
-ghost use Rattle.run_decision.specs.Running.{CanRun};
+ghost use Rattle.run_ends.specs.Running.{CanRun};
 ghost use Rattle.inspect_calls.specs.Judging.{IsJudgedFrom, IsJudgement, IsJudgementOf, IsVerdictTold};
 
 use crate::output::read_output;
@@ -10,8 +10,8 @@ use crate::reply::Reply;
 use crate::verdicts::{status_of, text_of};
 use command_words::Request;
 use coop_outside::Shelf;
+use inspect_verdict::{Verdict, verdict_of};
 use run_inputs::{Inputs, inputs_of};
-use run_verdict::{Verdict, verdict_of};
 use scan_story::PolicyName;
 use std::alloc::Global;
 use std::hash::RandomState;

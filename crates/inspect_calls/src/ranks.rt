@@ -2,8 +2,8 @@
 ghost use Rattle.std.specs.Prelude.{Some};
 ghost use Rattle.inspect_calls.specs.Reasons as spec;
 
+use inspect_referee::Rank;
 use std::fmt;
-use story_referee::Rank;
 
 /// A rank of a choice, with the word of what it counts.
 #[derive(Clone, Copy)]

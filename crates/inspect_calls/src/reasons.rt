@@ -3,8 +3,8 @@ ghost use Rattle.std.specs.Prelude.{◌≡◌, Some};
 ghost use Rattle.inspect_calls.specs.Reasons as spec;
 
 use crate::ranks::ShownRank;
+use inspect_referee::{Choice, Reason, Rule};
 use std::fmt;
-use story_referee::{Choice, Reason, Rule};
 
 // The rule that is broken.
 fn rule_words(rule: Rule) -> &'static str

@@ -4,7 +4,7 @@ ghost use Rattle.run_inputs.specs.Statements.{IsSpanIn, part};
 ghost use Rattle.inspect_calls.specs.Placing.{IsPlaceTold, IsSpotTold, bytes_at, spot_text};
 
 use crate::lines::numbered;
-use refusal_places::{LineColumn, Place, line_and_column, statement_place};
+use inspect_places::{LineColumn, Place, line_and_column, statement_place};
 use sql_bind::StatementRefusal;
 use sql_tokens::Span;
 use std::alloc::{AllocError, Global};

@@ -4,8 +4,8 @@ ghost use Rattle.run_inputs.specs.Statements.{IsSpanIn};
 ghost use Rattle.inspect_calls.specs.Telling.{AreTold, CanTell, IsRefusalTold, IsTold};
 
 use crate::refusals::place_told;
-use batch_notes::{note_of, write_note};
 use filter_zones::ChunkZones;
+use inspect_notes::{note_of, write_note};
 use run_output::write_refusal;
 use sql_bind::StatementRefusal;
 use sql_tokens::Span;

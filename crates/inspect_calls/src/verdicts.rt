@@ -4,9 +4,9 @@ ghost use Rattle.inspect_calls.specs.Verdicts.{IsVerdictText, counts_text, illeg
 
 use crate::lines::{numbered, push_number};
 use crate::reasons::ShownReason;
-use run_verdict::Verdict;
+use inspect_referee::{Counts, Reason};
+use inspect_verdict::Verdict;
 use std::alloc::{AllocError, Global};
-use story_referee::{Counts, Reason};
 
 /// 0 where the output is that of a legal run, else 1.
 pub(crate) fn status_of(verdict: &Verdict) -> u8

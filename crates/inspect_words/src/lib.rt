@@ -10,12 +10,12 @@
 #![tactic(auto)]
 
 mod asked;
+mod asked_words;
 mod command;
 mod places;
-mod reading;
 mod refused;
 
 pub use asked::Asked;
+pub use asked_words::asked_of;
 pub use command_words::Request;
-pub use reading::asked_of;
 pub use refused::{Culprit, Refused};

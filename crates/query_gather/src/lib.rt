@@ -13,10 +13,10 @@
 
 mod answer;
 mod choosing;
-mod laws;
 mod partial;
+mod same_answers;
 
 pub use answer::Answer;
-pub use laws::{alike_parts, answer_agrees, answer_of_table, any_order, can_be_written};
 pub use partial::{Partial, join_parts};
+pub use same_answers::{alike_parts, answer_agrees, answer_of_table, any_order, can_be_written};
 pub use scan_story::Cause;

@@ -5,9 +5,9 @@ use Rattle.std.proofs.lemmas.List.{length-map}
 use Rattle.coop_outside.specs.Causes.{Rose}
 use Rattle.coop_outside.specs.Held.{Held}
 use Rattle.command_words.specs.Options.{Request}
-use Rattle.csv_meaning.specs.Loaded.{IsLoaded}
-use Rattle.csv_meaning.specs.Meaning.{table_of}
-use Rattle.csv_meaning.specs.Judged.{Fields, or_else, refusal_of}
+use Rattle.csv_load.specs.Loaded.{IsLoaded}
+use Rattle.csv_load.specs.Meaning.{table_of}
+use Rattle.csv_load.specs.Judged.{Fields, or_else, refusal_of}
 use Rattle.csv_load.specs.Rows.{table_records}
 use Rattle.run_stops.specs.declared.stop.Stop.{Stop}
 use Rattle.run_stops.specs.declared.stop.Stop.TheVariants as stop

@@ -8,8 +8,8 @@ use Rattle.std.proofs.Math.Nat.{mod-lt}
 use Rattle.std.proofs.lemmas.Bool.Decides.{nat_tests}
 use Rattle.std.proofs.lemmas.Fmt.{length-decimal-le}
 use Rattle.command_words.specs.Options.{TableIs, generated, file, is_colon, number_after, number_in, table_of, within}
-use Rattle.generated_texts.specs.Draws.{draw, drawn, state}
-use Rattle.generated_texts.specs.Table.{row, row_by, rows_below, table_text, tag_by, value_by}
+use Rattle.run_inputs.specs.Draws.{draw, drawn, state}
+use Rattle.run_inputs.specs.GeneratedTable.{row, row_by, rows_below, table_text, tag_by, value_by}
 use Rattle.run_inputs.specs.Sources.{HasFewRows}
 
 -- ---- how long the text is

@@ -1,3 +1,5 @@
+mod Wrapping
+mod Growing
 pub mod Spans
 pub mod Generated
 pub mod Texts

@@ -3,8 +3,8 @@ use Rattle.std.specs.Prelude.{◌≡◌, ◌≢◌, ◌≤◌, ◌⊎◌, ℕ, A
 use Rattle.coop_outside.specs.Causes.{Rose}
 use Rattle.coop_outside.specs.Held.{Held, Lacks, ReadFails, told}
 use Rattle.command_words.specs.Options.{Request}
-use Rattle.csv_meaning.specs.Loaded.{IsLoaded}
-use Rattle.csv_meaning.specs.declared.limits.TheConstants.{MOST_TEXT_BYTES}
+use Rattle.csv_load.specs.Loaded.{IsLoaded}
+use Rattle.csv_load.specs.declared.limits.TheConstants.{MOST_TEXT_BYTES}
 use Rattle.csv_load.specs.Rows.{table_records}
 use Rattle.run_stops.specs.declared.stop.Stop.{Stop}
 use Rattle.run_stops.specs.declared.stop.Stop.TheVariants as stop
@@ -18,7 +18,7 @@ use Rattle.run_stops.specs.declared.outcome.Outcome.{Outcome}
 use Rattle.run_inputs.specs.declared.inputs.Inputs.{Inputs}
 use Rattle.run_inputs.specs.declared.inputs.ReadTexts.{ReadTexts}
 use Rattle.run_inputs.specs.declared.limits.TheConstants.{MOST_BATCH_BYTES}
-use Rattle.csv_meaning.specs.declared.loaded.Loaded.{Loaded}
+use Rattle.csv_load.specs.declared.loaded.Loaded.{Loaded}
 
 -- a call ends as it should: with such a value where nothing stops it, else with what stops it; or memory runs out, or
 -- the shelf failed

@@ -1,3 +1,6 @@
+pub mod Draws
+pub mod GeneratedTable
+pub mod GeneratedBatch
 pub mod Asked
 pub mod Sources
 pub mod Statements

@@ -1,12 +1,12 @@
 -- Why a run stops before its batch runs: the first refusal in the order of the work.
 use Rattle.std.specs.Prelude.{◌+◌, ◌*◌, ℕ, nat_lt, min, List, length, Option, Some, None, if◌then◌else◌}
 use Rattle.command_words.specs.Options.{Request}
-use Rattle.csv_meaning.specs.Meaning.{Values, table_of}
-use Rattle.csv_meaning.specs.Judged.{or_else, refusal_of}
+use Rattle.csv_load.specs.Meaning.{Values, table_of}
+use Rattle.csv_load.specs.Judged.{or_else, refusal_of}
 use Rattle.csv_load.specs.Rows.{table_records}
-use Rattle.csv_meaning.specs.declared.limits.TheConstants.{MOST_TEXT_BYTES}
-use Rattle.csv_meaning.specs.declared.refusal.LoadRefusal.{LoadRefusal}
-use Rattle.csv_meaning.specs.declared.refusal.LoadRefusal.TheVariants as refusal
+use Rattle.csv_load.specs.declared.limits.TheConstants.{MOST_TEXT_BYTES}
+use Rattle.csv_load.specs.declared.refusal.LoadRefusal.{LoadRefusal}
+use Rattle.csv_load.specs.declared.refusal.LoadRefusal.TheVariants as refusal
 use Rattle.piece_format.specs.Shape.{groups_in, word_count}
 use Rattle.piece_format.specs.declared.layout.Layout.{Layout}
 use Rattle.run_stops.specs.declared.stop.Stop.{Stop}

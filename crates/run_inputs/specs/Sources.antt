@@ -2,8 +2,8 @@
 use Rattle.std.specs.Prelude.{ℕ, ◌≤◌, List, Option, Some, None}
 use Rattle.command_words.specs.declared.limits.TheConstants.{MOST_GENERATED_ROWS}
 use Rattle.command_words.specs.Options.{TableIs, generated, file, BatchIs, generated_batch, batch_file, table_of, batch_of}
-use Rattle.generated_texts.specs.Table.{table_text}
-use Rattle.generated_texts.specs.Batch.{batch_text}
+use Rattle.run_inputs.specs.GeneratedTable.{table_text}
+use Rattle.run_inputs.specs.GeneratedBatch.{batch_text}
 
 -- a text is made, or it is the file of this name
 pub data Source : Type 0 where

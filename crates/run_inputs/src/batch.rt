@@ -11,10 +11,10 @@ ghost use Rattle.sql_bind.specs.Statements.{IsRefusedFor, TextCause};
 ghost use Rattle.table_core.specs.Value.{places_of};
 ghost use Rattle.table_core.specs.declared.schema.Column.{Column};
 
+use crate::generated_batch::batch_text;
 use crate::limits::{MOST_BATCH_BYTES, MOST_SCANS, MOST_STATEMENTS};
 use command_words::{Batch, MOST_PARTS};
 use coop_outside::{Bytes, ReadFault, Shelf, read_all};
-use generated_texts::batch_text;
 use run_stops::{Outcome, Stop};
 use sql_bind::{BindRefusal, StatementRefusal, plan_of};
 use sql_tokens::{Span, TextRefusal, split};

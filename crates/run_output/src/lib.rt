@@ -10,16 +10,16 @@
 //! `docs/ANSWERS.md` has its words.
 #![tactic(auto)]
 
-mod laws;
 mod output;
 mod refused;
 mod statement;
 mod summary;
 mod totals;
+mod whole_outputs;
 
-pub use laws::{names_columns, one_output, output_alone};
 pub use output::{output_text, status_of};
 pub use refused::{write_overflow, write_refusal, write_stopped};
 pub use run_stops::{Outcome, Stop, StopLine};
 pub use summary::{write_policy_line, write_summary};
 pub use totals::Totals;
+pub use whole_outputs::{names_columns, one_output, output_alone};

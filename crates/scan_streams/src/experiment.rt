@@ -44,7 +44,7 @@ pub(crate) struct Experiment {
 
 impl Experiment {
     ghost use Rattle.command_words.specs.Limits.{IsFrom, IsWithinLimits};
-    ghost use Rattle.run_promises.specs.Settings.{asked_in_settings};
+    ghost use Rattle.run_ends.specs.Settings.{asked_in_settings};
 
     /// How many chunks the table has.
     pub(crate) fn chunks(&self) -> u32

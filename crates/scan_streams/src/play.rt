@@ -15,7 +15,7 @@ use coop_run::run_settings;
 use policy_box::{Boxed, Elevator};
 use policy_plain::{Attach, Normal};
 use relevance::{Policy, Relevance};
-use run_decision::Counts;
+use run_ends::Counts;
 use scan_story::PolicyName;
 use std::alloc::{AllocError, Global};
 use std::hash::RandomState;

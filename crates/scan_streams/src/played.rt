@@ -6,7 +6,7 @@ use crate::kind::Kind;
 use crate::range_query::RangeQuery;
 use crate::times::{average, query_time, stream_time};
 use coop_outside::Bytes;
-use run_decision::Counts;
+use run_ends::Counts;
 use std::alloc::{AllocError, Global};
 
 /// What a run of queries under a policy came to.

@@ -1,6 +1,6 @@
 // The policies that are played.
 ghost use Rattle.std.specs.Prelude.{◌≡◌};
-ghost use Rattle.run_promises.specs.Lines.{name_text};
+ghost use Rattle.run_ends.specs.Lines.{name_text};
 
 use scan_story::PolicyName;
 

@@ -16,16 +16,16 @@ mod bounds;
 mod conditions;
 mod items;
 mod judging;
-mod laws;
 mod names;
 mod naming;
 mod places;
 mod plan;
+mod plan_meaning;
 mod refusal;
 mod statement;
 
 pub use binding::bind;
-pub use laws::{one_meaning, readable_answers};
 pub use plan::Plan;
+pub use plan_meaning::{one_meaning, readable_answers};
 pub use refusal::BindRefusal;
 pub use statement::{StatementRefusal, one_cause, plan_of};

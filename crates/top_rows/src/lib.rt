@@ -7,13 +7,13 @@
 //!     let rows = top.finish()?;                         // equal ones by their numbers
 #![tactic(auto)]
 
-mod laws;
+mod row_order;
 mod standing;
 mod text;
 mod top;
 
 pub use agg_groups::Rows as Picked;
-pub use laws::one_order;
 pub use query_meaning::{Order, RowPlan};
+pub use row_order::one_order;
 pub use text::picked_text;
 pub use top::TopRows;

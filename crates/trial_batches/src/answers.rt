@@ -2,6 +2,7 @@
 use crate::batches::{COUNT, SUM, Trial, ended_in_memory};
 use crate::wanted::{Wanted, are_wanted};
 use batch_run::Options;
+use help_stories::tables::TABLE_A;
 use piece_format::Layout;
 use std::alloc::Global;
 use std::hash::RandomState;
@@ -11,7 +12,6 @@ use std::sync::Wait;
 use std::test::Fail;
 use std::thread::Threads;
 use table_core::Cell::{Code, Int, Null};
-use trial_stories::tables::TABLE_A;
 
 // A table, a statement and its answer.
 type Case<'a> = (&'a str, &'a [u8], Wanted);

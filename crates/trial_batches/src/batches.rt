@@ -7,7 +7,7 @@ ghost use Rattle.table_core.specs.Chunk.{chunk_count as chunks_of};
 ghost use Rattle.piece_format.specs.Shape.{IsShape, frame_words as words_of, groups as groups_of};
 ghost use Rattle.table_pieces.specs.Shaping as spec;
 ghost use Rattle.batch_plan.specs.Setting.{AreOptions};
-ghost use Rattle.batch_answers.specs.Tasks.{CanBeLoaded, IsPlanOfTable};
+ghost use Rattle.batch_ends.specs.Tasks.{CanBeLoaded, IsPlanOfTable};
 
 use batch_run::{BatchEnd, BatchRefusal, Options, Task, run_batch};
 use coop_outside::{Depot, MemDepot};

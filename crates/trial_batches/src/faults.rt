@@ -5,6 +5,7 @@ use crate::wanted::{Wanted, are_wanted};
 use batch_run::{BatchRefusal, Cause, Options};
 use coop_outside::{MemDepot, SpoiltDepot};
 use cscan::NoGate;
+use help_stories::tables::TABLE_A;
 use piece_format::Layout;
 use std::alloc::Global;
 use std::hash::RandomState;
@@ -14,7 +15,6 @@ use std::sync::Wait;
 use std::test::Fail;
 use std::thread::Threads;
 use table_core::Cell::Int;
-use trial_stories::tables::TABLE_A;
 
 const FIVE: Wanted = Wanted::Rows(&[&[Int(5)]]);
 

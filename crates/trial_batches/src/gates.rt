@@ -4,6 +4,7 @@ use crate::wanted::{Wanted, are_wanted};
 use batch_run::{BatchEnd, Options};
 use coop_outside::MemDepot;
 use cscan::Gate;
+use help_stories::tables::SIX_ROWS;
 use piece_format::Layout;
 use scan_story::Entry;
 use std::alloc::Global;
@@ -16,7 +17,6 @@ use std::test::Fail;
 use std::thread;
 use std::thread::Threads;
 use table_core::Cell::Int;
-use trial_stories::tables::SIX_ROWS;
 
 // How many chunks each of the two workers takes.
 const CHUNKS: u64 = 6;

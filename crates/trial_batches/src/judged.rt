@@ -1,13 +1,13 @@
 // What the judge says of the story of a batch.
 ghost use Rattle.std.specs.Prelude.{◌≤◌};
 ghost use Rattle.std.specs.Bool.{OnTrue};
-ghost use Rattle.story_views.specs.Small as small;
+ghost use Rattle.help_views.specs.Small as small;
 
+use help_judge::{first_illegal, is_licensed, is_undisturbed, is_whole};
 use scan_story::{Entry, Setting};
 use std::alloc::Global;
 use std::process::Abort;
 use std::test::Fail;
-use story_judge::{first_illegal, is_licensed, is_undisturbed, is_whole};
 
 fn is_small(s: &Setting) -> bool
     ensures { OnTrue result (small.IsSmall s.now) }

@@ -5,6 +5,7 @@ use crate::judged::{is_legal, is_sound};
 use batch_run::{Answer, BatchEnd, Options};
 use coop_outside::MemDepot;
 use cscan::NoGate;
+use help_stories::{POLICIES, first_cursor};
 use piece_format::Layout;
 use policy_box::Elevator;
 use policy_plain::{Attach, Normal};
@@ -19,7 +20,6 @@ use std::sync::Wait;
 use std::test::Fail;
 use std::thread::Threads;
 use table_core::Cell;
-use trial_stories::{POLICIES, first_cursor};
 
 // A query over the rows from `first` to `last`, counted from 1: it counts them, or sums their second column.
 #[derive(Clone, Copy)]

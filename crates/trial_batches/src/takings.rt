@@ -3,6 +3,7 @@ use crate::batches::{ALONE, ALONE_BY_COLUMNS, COUNT, Trial};
 use crate::told::{Told, expect_told, is_as_told};
 use crate::wanted::Took;
 use batch_run::Options;
+use help_stories::tables::{SIX_ROWS, TABLE_A};
 use piece_format::Layout;
 use std::alloc::Global;
 use std::process::Abort;
@@ -10,7 +11,6 @@ use std::random::RandomSource;
 use std::sync::Wait;
 use std::test::Fail;
 use std::thread::Threads;
-use trial_stories::tables::{SIX_ROWS, TABLE_A};
 
 // Statements over table A, the chunks that are taken for them, and the gets in the row and in the column layout.
 struct Needed<'a> {

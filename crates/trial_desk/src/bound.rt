@@ -1,11 +1,11 @@
 //! The Read bound, computed by the judge.
 ghost use Rattle.std.specs.Prelude.{◌<◌, length};
-ghost use Rattle.story_views.specs.Small.{IsSmall};
+ghost use Rattle.help_views.specs.Small.{IsSmall};
 
+use help_stories::paid_by;
+use help_views::underway;
 use scan_story::{Entry, Setting};
 use std::alloc::{AllocError, Global};
-use story_views::underway;
-use trial_stories::paid_by;
 
 /// Whether the last entry ends a load.
 fn ends_load(alloc: Global, s: &Setting, after: &[Entry]) -> Result<bool, AllocError>

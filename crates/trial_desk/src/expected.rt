@@ -2,18 +2,18 @@
 ghost use Rattle.std.specs.Prelude.{◌≡◌, ◌<◌, ◌≤◌, length};
 ghost use Rattle.scan_story.specs.Views.{past};
 ghost use Rattle.scan_story.specs.Loads.{underway};
-ghost use Rattle.story_views.specs.Small.{IsSmall};
+ghost use Rattle.help_views.specs.Small.{IsSmall};
 
 use crate::said::Said;
 use abm_policy::{Cause, Slots, Why};
+use help_views::{
+    is_available, is_free, is_stopped, missing_for, needed, piece_at, piece_in, reads_group,
+    underway,
+};
 use scan_story::{Entry, Load, Setting};
 use std::alloc::{AllocError, Global};
 use std::process::Abort;
 use std::test::Fail;
-use story_views::{
-    is_available, is_free, is_stopped, missing_for, needed, piece_at, piece_in, reads_group,
-    underway,
-};
 
 /// The rows of the table of turns.
 #[derive(Clone, Copy, PartialEq, Eq)]

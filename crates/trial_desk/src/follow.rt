@@ -1,13 +1,13 @@
 //! What a policy picks along a story.
 ghost use Rattle.scan_story.specs.Views.{past};
-ghost use Rattle.story_views.specs.Small.{IsSmall};
+ghost use Rattle.help_views.specs.Small.{IsSmall};
 ghost use Rattle.interest_book.specs.Stands.{Stands};
 
+use help_book::{book_of, delivery, load, note_next, victim};
 use interest_book::{Book, Memory};
 use relevance::Policy;
 use scan_story::{Entry, Setting};
 use std::alloc::Global;
-use trial_book::{book_of, delivery, load, note_next, victim};
 
 /// Whether the policy, asked after the entries, picks this query and this chunk for a load.
 fn picks_load<P: Policy>(

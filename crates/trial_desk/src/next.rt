@@ -6,9 +6,9 @@ ghost use Rattle.scan_story.specs.Views.{History, is_active, is_registered};
 ghost use Rattle.interest_book.specs.Stands.{Stands};
 ghost use Rattle.trial_desk.specs.Rigged.{IsNext};
 
+use help_views::worker_of;
 use interest_book::{Book, Phase};
 use scan_story::Setting;
-use story_views::worker_of;
 
 /// Whether the query is active.
 pub fn is_active(book: &Book, q: u32) -> bool

@@ -1,9 +1,13 @@
 ghost use Rattle.scan_story.specs.Views.{past};
 ghost use Rattle.interest_book.specs.Stands.{Stands};
-ghost use Rattle.story_views.specs.Small.{IsSmall};
+ghost use Rattle.help_views.specs.Small.{IsSmall};
 
 use crate::counted::Counted;
 use crate::follow::{first_other, takes};
+use help_book::played;
+use help_stories::{
+    POLICIES, Printed, SIX_ATTACH, SIX_ELEVATOR, SIX_NORMAL, SIX_RELEVANCE, Scene, entries_of,
+};
 use interest_book::{Book, Memory};
 use policy_box::{Elevator, choose};
 use policy_plain::{Attach, Normal};
@@ -11,10 +15,6 @@ use relevance::{Policy, Relevance};
 use scan_story::{Entry, PolicyName, Setting};
 use std::alloc::Global;
 use std::test::Fail;
-use trial_book::played;
-use trial_stories::{
-    POLICIES, Printed, SIX_ATTACH, SIX_ELEVATOR, SIX_NORMAL, SIX_RELEVANCE, Scene, entries_of,
-};
 
 /// Where the policy first picks something else than the printed story takes.
 fn parting<P: Policy>(alloc: Global, policy: P, printed: &Printed) -> Result<Option<usize>, Fail> {

@@ -15,12 +15,12 @@ use crate::said::Said;
 use crate::seat::{EMPTY, Seat};
 use abm_policy::{Desk, Ticket, Turn, frames_needed};
 use coop_outside::SpoiltDepot;
+use help_book::{book_needs, has_numbers};
 use interest_book::Memory;
 use relevance::Policy;
 use scan_story::{Entry, Hold, Origin, Setting};
 use std::alloc::Global;
 use std::marker::Model;
-use trial_book::{book_needs, has_numbers};
 
 /// A desk, what is remembered of each worker, and the load that is out. Each call asks the desk only for what may come,
 /// and answers `None` where it may not.

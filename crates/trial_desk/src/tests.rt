@@ -1,11 +1,16 @@
 ghost use Rattle.std.specs.Prelude.{◌≡◌, ◌<◌, ◌≤◌};
-ghost use Rattle.story_views.specs.Small.{IsSmall};
+ghost use Rattle.help_views.specs.Small.{IsSmall};
 
 use crate::bound::is_paid;
 use crate::expected::expect_answers;
 use crate::script::play;
 use crate::walks::{Walked, walk};
 use coop_outside::{Depot, MemDepot, SpoiltDepot};
+use help_judge::{first_illegal, is_licensed, is_undisturbed, is_whole};
+use help_stories::{
+    COUNTS, POLICIES, Printed, SIX_ATTACH, SIX_ELEVATOR, SIX_NORMAL, SIX_RELEVANCE, TURNS,
+};
+use help_walks::some_setting;
 use policy_box::Elevator;
 use policy_plain::{Attach, Normal};
 use rand_pcg::Pcg32;
@@ -14,11 +19,6 @@ use scan_story::{Entry, PolicyName, Setting, Why};
 use std::alloc::{AllocError, Global};
 use std::process::Abort;
 use std::test::Fail;
-use story_judge::{first_illegal, is_licensed, is_undisturbed, is_whole};
-use trial_stories::{
-    COUNTS, POLICIES, Printed, SIX_ATTACH, SIX_ELEVATOR, SIX_NORMAL, SIX_RELEVANCE, TURNS,
-};
-use trial_walks::some_setting;
 
 /// No piece has this number.
 pub const NO_PIECE: u32 = 4294967295;

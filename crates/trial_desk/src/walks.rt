@@ -7,13 +7,13 @@ ghost use Rattle.trial_desk.specs.Rigged.{under};
 use crate::rig::Rig;
 use crate::said::Said;
 use coop_outside::SpoiltDepot;
+use help_walks::below;
 use interest_book::Memory;
 use rand_pcg::Pcg32;
 use relevance::Policy;
 use scan_story::{Entry, Origin, Setting};
 use std::alloc::Global;
 use std::marker::Brand;
-use trial_walks::below;
 
 /// What becomes of a walk.
 #[derive(Drop)]

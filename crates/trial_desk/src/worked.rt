@@ -3,12 +3,12 @@ use crate::calls::{Call, answers};
 use crate::said::Said;
 use crate::tests::{NO_PIECE, depot};
 use abm_policy::{Cause, Slots, Why};
+use help_stories::Scene;
 use relevance::Relevance;
 use scan_story::PolicyName;
 use std::alloc::Global;
 use std::process::Abort;
 use std::test::Fail;
-use trial_stories::Scene;
 
 // What is to be answered. A slot is a frame and a piece, and there is no other one.
 #[derive(Clone, Copy)]

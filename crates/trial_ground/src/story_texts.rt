@@ -2,8 +2,7 @@
 use scan_story::{Entry, Story, Why, capacity};
 use std::alloc::Global;
 use std::process::Abort;
-use story_reading::{StoryRefusal, read_story};
-use story_text::write_story;
+use story_text::{StoryRefusal, read_story, write_story};
 
 // One query over three chunks of a table, alone on one worker with four frames.
 const ONE_COUNT: &str = "register 0 1

@@ -1,7 +1,7 @@
 // Tables of texts.
 ghost use Rattle.std.specs.Prelude.{◌≡◌, ◌≤◌, All, IfOk, length};
 ghost use Rattle.table_core.specs.Value.{places_of};
-ghost use Rattle.table_profile.specs.Profiles.{IsOfRecords};
+ghost use Rattle.inspect_notes.specs.Profiles.{IsOfRecords};
 
 use csv_load::{LoadRefusal, Loaded, MOST_TEXT_BYTES, load};
 use std::alloc::Global;

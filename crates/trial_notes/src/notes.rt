@@ -1,13 +1,13 @@
 // Statements over one table in chunks of two rows, and the lines of their notes, written by hand.
 ghost use Rattle.std.specs.Prelude.{◌≡◌, ◌≤◌, ◌<◌, ◌^◌, All, IfOk, length};
 ghost use Rattle.table_core.specs.Value.{places_of};
-ghost use Rattle.table_profile.specs.Profiles.{IsOfRecords};
-ghost use Rattle.batch_notes.specs.Zones.{AreZonesOf};
+ghost use Rattle.inspect_notes.specs.Profiles.{IsOfRecords};
+ghost use Rattle.inspect_notes.specs.Zones.{AreZonesOf};
 
 use crate::loading::loaded;
-use batch_notes::{note_of, write_note, zones_of_table};
 use csv_load::Loaded;
 use filter_zones::ChunkZones;
+use inspect_notes::{note_of, write_note, zones_of_table};
 use piece_format::Layout;
 use std::alloc::Global;
 use std::process::Abort;

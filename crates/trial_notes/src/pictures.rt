@@ -1,11 +1,11 @@
 // The whole picture of the smallest story, what other stories show, and where a story begins in what a run prints.
 use crate::smallest_picture::SMALLEST_PICTURE;
+use inspect_picture::{
+    Bar, Ended, Mark, TraceRefusal, bars_of, draw, groups_of, marks_of, story_of_output,
+};
 use scan_story::Entry;
 use std::alloc::Global;
 use std::process::Abort;
-use story_picture::{
-    Bar, Ended, Mark, TraceRefusal, bars_of, draw, groups_of, marks_of, story_of_output,
-};
 
 // One query over one chunk, alone.
 const SMALLEST: &str = "register 0 1

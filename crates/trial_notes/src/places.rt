@@ -3,7 +3,7 @@ ghost use Rattle.std.specs.Prelude.{◌≡◌, ◌≤◌, ◌<◌, All, length};
 ghost use Rattle.std.specs.Bool.{OnTrue};
 ghost use Rattle.table_core.specs.Value.{places_of};
 
-use refusal_places::{Place, line_and_column, statement_place};
+use inspect_places::{Place, line_and_column, statement_place};
 use sql_bind::{StatementRefusal, plan_of};
 use sql_tokens::{Span, split};
 use std::alloc::{AllocError, Global};

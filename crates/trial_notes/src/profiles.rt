@@ -1,13 +1,13 @@
 // Texts of tables and the lines of their profiles, written by hand.
 
 use crate::loading::loaded;
+use inspect_notes::{profile_of, write_profile};
 use std::alloc::Global;
 use std::process::Abort;
 use std::random::RandomSource;
 use std::test::Fail;
 use std::thread::Threads;
 use table_core::Bytes;
-use table_profile::{profile_of, write_profile};
 
 const PROFILES: &[(&[u8], &[u8])] = &[
     (

@@ -3,8 +3,9 @@ ghost use Rattle.std.specs.Prelude.{◌≤◌, ◌^◌, length};
 
 use command_words::Call;
 use coop_outside::{Bytes, MemShelf};
+use inspect_referee::{Counts, Reason, Rule};
+use inspect_verdict::{Verdict, inputs_can_run, verdict_of};
 use run_inputs::{inputs_of, request_in};
-use run_verdict::{Verdict, inputs_can_run, verdict_of};
 use scan_story::PolicyName;
 use std::alloc::Global;
 use std::hash::RandomState;
@@ -12,7 +13,6 @@ use std::process::Abort;
 use std::random::RandomSource;
 use std::test::Fail;
 use std::thread::Threads;
-use story_referee::{Counts, Reason, Rule};
 
 const TABLE: &[u8] = b"a\n1\n2\n";
 

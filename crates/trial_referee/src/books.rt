@@ -1,7 +1,15 @@
 //! The book beside the judge along stories, and its ranks, ratios and picks.
 ghost use Rattle.std.specs.Prelude.{◌≤◌, ◌<◌, IfOk};
-ghost use Rattle.story_views.specs.Small.{IsSmall};
+ghost use Rattle.help_views.specs.Small.{IsSmall};
 
+use help_book::{Trial, agrees, delivery, load, played, try_story, victim};
+use help_judge::first_illegal;
+use help_stories::stories::TWO_LOADED;
+use help_stories::{
+    COUNTS, POLICIES, Printed, SIX, SIX_ATTACH, Scene, TO_EVICT, TURNS, TWO_TO_DELIVER, entries_of,
+    need, setting,
+};
+use help_walks::{some_setting, walk};
 use interest_book::{Book, Memory};
 use rand_pcg::Pcg32;
 use relevance::{Ratio, Relevance, keep_ratio, load_ratio, query_rank, use_ratio};
@@ -9,14 +17,6 @@ use scan_story::{Entry, PolicyName, Setting};
 use std::alloc::{AllocError, Global};
 use std::process::Abort;
 use std::test::Fail;
-use story_judge::first_illegal;
-use trial_book::{Trial, agrees, delivery, load, played, try_story, victim};
-use trial_stories::stories::TWO_LOADED;
-use trial_stories::{
-    COUNTS, POLICIES, Printed, SIX, SIX_ATTACH, Scene, TO_EVICT, TURNS, TWO_TO_DELIVER, entries_of,
-    need, setting,
-};
-use trial_walks::{some_setting, walk};
 
 /// How many walks there are of a kind, and of how many steps.
 const WALKS: u64 = 2;

@@ -1,12 +1,12 @@
 //! Terms for a setting that a judge knows.
 ghost use Rattle.std.specs.Prelude.{IfOk, IfSome};
 ghost use Rattle.scan_story.specs.Setting.{IsSetting};
-ghost use Rattle.story_referee.specs.Terms.{setting_of};
+ghost use Rattle.inspect_referee.specs.Terms.{setting_of};
 
+use help_book::{book_needs, has_numbers};
+use inspect_referee::{Memory, Terms};
 use scan_story::Setting;
 use std::alloc::Global;
-use story_referee::{Memory, Terms};
-use trial_book::{book_needs, has_numbers};
 
 /// The terms of the setting, where it is one that a manager may be made for; the policy begins with its first cursor.
 pub(crate) fn terms_of(alloc: Global, s: &Setting) -> Result<Option<Terms>, Memory>

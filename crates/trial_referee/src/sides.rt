@@ -1,11 +1,11 @@
 //! The referee beside the plain judge.
-ghost use Rattle.story_views.specs.Small.{IsSmall};
+ghost use Rattle.help_views.specs.Small.{IsSmall};
 
 use crate::settings::terms_of;
+use help_judge::{first_illegal, is_whole};
+use inspect_referee::{Memory, Ruling, judge};
 use scan_story::{Entry, Setting};
 use std::alloc::{AllocError, Global};
-use story_judge::{first_illegal, is_whole};
-use story_referee::{Memory, Ruling, judge};
 
 // What the plain judge says: the first entry that may not come, or else whether the story is whole.
 fn plainly(

@@ -1,18 +1,18 @@
 ghost use Rattle.std.specs.Prelude.{◌<◌, ◌≤◌};
-ghost use Rattle.story_views.specs.Small.{IsSmall};
+ghost use Rattle.help_views.specs.Small.{IsSmall};
 
 use crate::changes::{CHANGES, changed};
 use crate::sides::{agree, ruling_on};
+use help_stories::{
+    COUNTS, POLICIES, Printed, SIX, Scene, TO_EVICT, TURNS, TWO_TO_DELIVER, entries_of,
+};
+use help_walks::{some_setting, walk};
+use inspect_referee::{Better, Choice, Memory, Rank, Reason, Rule, Ruling};
 use rand_pcg::Pcg32;
 use scan_story::{Entry, PolicyName, Ratio, Setting};
 use std::alloc::Global;
 use std::process::Abort;
 use std::test::Fail;
-use story_referee::{Better, Choice, Memory, Rank, Reason, Rule, Ruling};
-use trial_stories::{
-    COUNTS, POLICIES, Printed, SIX, Scene, TO_EVICT, TURNS, TWO_TO_DELIVER, entries_of,
-};
-use trial_walks::{some_setting, walk};
 
 /// Whether both judges say the same of the story with the entry at the place changed in each way.
 fn agree_changed(

@@ -9,10 +9,10 @@ ghost use Rattle.trial_scans.specs.Trials.{FitEachOther, under};
 use crate::fitting::has_room;
 use abm_policy::Desk;
 use coop_outside::SpoiltDepot;
+use help_book::{book_needs, has_numbers};
 use relevance::Policy;
 use scan_story::{Memory, Origin, Setting};
 use std::alloc::Global;
-use trial_book::{book_needs, has_numbers};
 
 /// A desk before its first entry; `None` where there can be none for the setting. The error is out of memory.
 pub(crate) fn desk_of<S: Origin, P: Policy>(

@@ -10,10 +10,10 @@ ghost use Rattle.cscan.specs.Scans.{HasColumns, reads_column};
 ghost use Rattle.trial_scans.specs.Trials.{FitEachOther};
 
 use abm_policy::frames_needed;
+use help_views::worker_of;
 use piece_format::{Shape, groups};
 use scan_story::{Need, Setting};
 use std::collections::LinkedList;
-use story_views::worker_of;
 use table_core::{ColumnSet, chunk_count};
 use table_pieces::chunks_of;
 

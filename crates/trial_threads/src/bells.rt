@@ -1,5 +1,6 @@
 //! Workers that sleep at a baton's bell until it is rung for them.
 use baton::{Baton, Bell};
+use example_threads::diary::Diary;
 use scan_story::{Memory, Origin};
 use std::alloc::Global;
 use std::marker::Brand;
@@ -8,7 +9,6 @@ use std::test::Fail;
 use std::thread;
 use std::thread::{Threads, join};
 use std::time::Duration;
-use thread_examples::diary::Diary;
 
 // The seconds that a wait may take, more than a test may.
 const LONG: u64 = 600;

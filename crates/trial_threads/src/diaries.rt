@@ -1,8 +1,8 @@
 //! Workers that hand a diary on, one after the other and at once.
+use example_threads::diary::{hand_on, write_at_once};
 use scan_story::Entry;
 use std::marker::Brand;
 use std::test::Fail;
-use thread_examples::diary::{hand_on, write_at_once};
 
 #[test]
 fn two_passes_hand_a_diary_on(rt: HostRuntime) -> Result<(), Fail> {

@@ -1,5 +1,5 @@
 //! Sizes, checksums and first lines, against a program in another language that makes the same texts.
-use generated_texts::{batch_text, table_text};
+use run_inputs::{batch_text, table_text};
 use std::alloc::Global;
 use std::process::Abort;
 use std::test::Fail;

@@ -1,8 +1,8 @@
 // Answers by the worked examples.
 use super::{COUNT, Case, SUMS, SUMS_PRINTED, WORDS, ends_so, expect_cases};
 use coop_outside::{MemDepot, SpoiltDepot};
+use help_stories::tables::TABLE_A;
 use std::test::Fail;
-use trial_stories::tables::TABLE_A;
 
 const ORDERS: &str =
     "l_orderkey,l_partkey,l_suppkey,l_linenumber,l_quantity,l_extendedprice,l_discount,l_tax,l_returnflag,l_linestatus,l_shipdate,l_commitdate,l_receiptdate,l_shipinstruct,l_shipmode,l_comment

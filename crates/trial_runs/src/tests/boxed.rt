@@ -6,6 +6,7 @@ use super::{COUNT, COUNT_TWICE, WORDS, shelf_of, sink_of, words_of};
 use coop_outside::{Bytes, MemDepot, MemShelf, MemSink};
 use coop_run::{BoxedEnd, PolicyRun, run_boxed};
 use cscan::NoGate;
+use help_stories::tables::{SIX_ROWS, TABLE_A};
 use policy_box::Elevator;
 use policy_plain::{Attach, Normal};
 use relevance::{Policy, Relevance};
@@ -17,7 +18,6 @@ use std::random::RandomSource;
 use std::sync::Wait;
 use std::test::Fail;
 use std::thread::Threads;
-use trial_stories::tables::{SIX_ROWS, TABLE_A};
 
 type Boxes = Vec<Box<dyn Policy + Send>>;
 

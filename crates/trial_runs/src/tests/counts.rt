@@ -1,5 +1,5 @@
 // The counts of a story by hand.
-use run_decision::Counts;
+use run_ends::Counts;
 use scan_story::{Entry, Why};
 
 #[test]

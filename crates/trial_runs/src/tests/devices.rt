@@ -4,6 +4,7 @@ use super::{COUNT, COUNT_TWICE, Case, WORDS, ends_so, run_over, shelf_of, sink_o
 use coop_outside::{MemDepot, MemShelf, MemSink, SpoiltDepot};
 use coop_run::{Layout, Settings, run_settings};
 use cscan::NoGate;
+use help_stories::tables::TABLE_A;
 use relevance::Relevance;
 use std::alloc::Global;
 use std::hash::RandomState;
@@ -12,7 +13,6 @@ use std::random::RandomSource;
 use std::sync::Wait;
 use std::test::Fail;
 use std::thread::Threads;
-use trial_stories::tables::TABLE_A;
 
 const ONE_LOST: &str = "refused 1: read fault\nquery 2\n5\n";
 

@@ -2,13 +2,13 @@
 use super::{COUNT, Case, WORDS, ends_so, expect_cases, run_beside};
 use coop_outside::MemDepot;
 use cscan::NoGate;
+use help_stories::tables::TABLE_A;
 use std::alloc::Global;
 use std::process::Abort;
 use std::random::RandomSource;
 use std::sync::Wait;
 use std::test::Fail;
 use std::thread::Threads;
-use trial_stories::tables::TABLE_A;
 
 const DEFAULTS: &str = "a.csv b.sql";
 

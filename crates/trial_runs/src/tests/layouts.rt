@@ -2,13 +2,13 @@
 use super::told::{Story, Told, expect_told};
 use super::{Case, SUMS, SUMS_PRINTED, WORDS, ends_so, expect_cases};
 use coop_outside::MemDepot;
+use help_stories::tables::TABLE_A;
 use std::alloc::Global;
 use std::process::Abort;
 use std::random::RandomSource;
 use std::sync::Wait;
 use std::test::Fail;
 use std::thread::Threads;
-use trial_stories::tables::TABLE_A;
 
 const COLUMNS: &str = "--threads 1 --rows 2 --layout column a.csv b.sql";
 

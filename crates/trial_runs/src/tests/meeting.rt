@@ -4,6 +4,7 @@ ghost use Rattle.std.specs.Prelude.{◌≡◌, ◌≤◌, ◌^◌};
 use super::{COUNT_TWICE, run_beside};
 use coop_outside::{Depot, DepotFault, Failed, MemDepot};
 use cscan::Gate;
+use help_stories::tables::TABLE_A;
 use std::alloc::Global;
 use std::random::RandomSource;
 use std::sync::Wait;
@@ -11,7 +12,6 @@ use std::sync::atomic::{AtomicU64, Ordering};
 use std::test::Fail;
 use std::thread;
 use std::thread::Threads;
-use trial_stories::tables::TABLE_A;
 
 const TWO_WORKERS: &str = "--threads 2 --frames 7 --rows 2 a.csv b.sql";
 

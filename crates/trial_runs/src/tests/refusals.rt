@@ -1,7 +1,7 @@
 // Refused queries, and runs that stop.
 use super::{COUNT, Case, WORDS, expect_cases};
+use help_stories::tables::TABLE_A;
 use std::test::Fail;
-use trial_stories::tables::TABLE_A;
 
 const REFUSED: &[Case<'static>] = &[
     (

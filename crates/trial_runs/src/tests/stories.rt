@@ -1,12 +1,10 @@
 // The stories of runs with one worker, and the chunks that their scans took.
 use super::told::{Story, Told, expect_told};
 use super::{COUNT, COUNT_TWICE, SUMS, SUMS_PRINTED, WORDS};
+use help_stories::stories::{FAULT, FIRST_OF_SIX, FROM_2, IN_PLACE_OF_0, IN_PLACE_OF_2, ONE_COUNT};
+use help_stories::tables::{SIX_ROWS, TABLE_A};
 use scan_story::Entry;
 use std::test::Fail;
-use trial_stories::stories::{
-    FAULT, FIRST_OF_SIX, FROM_2, IN_PLACE_OF_0, IN_PLACE_OF_2, ONE_COUNT,
-};
-use trial_stories::tables::{SIX_ROWS, TABLE_A};
 
 const TRACED: &str = "--threads 1 --frames 4 --rows 2 --trace a.csv b.sql";
 

@@ -5,6 +5,7 @@ use crate::outcome::Outcome;
 use crate::single::alone;
 use crate::tables::{NO_PIECE, put_words, shape};
 use coop_outside::{MemDepot, SpoiltDepot};
+use help_stories::{need, setting};
 use piece_format::Layout;
 use relevance::Relevance;
 use scan_story::{Memory, PolicyName};
@@ -14,7 +15,6 @@ use std::sync::Wait;
 use std::test::Fail;
 use table_core::Cell::{self, Code, Int, Null};
 use table_core::Kind;
-use trial_stories::{need, setting};
 
 const ROWS: u32 = 193;
 

@@ -4,6 +4,8 @@ use crate::outcome::Outcome;
 use crate::single::alone;
 use crate::tables::{COLUMNS, NO_PIECE, ROWS, SIX, column_shape, depot, row_shape, six_shape};
 use crate::tests::expected::{Expected, expect, took};
+use help_stories::stories::{FIRST_OF_SIX, ONE_COUNT};
+use help_stories::{need, setting};
 use piece_format::Shape;
 use relevance::Relevance;
 use scan_story::{Cause, Memory, PolicyName};
@@ -13,8 +15,6 @@ use std::sync::Wait;
 use std::test::Fail;
 use table_core::Cell::{self, Code, Int, Null};
 use table_core::MOST_COLUMNS;
-use trial_stories::stories::{FIRST_OF_SIX, ONE_COUNT};
-use trial_stories::{need, setting};
 
 const DONE: Saw = Saw::Done { worker: 0 };
 

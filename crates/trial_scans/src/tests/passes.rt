@@ -2,10 +2,10 @@
 use crate::handing::hand_on;
 use crate::tables::{NO_PIECE, ROWS, depot};
 use crate::tests::expected::{Expected, expect};
+use help_stories::Scene;
 use relevance::Relevance;
 use scan_story::PolicyName;
 use std::test::Fail;
-use trial_stories::Scene;
 
 #[test]
 fn two_passes_hand_a_desk_on(rt: HostRuntime) -> Result<(), Fail> {

@@ -5,6 +5,8 @@ use crate::pair::by_turns;
 use crate::tables::{COLUMNS, NO_PIECE, ROWS, column_shape, depot, row_shape};
 use crate::tests::expected::{Expected, expect, took};
 use crate::tests::two::Did::{Done, GaveUp, Released, Stopped, Took};
+use help_stories::stories::COLUMNS as BEGUN;
+use help_stories::{need, setting};
 use piece_format::Shape;
 use relevance::Relevance;
 use scan_story::{Cause, Memory, PolicyName, Setting};
@@ -14,8 +16,6 @@ use std::sync::Wait;
 use std::test::Fail;
 use table_core::Cell::{self, Code, Int, Null};
 use table_core::MOST_COLUMNS;
-use trial_stories::stories::COLUMNS as BEGUN;
-use trial_stories::{need, setting};
 
 // What a worker's scan is seen to do: a chunk that it took with its rows, and so on.
 #[derive(Clone, Copy)]

@@ -7,6 +7,7 @@ ghost use Rattle.trial_threads.specs.Games.{IsPlayer};
 
 use crate::pools::halves::all_at_once;
 use crossbeam_utils::Backoff;
+use example_threads::pair::Work;
 use frame_pool::{Berth, Content, Memory, Pool};
 use std::alloc::Global;
 use std::marker::Brand;
@@ -14,7 +15,6 @@ use std::sync::Wait;
 use std::sync::atomic::{AtomicU64, Ordering};
 use std::test::Fail;
 use std::thread::Threads;
-use thread_examples::pair::Work;
 
 const ROUNDS: u32 = 60;
 

@@ -3,9 +3,9 @@ ghost use Rattle.std.specs.Prelude.{All};
 ghost use Rattle.std.specs.Thread.{IsSync};
 ghost use Rattle.std.specs.List.{AllZip};
 
+use example_threads::pair::Work;
 use std::sync::Wait;
 use std::thread::{Threads, join_mut};
-use thread_examples::pair::Work;
 
 // Each work in a thread of its own: the list is halved, and each half has a thread.
 pub(crate) fn all_at_once<S: Sync, W: Work<S> + Send, R: Threads + Wait + Sync>(

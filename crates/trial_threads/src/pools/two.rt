@@ -1,13 +1,13 @@
 ghost use Rattle.std.specs.Prelude.{◌≡◌, ◌+◌, ◌≤◌, [], ◌∷◌, Some, IfOk, vec_len, vec_capacity};
-ghost use Rattle.thread_examples.specs.Pairs.{IsReady};
+ghost use Rattle.example_threads.specs.Pairs.{IsReady};
 
+use example_threads::pair::{Filler, Reader, at_once, fill, read};
 use frame_pool::{Berth, Content, Memory, Pool};
 use std::alloc::Global;
 use std::marker::Brand;
 use std::sync::Wait;
 use std::test::Fail;
 use std::thread::Threads;
-use thread_examples::pair::{Filler, Reader, at_once, fill, read};
 
 // The berths of a pool, to be given back.
 fn both<C: Content>(mut berths: Vec<Berth<C>>, first: Berth<C>, second: Berth<C>) -> Vec<Berth<C>>

@@ -9,14 +9,14 @@ use Rattle.table_pieces.specs.Shaping.{shape_of}
 use Rattle.table_pieces.specs.Zoning.{chunk_zones}
 use Rattle.batch_plan.specs.Scans.{scans}
 use Rattle.batch_plan.specs.Setting.{AreOptions, batch_setting}
-use Rattle.batch_answers.specs.Noting.{HasRoomFor, IsOpened, NotesAll}
-use Rattle.batch_answers.specs.Refusals.{IsRefusal}
-use Rattle.batch_answers.specs.Story.{IsStoryOver, counts}
-use Rattle.batch_answers.specs.Taken.{IsTakenBy, TookNeed}
-use Rattle.batch_answers.specs.declared.taken.Taken.{Taken}
+use Rattle.batch_ends.specs.Noting.{HasRoomFor, IsOpened, NotesAll}
+use Rattle.batch_ends.specs.Refusals.{IsRefusal}
+use Rattle.batch_ends.specs.Story.{IsStoryOver, counts}
+use Rattle.batch_ends.specs.Taken.{IsTakenBy, TookNeed}
+use Rattle.batch_ends.specs.declared.taken.Taken.{Taken}
 use Rattle.batch_run.proofs.Ending.{IsMade, IsPut, IsTold, all_needs, all_plans, is_setting, told}
 use Rattle.batch_run.proofs.Held.{first_of, put_refused, rows_put}
-use Rattle.batch_answers.proofs.Tables.{is_shape}
+use Rattle.batch_ends.proofs.Tables.{is_shape}
 use Rattle.batch_run.proofs.batch.run_batch.Goals as goal
 use Rattle.batch_run.proofs.batch.run_batch.Goals.{After-deref_mut, After-put_pieces, In-Ok-end, In-Ok-put_pieces}
 

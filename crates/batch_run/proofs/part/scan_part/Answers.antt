@@ -5,7 +5,7 @@ use Rattle.story_laws.specs.Queries.{chunks_delivered}
 use Rattle.piece_format.specs.Shape.{IsShape, TableShape}
 use Rattle.cscan.specs.Answers.{FindsStopped, TakesChunk}
 use Rattle.cscan.specs.Scans.{IsSameScan, reads_column}
-use Rattle.batch_jobs.specs.Gathered.{Gathered}
+use Rattle.batch_ends.specs.Gathered.{Gathered}
 use Rattle.batch_run.proofs.Gathering.{gathered_none}
 use Rattle.batch_run.proofs.Taking.{after_chunk, after_end, all_taken, few_more, once_each, same_on, went_none, went_stopped}
 use Rattle.batch_run.proofs.part.scan_part.Goals as goal

@@ -1,7 +1,7 @@
 use Rattle.std.proofs.Common.{◌≡◌, None}
 use Rattle.story_laws.specs.Queries.{chunks_delivered}
 use Rattle.cscan.specs.Scans.{IsSameScan, IsScan}
-use Rattle.batch_jobs.specs.Gathered.{Gathered}
+use Rattle.batch_ends.specs.Gathered.{Gathered}
 use Rattle.batch_run.specs.Parts.{WentFor}
 use Rattle.batch_run.proofs.part.scan_part.Given as goal
 

@@ -1,7 +1,7 @@
 use Rattle.std.proofs.Common.{◌≡◌, ◌≤◌, ◌+◌, ◌*◌, ℕ, List, false, min}
 use Rattle.scan_story.specs.Counting.{has}
 use Rattle.query_gather.specs.Partial.{FitsPlan, row_count}
-use Rattle.batch_jobs.specs.Gathered.{Gathered}
+use Rattle.batch_ends.specs.Gathered.{Gathered}
 use Rattle.batch_run.proofs.Gathering.{GatheredFirst}
 use Rattle.batch_run.proofs.rows.add_rows.Given as goal
 

@@ -6,10 +6,10 @@ use Rattle.scan_story.specs.declared.origin.Start.{Start}
 use Rattle.std.proofs.lemmas.List.{length-map}
 use Rattle.baton.specs.Passes.{AgreesWith, PassView, new_passes}
 use Rattle.batch_plan.specs.Scans.{scans}
-use Rattle.batch_jobs.specs.declared.job.Job.{Job}
+use Rattle.batch_ends.specs.declared.job.Job.{Job}
 use Rattle.batch_run.specs.Crews.{passes_of, up_to, workers_of}
 use Rattle.batch_run.specs.Jobs.{AreJobs}
-use Rattle.batch_jobs.specs.Lists.{AreCounted, AreSorted, CameOfAll}
+use Rattle.batch_ends.specs.Lists.{AreCounted, AreSorted, CameOfAll}
 use Rattle.batch_run.specs.Workers.{Rests}
 use Rattle.batch_run.specs.Works.{HasWorked}
 use Rattle.batch_run.proofs.Endings.{idle_at_end, nothing_written}

@@ -3,7 +3,7 @@ use Rattle.std.proofs.lemmas.List.{with_items_is}
 use Rattle.cscan.specs.Stations.{IsSeated}
 use Rattle.batch_run.specs.declared.worker.Worker.{Worker}
 use Rattle.batch_run.specs.Crews.{IsFresh}
-use Rattle.batch_jobs.specs.Jobs.{jobs_on}
+use Rattle.batch_ends.specs.Jobs.{jobs_on}
 use Rattle.batch_run.specs.Workers.{HasRun}
 use Rattle.baton.proofs.Zips.{zip_length}
 use Rattle.batch_run.proofs.Working.{done_all, ready_all, run_seated, same_workers}

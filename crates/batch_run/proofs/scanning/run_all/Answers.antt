@@ -1,6 +1,6 @@
 use Rattle.std.proofs.Common.{◌+◌, arith, refl, sym, subst}
 use Rattle.piece_format.specs.Shape.{TableShape}
-use Rattle.batch_jobs.specs.Came.{CameFor}
+use Rattle.batch_ends.specs.Came.{CameFor}
 use Rattle.batch_run.specs.declared.worker.Worker.{Worker}
 use Rattle.batch_run.proofs.Serving.{IsSoFar, may_next, run_next, run_same}
 use Rattle.batch_run.proofs.scanning.run_all.Goals as goal

@@ -4,7 +4,7 @@ use mir.Syntax.{named}
 use denote.Ref.{NamedLft}
 use denote.Param.Send.{IsSync, shr_slice_sync}
 use Rattle.sql_bind.specs.contracts.plan.Plan as plan
-use Rattle.batch_jobs.specs.contracts.job.Job as job
+use Rattle.batch_ends.specs.contracts.job.Job as job
 use Rattle.batch_run.specs.declared.worker.Worker.{Worker}
 use Rattle.batch_run.specs.Workers.{HasDone}
 use Rattle.baton.proofs.Zips.{zip_each}

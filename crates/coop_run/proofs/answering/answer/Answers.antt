@@ -1,17 +1,17 @@
 use Rattle.std.proofs.Common.{◌≡◌, ◌≤◌, ◌∙◌, ◌*◌, length, arith, refl, ap}
 use Rattle.query_gather.specs.Answer.{CanBeWritten, IsAnswer}
 use Rattle.scan_story.specs.Views.{past}
-use Rattle.batch_answers.specs.Tasks.{IsPlanOfTable}
+use Rattle.batch_ends.specs.Tasks.{IsPlanOfTable}
 use Rattle.run_stops.specs.Outcomes.{plans_of}
-use Rattle.run_decision.specs.Devices.{depot_at}
-use Rattle.run_decision.specs.Running.{setting_in, zones_in}
-use Rattle.run_decision.specs.Tasks.{tasks_in}
-use Rattle.run_decision.specs.Work.{work}
-use Rattle.run_decision.proofs.Asked.{only_asked}
-use Rattle.run_decision.proofs.Coming.{is-worked}
-use Rattle.run_decision.proofs.Given.{plans-of-table}
-use Rattle.run_decision.proofs.Losing.{lost_by}
-use Rattle.run_decision.proofs.Tasked.{each-answer, each-task, scans-few, tasks-rise, zip-length}
+use Rattle.run_ends.specs.Devices.{depot_at}
+use Rattle.run_ends.specs.Running.{setting_in, zones_in}
+use Rattle.run_ends.specs.Tasks.{tasks_in}
+use Rattle.run_ends.specs.Work.{work}
+use Rattle.run_ends.proofs.Asked.{only_asked}
+use Rattle.run_ends.proofs.Coming.{is-worked}
+use Rattle.run_ends.proofs.GivenTexts.{plans-of-table}
+use Rattle.run_ends.proofs.Losing.{lost_by}
+use Rattle.run_ends.proofs.Tasked.{each-answer, each-task, scans-few, tasks-rise, zip-length}
 use Rattle.coop_run.proofs.answering.answer.Goals as goal
 
 pub run_batch-requires-clause-plans : goal.run_batch-requires-clause-plans

@@ -1,4 +1,4 @@
-use Rattle.run_promises.proofs.ByJob.{keeps-promises}
+use Rattle.run_ends.proofs.ByJob.{keeps-promises}
 use Rattle.coop_run.proofs.boxed.run_boxed.Goals as goal
 
 pub returns : goal.returns

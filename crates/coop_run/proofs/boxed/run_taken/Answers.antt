@@ -2,8 +2,8 @@ use Rattle.std.proofs.Common.{Err, inl, inr, refl}
 use Rattle.run_stops.specs.declared.stop.Stop.TheVariants as stop
 use Rattle.run_inputs.specs.Asked.{asked_of}
 use Rattle.command_words.specs.declared.call.Call.TheVariants.{RunBoxed}
-use Rattle.run_promises.proofs.ByJob.{are-of-each, none-left, stops-job}
-use Rattle.run_promises.proofs.Jobs.{alone-job, compared-job, first_taken, missing-job, none_taken, refused-job}
+use Rattle.run_ends.proofs.ByJob.{are-of-each, none-left, stops-job}
+use Rattle.run_ends.proofs.Jobs.{alone-job, compared-job, first_taken, missing-job, none_taken, refused-job}
 use Rattle.coop_run.proofs.boxed.run_taken.Goals as goal
 
 pub returns-in-Err-clause-decides : goal.returns-in-Err-clause-decides

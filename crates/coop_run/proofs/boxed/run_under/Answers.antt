@@ -1,10 +1,10 @@
 use Rattle.std.proofs.Common.{◌≡◌, Err, All, refl, subst}
 use Rattle.run_stops.specs.declared.stop.Stop.TheVariants as stop
 use Rattle.scan_story.specs.declared.setting.PolicyName.{PolicyName}
-use Rattle.run_promises.specs.declared.policy_run.PolicyRun.{PolicyRun}
-use Rattle.run_promises.specs.Did.{policy_of}
-use Rattle.run_promises.proofs.Runs.{none-of-one, untouched-under}
-use Rattle.run_promises.proofs.Words.{memory-ends}
+use Rattle.run_ends.specs.declared.policy_run.PolicyRun.{PolicyRun}
+use Rattle.run_ends.specs.Did.{policy_of}
+use Rattle.run_ends.proofs.Runs.{none-of-one, untouched-under}
+use Rattle.run_ends.proofs.Words.{memory-ends}
 use Rattle.coop_run.proofs.boxed.run_under.Goals as goal
 
 pub returns-in_default-clause-decides : goal.returns-in_default-clause-decides

@@ -1,5 +1,5 @@
-use Rattle.run_promises.proofs.Decided.{compared_tells, lines_are}
-use Rattle.run_promises.proofs.Unanswered.{one-has-cause}
+use Rattle.run_ends.proofs.DecidedRuns.{compared_tells, lines_are}
+use Rattle.run_ends.proofs.Unanswered.{one-has-cause}
 use Rattle.coop_run.proofs.comparing.compare.Goals as goal
 
 pub returns-clause-lines : goal.returns-clause-lines

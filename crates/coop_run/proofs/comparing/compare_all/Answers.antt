@@ -1,7 +1,7 @@
 use Rattle.std.proofs.Common.{sym}
 use Rattle.command_words.specs.Views.{request_view}
-use Rattle.run_decision.specs.Devices.{over_shelf}
-use Rattle.run_promises.proofs.Decided.{runs_decide, some_compared, some_long, stops_decide}
+use Rattle.run_ends.specs.Devices.{over_shelf}
+use Rattle.run_ends.proofs.DecidedRuns.{runs_decide, some_compared, some_long, stops_decide}
 use Rattle.coop_run.proofs.comparing.compare_all.Goals as goal
 
 pub returns-in-Err : goal.returns-in-Err

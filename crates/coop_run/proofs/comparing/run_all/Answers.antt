@@ -1,9 +1,9 @@
 use Rattle.std.proofs.Common.{◌∙◌, length, refl, sym, ap, inl, arith}
 use Rattle.std.specs.Prelude.{Some}
 use Rattle.command_words.specs.Views.{request_view}
-use Rattle.run_decision.proofs.Given.{can-run}
-use Rattle.run_promises.proofs.Chain.{all_made, begins_with, ends_in, goes_on, next_of, none_left, none_long, one_less}
-use Rattle.run_promises.proofs.Small.{few_gets}
+use Rattle.run_ends.proofs.GivenTexts.{can-run}
+use Rattle.run_ends.proofs.Chain.{all_made, begins_with, ends_in, goes_on, next_of, none_left, none_long, one_less}
+use Rattle.run_ends.proofs.Small.{few_gets}
 use Rattle.coop_run.proofs.comparing.run_all.Goals as goal
 
 pub loop-policy-init : goal.loop-policy-init

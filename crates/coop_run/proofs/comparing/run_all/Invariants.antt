@@ -2,9 +2,9 @@ use Rattle.std.proofs.Common.{◌≡◌, ◌≤◌, ◌+◌, ◌*◌, ◌^◌, l
 use Rattle.std.specs.Prelude.{IfSome, Some, map}
 use Rattle.command_words.specs.Views.{request_view}
 use Rattle.run_inputs.specs.Ending.{AreInputs}
-use Rattle.run_decision.specs.Devices.{depot_at}
-use Rattle.run_promises.specs.Policies.{policy_at}
-use Rattle.run_promises.proofs.Chain.{Continues}
+use Rattle.run_ends.specs.Devices.{depot_at}
+use Rattle.run_ends.specs.Policies.{policy_at}
+use Rattle.run_ends.proofs.Chain.{Continues}
 use Rattle.coop_run.proofs.comparing.run_all.Given as goal
 
 abbrev pub invariant-loop-policy : goal.invariant-loop-policy

@@ -1,8 +1,8 @@
 use Rattle.command_words.specs.Views.{request_view}
-use Rattle.run_decision.specs.Deciding.{shown}
-use Rattle.run_decision.specs.Devices.{depot_at, over_shelf}
-use Rattle.run_decision.proofs.Decided.{decided-runs, decided-stops}
-use Rattle.run_decision.proofs.Given.{can-run}
+use Rattle.run_ends.specs.Deciding.{shown}
+use Rattle.run_ends.specs.Devices.{depot_at, over_shelf}
+use Rattle.run_ends.proofs.Decided.{decided-runs, decided-stops}
+use Rattle.run_ends.proofs.GivenTexts.{can-run}
 use Rattle.coop_run.proofs.deciding.decide.Goals as goal
 
 pub decide_over-requires-clause-can : goal.decide_over-requires-clause-can

@@ -1,8 +1,8 @@
 use Rattle.std.proofs.Common.{refl}
 use Rattle.run_output.proofs.Columns.{names_columns}
-use Rattle.run_decision.specs.Devices.{depot_at}
-use Rattle.run_decision.specs.Work.{work}
-use Rattle.run_decision.proofs.Coming.{comes-of, unanswered-comes}
+use Rattle.run_ends.specs.Devices.{depot_at}
+use Rattle.run_ends.specs.Work.{work}
+use Rattle.run_ends.proofs.Coming.{comes-of, unanswered-comes}
 use Rattle.coop_run.proofs.deciding.decide_over.Goals as goal
 
 pub decision_of-requires-clause-columns : goal.decision_of-requires-clause-columns

@@ -1,8 +1,8 @@
 use Rattle.std.proofs.Common.{◌≡◌, ◌∙◌, ◌++◌, ◌∷◌, [], refl, ap, inl, inr, arith}
 use Rattle.run_stops.specs.declared.stop.Stop.TheVariants as stop
 use Rattle.scan_story.specs.Views.{past}
-use Rattle.run_promises.specs.Lines.{counted, line_of}
-use Rattle.run_promises.proofs.Small.{stopped_small}
+use Rattle.run_ends.specs.Lines.{counted, line_of}
+use Rattle.run_ends.proofs.Small.{stopped_small}
 use Rattle.coop_run.proofs.next.run_next.Goals as goal
 
 pub returns-in-Err-clause-ends : goal.returns-in-Err-clause-ends

@@ -1,6 +1,6 @@
 use Rattle.run_inputs.specs.Asked.{asked_of}
 use Rattle.command_words.specs.declared.call.Call.TheVariants.{Run}
-use Rattle.run_promises.proofs.Endings.{keeps-promises}
+use Rattle.run_ends.proofs.Endings.{keeps-promises}
 use Rattle.coop_run.proofs.one_policy.run.Goals as goal
 
 pub returns : goal.returns

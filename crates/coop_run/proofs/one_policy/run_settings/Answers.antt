@@ -1,6 +1,6 @@
 use Rattle.std.proofs.Common.{Some}
-use Rattle.run_promises.specs.Settings.{asked_in_settings}
-use Rattle.run_promises.proofs.Endings.{keeps-promises}
+use Rattle.run_ends.specs.Settings.{asked_in_settings}
+use Rattle.run_ends.proofs.Endings.{keeps-promises}
 use Rattle.coop_run.proofs.one_policy.run_settings.Goals as goal
 
 pub returns-clause-promises : goal.returns-clause-promises

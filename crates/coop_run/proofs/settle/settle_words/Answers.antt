@@ -1,8 +1,8 @@
 use Rattle.std.proofs.Common.{Err, ap, refl}
 use Rattle.run_inputs.specs.Asked.{asked_of}
 use Rattle.command_words.specs.declared.call.Call.TheVariants.{Run}
-use Rattle.run_decision.specs.Answering.{story_in, taken_in}
-use Rattle.run_promises.proofs.Words.{refused-words}
+use Rattle.run_ends.specs.Answering.{story_in, taken_in}
+use Rattle.run_ends.proofs.Words.{refused-words}
 use Rattle.coop_run.proofs.settle.settle_words.Goals as goal
 
 pub returns-in-Err : goal.returns-in-Err

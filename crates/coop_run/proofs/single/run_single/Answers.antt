@@ -1,8 +1,8 @@
 use Rattle.std.proofs.Common.{◌∙◌, ap}
 use Rattle.run_output.specs.Answers.{printed}
 use Rattle.run_output.specs.Printed.{status}
-use Rattle.run_decision.specs.Devices.{depot_at}
-use Rattle.run_promises.proofs.Meaning.{made}
+use Rattle.run_ends.specs.Devices.{depot_at}
+use Rattle.run_ends.proofs.Meaning.{made}
 use Rattle.coop_run.proofs.single.run_single.Goals as goal
 
 pub returns-in-Ok : goal.returns-in-Ok

@@ -1,6 +1,6 @@
 use Rattle.std.proofs.Common.{◌≡◌, drop, take}
 use Rattle.csv.specs.Records.{fields_of}
-use Rattle.csv_meaning.specs.Judged.{first_equal}
+use Rattle.csv_load.specs.Judged.{first_equal}
 use Rattle.csv_load.proofs.header.equal_before.Given as goal
 
 abbrev pub invariant-loop-place : goal.invariant-loop-place

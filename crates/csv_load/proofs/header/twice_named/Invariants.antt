@@ -1,6 +1,6 @@
 use Rattle.std.proofs.Common.{◌≡◌, drop}
 use Rattle.csv.specs.Records.{fields_of}
-use Rattle.csv_meaning.specs.Judged.{first_twice}
+use Rattle.csv_load.specs.Judged.{first_twice}
 use Rattle.csv_load.proofs.header.twice_named.Given as goal
 
 abbrev pub invariant-loop-second : goal.invariant-loop-second

@@ -1,6 +1,6 @@
 use Rattle.std.proofs.Common.{◌≡◌, drop}
 use Rattle.std.specs.List.{list_all}
-use Rattle.csv_meaning.specs.Kinds.{is_whole}
+use Rattle.csv_load.specs.Kinds.{is_whole}
 use Rattle.csv_load.proofs.kind.all_whole.Given as goal
 
 abbrev pub invariant-loop-place : goal.invariant-loop-place

@@ -1,5 +1,5 @@
 use Rattle.std.proofs.Common.{◌≡◌, ◌≤◌, drop, max}
-use Rattle.csv_meaning.specs.Kinds.{most_places}
+use Rattle.csv_load.specs.Kinds.{most_places}
 use Rattle.csv_load.proofs.kind.most_places.Given as goal
 
 abbrev pub invariant-loop-place : goal.invariant-loop-place

@@ -1,5 +1,5 @@
 use Rattle.std.proofs.Common.{◌≡◌, ◌<◌, ℕ, [], length, get_or, true, None}
-use Rattle.csv_meaning.specs.Kinds.{is_of}
+use Rattle.csv_load.specs.Kinds.{is_of}
 use Rattle.csv_load.specs.Typed.{IsCell}
 use Rattle.table_core.specs.Columns.{number_cell}
 use Rattle.csv_load.proofs.typed.numbers_of.Given as goal

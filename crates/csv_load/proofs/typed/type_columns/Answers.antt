@@ -1,4 +1,4 @@
-use Rattle.csv_meaning.proofs.Zips.{zip-push}
+use Rattle.csv_load.proofs.Zips.{zip-push}
 use Rattle.csv_load.specs.Typed.{IsTyped}
 use Rattle.csv_load.proofs.typed.type_columns.Goals as goal
 

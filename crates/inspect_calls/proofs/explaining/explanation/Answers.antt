@@ -1,5 +1,5 @@
 use Rattle.command_words.specs.Views.{request_view}
-use Rattle.run_decision.proofs.Given.{can-run}
+use Rattle.run_ends.proofs.GivenTexts.{can-run}
 use Rattle.inspect_calls.proofs.explaining.explanation.Goals as goal
 
 pub explained-requires-clause-can : goal.explained-requires-clause-can

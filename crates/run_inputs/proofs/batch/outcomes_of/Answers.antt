@@ -3,7 +3,7 @@ use Rattle.std.proofs.lemmas.List.{map-append, take_more}
 use Rattle.sql_tokens.specs.declared.span.Span.{Span}
 use Rattle.run_inputs.specs.Statements.{part}
 use Rattle.run_stops.specs.Outcomes.{ComesTo}
-use Rattle.csv_meaning.proofs.Zips.{zip-push}
+use Rattle.csv_load.proofs.Zips.{zip-push}
 use Rattle.run_inputs.proofs.batch.outcomes_of.Goals as goal
 
 pub loop-span-preserved : goal.loop-span-preserved

@@ -1,5 +1,5 @@
 use Rattle.std.proofs.Common.{◌≡◌, ◌∙◌, length}
-use Rattle.generated_texts.specs.Table.{table_text}
+use Rattle.run_inputs.specs.GeneratedTable.{table_text}
 use Rattle.run_stops.specs.declared.stop.Stop.TheVariants as stop
 use Rattle.run_inputs.specs.Order.{long_table}
 use Rattle.run_inputs.specs.Sources.{source_of_table}

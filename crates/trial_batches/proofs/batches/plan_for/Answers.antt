@@ -1,7 +1,7 @@
 use Rattle.std.proofs.Common.{List, ℕ, subst}
 use Rattle.table_core.specs.declared.schema.Column.{Column}
-use Rattle.batch_answers.specs.Tasks.{IsPlanOfTable}
-use Rattle.batch_answers.proofs.Plans.{plan_fits}
+use Rattle.batch_ends.specs.Tasks.{IsPlanOfTable}
+use Rattle.batch_ends.proofs.Plans.{plan_fits}
 use Rattle.trial_batches.proofs.batches.plan_for.Goals as goal
 
 pub returns : goal.returns

@@ -2,7 +2,7 @@ use Rattle.std.proofs.Common.{subst, sym}
 use Rattle.std.specs.Prelude.{All}
 use Rattle.std.proofs.lemmas.List.Elements.{All-push}
 use Rattle.sql_bind.specs.declared.plan.Plan.{Plan}
-use Rattle.batch_answers.specs.Tasks.{IsPlanOfTable}
+use Rattle.batch_ends.specs.Tasks.{IsPlanOfTable}
 use Rattle.trial_batches.proofs.batches.plans_of.Goals as goal
 
 pub loop-statement-preserved : goal.loop-statement-preserved

@@ -1,6 +1,6 @@
 use Rattle.std.specs.Prelude.{All}
 use Rattle.sql_bind.specs.declared.plan.Plan.{Plan}
-use Rattle.batch_answers.specs.Tasks.{IsPlanOfTable}
+use Rattle.batch_ends.specs.Tasks.{IsPlanOfTable}
 use Rattle.trial_batches.proofs.batches.plans_of.Given as goal
 
 -- each plan so far is one of the table

@@ -3,7 +3,7 @@ use Rattle.std.specs.Prelude.{All}
 use Rattle.std.proofs.lemmas.List.Elements.{All-cons, All-head, All-nil, All-tail}
 use Rattle.sql_bind.specs.declared.plan.Plan.{Plan}
 use Rattle.batch_plan.specs.declared.task.Task.{Task}
-use Rattle.batch_answers.specs.Tasks.{IsPlanOfTable}
+use Rattle.batch_ends.specs.Tasks.{IsPlanOfTable}
 use Rattle.trial_batches.proofs.batches.run_on_threads.Goals as goal
 
 -- what holds of the plans of some tasks holds of each task's

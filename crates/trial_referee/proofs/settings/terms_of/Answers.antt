@@ -2,8 +2,8 @@ use Rattle.std.proofs.Common.{Option, IfSome, Vec, Global, subst, refl, sym, ari
 use Rattle.chunk_interest.specs.declared.need.Need.{Need}
 use Rattle.scan_story.specs.Setting.{IsSetting}
 use Rattle.interest_book.proofs.Making.{same_setting}
-use Rattle.story_referee.specs.Terms.{setting_of}
-use Rattle.trial_book.specs.Fits.{IsFit, AreFit}
+use Rattle.inspect_referee.specs.Terms.{setting_of}
+use Rattle.help_book.specs.Fits.{IsFit, AreFit}
 use Rattle.trial_referee.proofs.settings.terms_of.Goals as goal
 
 pub returns : goal.returns

@@ -2,7 +2,7 @@ use Rattle.std.proofs.Common.{Option, IfSome, Vec, Global, refl, sym, subst, ari
 use Rattle.chunk_interest.specs.declared.need.Need.{Need}
 use Rattle.interest_book.proofs.Making.{same_setting}
 use Rattle.scan_story.specs.Setting.{IsSetting, IsStart, HasRoom}
-use Rattle.trial_book.specs.Fits.{IsFit, AreFit}
+use Rattle.help_book.specs.Fits.{IsFit, AreFit}
 use Rattle.trial_scans.specs.Trials.{under}
 use Rattle.trial_scans.proofs.Scans.{on_true}
 use Rattle.trial_scans.proofs.desks.desk_of.Goals as goal

@@ -3,7 +3,7 @@ use Rattle.chunk_interest.specs.declared.need.Need.{Need}
 use Rattle.interest_book.proofs.Making.{same_setting}
 use Rattle.scan_story.specs.declared.origin.Start.{Start}
 use Rattle.scan_story.specs.Setting.{IsSetting, IsStart, HasRoom}
-use Rattle.trial_book.specs.Fits.{IsFit, AreFit}
+use Rattle.help_book.specs.Fits.{IsFit, AreFit}
 use Rattle.trial_desk.specs.Rigged.{under}
 use Rattle.trial_desk.proofs.Rigs.{rigged_new}
 use Rattle.trial_desk.proofs.rig.Rig.new.Goals as goal

@@ -1,6 +1,6 @@
 use Rattle.std.proofs.Common.{refl, subst}
 use Rattle.frame_pool.specs.Frames.{Told}
-use Rattle.thread_examples.specs.Pairs.{IsPair}
+use Rattle.example_threads.specs.Pairs.{IsPair}
 use Rattle.trial_threads.proofs.pools.two.give_up.Goals as goal
 
 pub returns : goal.returns

@@ -1,5 +1,0 @@
-pub mod Plans
-pub mod Tables
-pub mod Faultless
-pub mod Noted
-pub mod Results

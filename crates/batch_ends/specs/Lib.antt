@@ -1,0 +1,14 @@
+pub mod Rows
+pub mod Tasks
+pub mod Lost
+pub mod Whole
+pub mod Story
+pub mod Taken
+pub mod Registering
+pub mod Refusals
+pub mod Noting
+pub mod Answering
+pub mod Gathered
+pub mod Came
+pub mod Jobs
+pub mod Lists

@@ -1,4 +1,0 @@
-pub mod Gathered
-pub mod Came
-pub mod Jobs
-pub mod Lists

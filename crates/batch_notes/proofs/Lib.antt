@@ -1,4 +1,0 @@
-pub mod Demanded
-pub mod Found
-pub mod Zoned
-pub mod Lines

@@ -1,7 +1,0 @@
-use Rattle.std.proofs.Common.{◌∙◌}
-use Rattle.batch_notes.specs.Text.{obstacle_line}
-use Rattle.batch_notes.proofs.Lines.{line_more}
-use Rattle.batch_notes.proofs.writing.write_obstacles.Goals as goal
-
-pub loop-place-preserved : goal.loop-place-preserved
-loop-place-preserved c = line_more obstacle_line c.args.obstacles.now c.loop-place.place _ c.loop-place.out c.write_obstacle.new.out c.loop-place-test.true c.in_ok-write_obstacle.ensures ∙ c.loop-place.invariant

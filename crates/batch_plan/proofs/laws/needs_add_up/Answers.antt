@@ -1,5 +1,0 @@
-use Rattle.batch_plan.proofs.Adding.{all_add_up}
-use Rattle.batch_plan.proofs.laws.needs_add_up.Goals as goal
-
-pub returns : goal.returns
-returns c = all_add_up

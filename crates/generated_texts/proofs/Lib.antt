@@ -1,2 +1,0 @@
-mod Wrapping
-mod Growing

@@ -1,0 +1,11 @@
+pub mod Counted
+pub mod Ends
+pub mod Firsts
+pub mod ProfileLines
+pub mod Written
+pub mod Pushed
+pub mod Whole
+pub mod Demanded
+pub mod Found
+pub mod Zoned
+pub mod NoteLines

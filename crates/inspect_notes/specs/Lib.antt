@@ -1,0 +1,11 @@
+pub mod Values
+pub mod Reasons
+pub mod Profiles
+pub mod ProfileText
+pub mod Written
+pub mod Parts
+pub mod Obstacles
+pub mod Zones
+pub mod Notes
+pub mod NoteText
+pub mod Demands

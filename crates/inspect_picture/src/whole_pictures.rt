@@ -1,0 +1,25 @@
+// What holds of every picture.
+ghost use Rattle.std.specs.Prelude.{◌≡◌, ◌<◌, ◌≤◌, ℕ, List, length, take};
+ghost use Rattle.std.specs.List.{AllByRecursion};
+ghost use Rattle.scan_story.specs.declared.entry.Entry.{Entry};
+ghost use Rattle.scan_story.specs.declared.setting.Setting.{Setting};
+ghost use Rattle.scan_story.specs.Views.{past, piece_in};
+ghost use Rattle.inspect_picture.specs.declared.bar.Bar.{Bar};
+ghost use Rattle.inspect_picture.specs.Given.{deliveries_in, delivered_from};
+ghost use Rattle.inspect_picture.specs.Marks.{bars, marks};
+ghost use Rattle.inspect_picture.specs.Over.{listed, pieces_over};
+
+/// The bars of a story are the stays of its pieces: behind each number of entries, the bars in the lane of a frame are that of
+/// the piece which the frame then has, one, or none where it has none. And each bar has its time. A law: it does nothing.
+pub fn bars_are_stays()
+    ensures stays { (s : Setting) (entries : List Entry) (f k : ℕ) → k ≤ length entries →
+        pieces_over f k (bars s.groups entries) ≡ listed (piece_in s (past (take k entries)) f) }
+    ensures last { (groups : ℕ) (entries : List Entry) →
+        AllByRecursion (λ (b : Bar). b.first < b.last) (bars groups entries) }
+{}
+
+/// Each delivery of a story has one mark, in their order: a law. It does nothing.
+pub fn deliveries_are_marks()
+    ensures { (groups : ℕ) (entries : List Entry) →
+        deliveries_in (marks groups entries) ≡ delivered_from 1 entries }
+{}

@@ -1,0 +1,17 @@
+mod Lengths
+mod Reaches
+mod Follow
+mod Sizes
+mod Back
+mod Finish
+mod Whole
+mod Forward
+mod KindLists
+mod Stops
+mod Opens
+mod Rests
+mod Columns
+mod NameSteps
+mod Nested
+mod StatementPlaces
+mod QueryNames

@@ -1,0 +1,10 @@
+pub mod Parts
+pub mod Ends
+pub mod Apart
+pub mod StatementParts
+pub mod Plain
+pub mod Stops
+pub mod Reading
+pub mod Judged
+pub mod Told
+pub mod Verdict

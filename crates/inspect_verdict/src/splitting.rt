@@ -1,0 +1,49 @@
+// An output in its parts.
+ghost use Rattle.std.specs.Prelude.{◌≡◌, ◌++◌, ℕ, List, IfOk, IfSome, Option};
+ghost use Rattle.std.specs.List.{AllZip};
+ghost use Rattle.inspect_verdict.specs.Ends.{EndsWith};
+ghost use Rattle.inspect_verdict.specs.Parts as spec;
+
+use crate::part::Part;
+use std::alloc::{AllocError, Global};
+
+/// An output in its parts.
+#[derive(Drop)]
+pub struct Split<'a> {
+    /// Whether a line stands for a part, for each part in order, up to the first for which nothing stands.
+    pub lines: Vec<bool>,
+    /// What stands behind the last part; none where nothing stands for a part.
+    pub behind: Option<&'a [u8]>,
+}
+
+/// Takes a text apart: for each part in order its own text, or else a line that begins with its head.
+///
+/// So a line end inside of a part's text ends no line. The error is out of memory.
+pub fn take_apart<'a>(
+    alloc: Global,
+    parts: &[Part],
+    text: &'a [u8],
+) -> Result<Split<'a>, AllocError>
+    ensures behind { IfOk result (λ split. IfSome split.behind (λ b. spec.StandsBehind parts.now text.now b.now)) }
+    ensures end { IfOk result (λ split. IfSome split.behind (λ b. EndsWith text.now b.now)) }
+    ensures split { IfOk result (λ split. (words : List (Option (List ℕ))) (rest : List ℕ)
+        → AllZip spec.MayStand parts.now words → text.now ≡ spec.texts_of parts.now words ++ rest
+        → spec.IsSplit words rest split) }
+{
+    let mut lines = Vec::new(alloc);
+    let mut rest = text;
+    for part in parts {
+        let Some((line, behind)) = part.standing(rest) else {
+            return Ok(Split {
+                lines,
+                behind: None,
+            });
+        };
+        lines.push(line)?;
+        rest = behind;
+    }
+    Ok(Split {
+        lines,
+        behind: Some(rest),
+    })
+}

@@ -1,0 +1,102 @@
+// The verdict on an output.
+ghost use Rattle.std.specs.Prelude.{◌≡◌, ◌≤◌, ◌^◌, IfOk, length};
+ghost use Rattle.run_ends.specs.Running.{CanRun};
+ghost use Rattle.inspect_verdict.specs.Verdict.{IsVerdict};
+
+use crate::answers::answers_of;
+use crate::judging::{Judged, judge_run};
+use crate::output_reading::{Told, read_output};
+use crate::stops::{answers_with, stops_of};
+use crate::writing::is_output;
+use inspect_referee::{Counts, Reason};
+use run_ends::{Counts as Spent, tasks_of};
+use run_inputs::Inputs;
+use scan_story::PolicyName;
+use std::alloc::Global;
+use table_core::Memory;
+
+/// What a text is, as the output of a run.
+#[derive(Clone, Copy, Debug, PartialEq, Eq)]
+pub enum Verdict {
+    /// It is the output of a run: its story has so many entries, read so many pieces, and has so many entries of each
+    /// kind. Where each query reads for itself, so many pieces are read `apart`.
+    Legal {
+        entries: usize,
+        reads: u64,
+        apart: u64,
+        counts: Counts,
+    },
+    /// For the statement of this number neither its answer stands, nor the line of a query that was stopped.
+    NotAnswered {
+        query: usize,
+    },
+    /// Behind the statements there is no summary, though one was asked for.
+    NoSummary,
+    /// This line of the output, counted from 1, is the first of the trace that is no entry's.
+    NotStory {
+        line: u64,
+    },
+    /// The entry at this line of the output, from 1, and this place of the story, from 0, is the first that may not come
+    /// where it stands: it breaks this rule, or there was this better choice.
+    Illegal {
+        line: u64,
+        place: usize,
+        reason: Reason,
+    },
+    /// The story is legal, but a query isn't over, so a chunk that it needs was not delivered exactly once, or something
+    /// is left open.
+    NotWhole,
+    /// A line of a query that was stopped, or the summary, isn't that of the story.
+    Differs,
+}
+
+/// Whether a text of at most 2^30 bytes is the output of a run of these inputs under the policy of this name, and of
+/// which length; or the first that stands in the way. The error is out of memory.
+///
+/// `Legal` comes exactly where it is one: some story in the setting of the run is legal, whole and undisturbed, and the
+/// text is the answers computed over the whole table, for each query that the story stopped its line, the summary where
+/// the inputs ask for one, and the story. The text ends with the trace, whether the inputs ask for it or not.
+pub fn verdict_of(
+    alloc: Global,
+    inputs: &Inputs,
+    policy: PolicyName,
+    output: &[u8],
+) -> Result<Verdict, Memory>
+    requires can { CanRun inputs.now }
+    requires short { length output.now ≤ 2 ^ 30 }
+    ensures verdict { IfOk result (IsVerdict inputs.now policy output.now) }
+{
+    let tasks = tasks_of(alloc, &inputs.outcomes)?;
+    let plain = answers_of(alloc, &inputs.outcomes, &inputs.loaded.table)?;
+    let Told {
+        lines,
+        story,
+        first,
+    } = match read_output(alloc, inputs, &plain, output)? {
+        Ok(told) => told,
+        Err(verdict) => return Ok(verdict),
+    };
+    let (counts, apart) = match judge_run(alloc, inputs, &tasks, policy, &story)? {
+        Judged::Legal { counts, apart } => (counts, apart),
+        Judged::Illegal { place, reason } => {
+            let line = first + place as u64;
+            return Ok(Verdict::Illegal {
+                line,
+                place,
+                reason,
+            });
+        }
+        Judged::NotWhole => return Ok(Verdict::NotWhole),
+    };
+    let stops = stops_of(alloc, &story, inputs.options.parts, &tasks, &lines)?;
+    let answers = answers_with(alloc, &stops, plain)?;
+    if !is_output(alloc, inputs, &answers, &story, output)? {
+        return Ok(Verdict::Differs);
+    }
+    Ok(Verdict::Legal {
+        entries: story.len(),
+        reads: Spent::of(&story).reads,
+        apart,
+        counts,
+    })
+}

@@ -1,0 +1,57 @@
+// The output of a run with this story, once more.
+ghost use Rattle.std.specs.Prelude.{◌≡◌, ◌≢◌, ◌≤◌, ◌<◌, ◌^◌, All, IfOk, Some, false, length, true};
+ghost use Rattle.std.specs.List.{AllByRecursion, AllZip};
+ghost use Rattle.table_core.specs.Value.{places_of};
+ghost use Rattle.query_gather.specs.Answer.{CanBeWritten};
+ghost use Rattle.run_output.specs.Answers.{NamesColumns};
+ghost use Rattle.run_stops.specs.Outcomes.{plans_of};
+ghost use Rattle.inspect_verdict.specs.Reading.{text_with};
+
+use query_gather::Answer;
+use run_ends::totals_of;
+use run_inputs::Inputs;
+use run_output::output_text;
+use scan_story::Entry;
+use std::alloc::Global;
+use table_core::Memory;
+
+// Whether two texts are one.
+fn is_text(text: &[u8], output: &[u8]) -> bool
+    ensures yes { result ≡ true → output.now ≡ text.now }
+    ensures no { result ≡ false → output.now ≢ text.now }
+{
+    text == output
+}
+
+/// Whether a text is what a run prints with these answers and this story.
+pub(crate) fn is_output(
+    alloc: Global,
+    inputs: &Inputs,
+    answers: &[Answer],
+    story: &[Entry],
+    output: &[u8],
+) -> Result<bool, Memory>
+    requires few { length inputs.now.outcomes.items ≤ 256 }
+    requires rows { length inputs.now.loaded.table.rows < 2 ^ 32 }
+    requires dicts { length inputs.now.loaded.dicts.items ≡ length inputs.now.loaded.table.columns }
+    requires places { All (λ c. places_of c.kind ≤ 9) inputs.now.loaded.table.columns }
+    requires columns { AllByRecursion (NamesColumns (length inputs.now.loaded.table.columns))
+        (plans_of inputs.now.outcomes.items) }
+    requires cells { AllZip (CanBeWritten inputs.now.loaded.dicts.items) (plans_of inputs.now.outcomes.items)
+        answers.now }
+    ensures yes { IfOk result (λ b. b ≡ true → output.now ≡ text_with inputs.now answers.now story.now) }
+    ensures no { IfOk result (λ b. b ≡ false → output.now ≢ text_with inputs.now answers.now story.now) }
+{
+    let table = &inputs.loaded.table;
+    let totals = totals_of(inputs.summary, story, table.len() as u32);
+    let text = output_text(
+        alloc,
+        table.schema(),
+        &inputs.loaded.dicts,
+        &inputs.outcomes,
+        answers,
+        totals,
+        Some(story),
+    )?;
+    Ok(is_text(text.as_slice(), output))
+}

@@ -1,5 +1,0 @@
-pub mod Texts
-pub mod Left
-pub mod Standing
-pub mod OneStory
-pub mod Lines

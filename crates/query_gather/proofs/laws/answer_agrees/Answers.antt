@@ -1,5 +1,0 @@
-use Rattle.query_gather.proofs.Answering.{answer_agrees}
-use Rattle.query_gather.proofs.laws.answer_agrees.Goals as goal
-
-pub returns : goal.returns
-returns c = answer_agrees

@@ -1,5 +1,0 @@
-use Rattle.query_gather.proofs.Standing.{stands_reordered}
-use Rattle.query_gather.proofs.laws.any_order.Goals as goal
-
-pub returns : goal.returns
-returns c = stands_reordered

@@ -1,5 +1,0 @@
-use Rattle.query_gather.proofs.Written.{can_be_written}
-use Rattle.query_gather.proofs.laws.can_be_written.Goals as goal
-
-pub returns : goal.returns
-returns c = can_be_written

@@ -1,9 +1,0 @@
-pub mod Tasked
-pub mod Stopping
-pub mod Given
-pub mod Permuted
-pub mod Dealt
-pub mod Asked
-pub mod Losing
-pub mod Coming
-pub mod Decided

@@ -1,5 +1,0 @@
-use Rattle.run_output.proofs.Columns.{names_columns}
-use Rattle.run_output.proofs.laws.names_columns.Goals as goal
-
-pub returns : goal.returns
-returns c = names_columns

@@ -1,0 +1,16 @@
+use Rattle.std.proofs.lemmas.List.Elements.{recursion_from_All}
+use Rattle.table_core.specs.Dict.{Rises}
+use Rattle.table_core.specs.declared.cell.Cell.{Cell}
+use Rattle.query_meaning.specs.Rows.{Numbered}
+use Rattle.sql_bind.specs.Texts.{AreCellsOf}
+use Rattle.sql_bind.proofs.Groups.{readable_results}
+use Rattle.sql_bind.proofs.Firsts.{readable_rows}
+use Rattle.sql_bind.proofs.plan_meaning.readable_answers.Goals as goal
+
+pub returns-clause-results : goal.returns-clause-results
+returns-clause-results c = λ dicts items keys rows rises all.
+    readable_results dicts (recursion_from_All Rises dicts rises) items keys rows (recursion_from_All (AreCellsOf dicts) rows all)
+
+pub returns-clause-first_rows : goal.returns-clause-first_rows
+returns-clause-first_rows c = λ dicts q rows rises all.
+    readable_rows dicts (recursion_from_All Rises dicts rises) q rows (recursion_from_All (λ (r : Numbered Cell). AreCellsOf dicts r.1) rows all)

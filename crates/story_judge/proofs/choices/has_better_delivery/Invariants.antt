@@ -1,9 +1,0 @@
-use Rattle.std.proofs.Common.{◌≡◌, ◌&&◌, not}
-use Rattle.scan_story.specs.Counting.{any_below}
-use Rattle.scan_story.specs.Views.{past}
-use Rattle.scan_story.specs.MayFollow.{is_ready}
-use Rattle.story_judge.specs.Tests.{delivery_at_most}
-use Rattle.story_judge.proofs.choices.has_better_delivery.Given as goal
-
-abbrev pub invariant-loop-y : goal.invariant-loop-y
-invariant-loop-y l = l.found ≡ any_below (λ y. is_ready l.s (past l.entries) l.q y && not (delivery_at_most l.s.policy l.cursor l.s (past l.entries) l.q y l.c)) l.y

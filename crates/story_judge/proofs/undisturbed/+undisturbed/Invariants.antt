@@ -1,5 +1,0 @@
-use Rattle.std.proofs.Common.{length}
-use Rattle.story_judge.proofs.undisturbed.+undisturbed.Given as goal
-
-abbrev pub decreases-undisturbed : goal.decreases-undisturbed
-decreases-undisturbed l = length l.entries.now

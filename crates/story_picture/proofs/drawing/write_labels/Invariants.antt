@@ -1,8 +1,0 @@
-use Rattle.std.proofs.Common.{◌≡◌, ◌++◌, take}
-use Rattle.std.specs.List.{flat_map}
-use Rattle.std.specs.String.{string_bytes}
-use Rattle.story_picture.specs.Svg.{label_text}
-use Rattle.story_picture.proofs.drawing.write_labels.Given as goal
-
-abbrev pub invariant-loop-mark : goal.invariant-loop-mark
-invariant-loop-mark l = string_bytes l.svg ≡ string_bytes l.initial.svg ++ flat_map (label_text l.scale) (take l.mark-index l.marks)

@@ -1,6 +1,0 @@
-use Rattle.std.proofs.Common.{◌≡◌, take}
-use Rattle.story_reading.specs.Reading.{number_of}
-use Rattle.story_reading.proofs.read.number.Given as goal
-
-abbrev pub invariant-loop-byte : goal.invariant-loop-byte
-invariant-loop-byte l = l.number ≡ number_of (take l.byte-index l.word)

@@ -1,7 +1,0 @@
-use Rattle.std.proofs.Common.{sym, arith}
-use Rattle.story_referee.specs.Seen.{setting, seen}
-use Rattle.story_referee.proofs.Bounds.{not_trigger}
-use Rattle.story_referee.proofs.referee.Referee.is_trigger.Goals as goal
-
-pub returns-then-q-gt256 : goal.returns-then-q-gt256
-returns-then-q-gt256 c = let r = c.args.self.now in sym (not_trigger r.book (setting r) (seen r) c.args.q c.requires.stands (omega arith))

@@ -1,7 +1,0 @@
-use Rattle.std.proofs.Common.{◌≡◌, ◌≤◌}
-use Rattle.scan_story.specs.Counting.{count_below}
-use Rattle.scan_story.specs.Views.{past, needs_chunk}
-use Rattle.story_views.proofs.numbers.needed.Given as goal
-
-abbrev pub invariant-loop-c : goal.invariant-loop-c
-invariant-loop-c l = record { value : l.count ≡ count_below (needs_chunk l.s (past l.entries) l.q) l.c; fits : l.count ≤ l.c }

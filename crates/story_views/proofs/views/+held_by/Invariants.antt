@@ -1,5 +1,0 @@
-use Rattle.std.proofs.Common.{length}
-use Rattle.story_views.proofs.views.+held_by.Given as goal
-
-abbrev pub decreases-held_by : goal.decreases-held_by
-decreases-held_by l = length l.entries.now
