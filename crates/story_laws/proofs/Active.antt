@@ -97,7 +97,7 @@ all_both P Q R [] f all each = tt
 all_both P Q R (n ∷ ns) f all each = (f n all.0 each.0, all_both P Q R ns f all.1 each.1)
 
 -- each need is the one of its query
-each_found : (ns : List Need) → AreDistinct ns → AllByRecursion (λ (n : Need). find (λ k. k.query == n.query) ns ≡ Some n) ns
+pub each_found : (ns : List Need) → AreDistinct ns → AllByRecursion (λ (n : Need). find (λ k. k.query == n.query) ns ≡ Some n) ns
 each_found [] d = tt
 each_found (n ∷ ns) d = (
   ap (λ b. cond b (Some n) (find (λ k. k.query == n.query) ns)) (self_number n.query),

@@ -29,7 +29,7 @@ grow_step true false x y f le = let bad = f refl in absurd cc
 grow_step false true x y f le = omega arith
 grow_step false false x y f le = le
 
-last_or_below : (a b : ℕ) → a < suc b → (a == b) ≡ false → a < b
+pub last_or_below : (a b : ℕ) → a < suc b → (a == b) ≡ false → a < b
 last_or_below a b l e = grind (arith, nat_tests)
 
 -- j passes q and not p, and all that pass p pass q

@@ -66,7 +66,7 @@ record Pieces (s : Setting) (h : History) : Type 0 where
   reads : reads h + unfilled (underway s h) ≤ s.groups * plans h
 
 -- one piece less
-drops : (t : ℕ → Bool) (xs : List ℕ) (p : ℕ) → has xs p ≡ true → t p ≡ false → count_among (λ x. not ((p == x) || t x)) xs + 1 ≤ count_among (λ x. not (t x)) xs
+pub drops : (t : ℕ → Bool) (xs : List ℕ) (p : ℕ) → has xs p ≡ true → t p ≡ false → count_among (λ x. not ((p == x) || t x)) xs + 1 ≤ count_among (λ x. not (t x)) xs
 drops t xs p e off =
     among_grows (λ x. not ((p == x) || t x)) (λ x. not (t x)) xs p (λ x i. ap not (or_false (p == x) (t x) (not_false ((p == x) || t x) i)).1) e
     (ap not (or_left (p == p) (t p) (self_number p))) (ap not off)

@@ -34,13 +34,13 @@ begins_of [] f p e = e
 begins_of (b ∷ bs) f p e =
     or_more (b.0 == f && b.1 == p) (list_any (λ b. b.0 == f && b.1 == p) bs) (b.1 == p) (list_any (λ b. b.1 == p) bs) (λ t. (and_both (b.0 == f) (b.1 == p) t).1) (begins_of bs f p) e
 
-begins_frame : (bs : List (ℕ × ℕ)) (f p : ℕ) → list_any (λ b. b.0 == f && b.1 == p) bs ≡ true → list_any (λ b. b.0 == f) bs ≡ true
+pub begins_frame : (bs : List (ℕ × ℕ)) (f p : ℕ) → list_any (λ b. b.0 == f && b.1 == p) bs ≡ true → list_any (λ b. b.0 == f) bs ≡ true
 begins_frame [] f p e = e
 begins_frame (b ∷ bs) f p e =
     or_more (b.0 == f && b.1 == p) (list_any (λ b. b.0 == f && b.1 == p) bs) (b.0 == f) (list_any (λ b. b.0 == f) bs) (λ t. (and_both (b.0 == f) (b.1 == p) t).0) (begins_frame bs f p) e
 
 -- a free frame was not begun
-free_not_begun : (s : Setting) (h : History) (f x : ℕ) (l : Load) → is_free s h f ≡ true → underway s h ≡ Some l → begins_in l f x ≡ true → ⊥
+pub free_not_begun : (s : Setting) (h : History) (f x : ℕ) (l : Load) → is_free s h f ≡ true → underway s h ≡ Some l → begins_in l f x ≡ true → ⊥
 free_not_begun s h f x l free u e =
     let off = not_false (fills_frame f (underway s h)) (and_both (is_none (piece_in s h f)) (not (fills_frame f (underway s h))) free).1 in
     not_both (list_any (λ b. b.0 == f) l.begun) (begins_frame l.begun f x e) (sym (ap (fills_frame f) u) ∙ off)

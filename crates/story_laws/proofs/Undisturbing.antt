@@ -19,7 +19,7 @@ use Rattle.story_laws.proofs.Standing.{evict_leaves, fill_leaves, filled_leaves,
 untaken : (s : Setting) (h : History) (v c : ℕ) → Holding s h → is_held s h c ≡ false → has_taken h v c ≡ false
 untaken s h v c k none = if_not (has_taken h v c) (λ t. (let x = k.taken v c t in unequal x.hold.chunk c (not_held s h v c x.hold k.holder none x.held) x.chunk))
 
-pieceless : (s : Setting) (h : History) (v f : ℕ) → Holding s h → piece_in s h f ≡ None → had_piece s h v f ≡ false
+pub pieceless : (s : Setting) (h : History) (v f : ℕ) → Holding s h → piece_in s h f ≡ None → had_piece s h v f ≡ false
 pieceless s h v f k none = if_not (had_piece s h v f) (λ t. (let x = k.had v f t in none_some x.piece (sym none ∙ x.stands)))
 
 pub undisturbed : (s : Setting) (h : History) → IsSetting s → Grouped s → Legal s h → Undisturbed s h

@@ -1,0 +1,5 @@
+pub mod Going
+pub mod Ending
+pub mod Frames
+pub mod Scenes
+pub mod Telling
