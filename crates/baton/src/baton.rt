@@ -3,7 +3,7 @@ ghost use Rattle.crossbeam_queue.specs.Passes.{view, IsPassOf, ruled_capacity};
 ghost use Rattle.scan_story.specs.declared.entry.Entry.{Entry};
 ghost use Rattle.scan_story.specs.Makers.{entries_by, StartsWith, Adds};
 ghost use Rattle.baton.specs.Rule.{dealer};
-ghost use Rattle.baton.specs.Passes.{AgreesWith, IsFree, new_passes};
+ghost use Rattle.baton.specs.Passes.{AgreesWith, IsFree, line_id, new_passes};
 
 use crate::bell::Bell;
 use crate::line::{Line, absorb, pop, push};
@@ -60,8 +60,17 @@ impl<T: Storied + Drop> Baton<T> {
         let Ok((line, mut seat)) = Line::<T>::ruled(alloc, 1) else {
             return Err((state, Memory));
         };
+        let Ok(lobby) = Lobby::new(alloc) else {
+            return Err((state, Memory));
+        };
+        let Ok(bell) = Bell::new(alloc) else {
+            return Err((state, Memory));
+        };
         match line.try_push_as::<Lays>(&mut seat, state) {
-            Ok(()) => Ok(deal(line, seat, passes, workers)),
+            Ok(()) => {
+                let passes = deal(&line, seat, passes, workers);
+                Ok((Baton { line, lobby, bell }, passes))
+            }
             Err(state) => Err((state, Memory)),
         }
     }
@@ -97,7 +106,7 @@ impl<T: Storied + Drop> Baton<T> {
             → pass.new.mine ≡ pass.old.mine ++ added }
     {
         push(rt, &self.line, &mut pass.seat, state);
-        self.lobby.call();
+        self.lobby.call(rt);
     }
 
     /// The bell at which the workers of this baton wait for each other.
@@ -133,25 +142,20 @@ impl<T: Storied + Drop> Baton<T> {
 
 // Deals a pass to each worker.
 fn deal<T: Storied + Drop>(
-    line: Line<T>,
+    line: &Line<T>,
     mut seat: Seat<T, View>,
     mut passes: Vec<Pass<T>>,
     workers: u32,
-) -> (Baton<T>, Vec<Pass<T>>)
-    requires queue { IsPassOf line seat × (ruled_capacity line ≡ 1) }
+) -> Vec<Pass<T>>
+    requires queue { IsPassOf line.now seat }
     requires dealer { view seat ≡ dealer 0 (view seat).share.origin (view seat).share.seen false }
     requires room { (passes.items ≡ []) × (workers ≤ vec_capacity passes) }
-    ensures passes { result.1.items ≡ new_passes result.0 (view seat).share.origin (view seat).share.seen workers }
-    ensures count { vec_len result.1 ≡ workers }
+    ensures passes { result.items ≡ new_passes (line_id line.now) (view seat).share.origin (view seat).share.seen workers }
+    ensures count { vec_len result ≡ workers }
 {
     for _number in 0..workers {
         let seat = line.another::<Deals>(&mut seat);
         passes.push_reserved(Pass { seat });
     }
-    let baton = Baton {
-        line,
-        lobby: Lobby::new(),
-        bell: Bell::new(),
-    };
-    (baton, passes)
+    passes
 }

@@ -13,12 +13,17 @@
 
 mod baton;
 mod bell;
+mod guest;
 mod line;
 mod lobby;
 mod pass;
-mod place;
+pub mod rest;
+mod ringer;
+mod rings;
 pub mod rule;
+pub mod standing;
 pub mod view;
+mod waits;
 
 pub use baton::Baton;
 pub use bell::Bell;

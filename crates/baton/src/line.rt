@@ -74,11 +74,14 @@ fn look_and_sleep<T: Storied + Drop, R: Wait>(
     ensures took { MatchOption result (view seat.new ≡ view seat.old)
         (λ state. Took T.origin T.story (view seat.old) state (view seat.new)) }
 {
-    let calls = lobby.enter();
+    let guest = lobby.enter(rt);
     match line.pop_as::<Takes, R>(rt, seat) {
-        Some(state) => Some(state),
+        Some(state) => {
+            guest.leave();
+            Some(state)
+        }
         None => {
-            lobby.sleep(rt, calls);
+            lobby.sleep(rt, guest);
             None
         }
     }
