@@ -1,0 +1,11 @@
+pub mod Puts
+pub mod Lobbies
+pub mod Bells
+pub mod Tally
+pub mod Sounds
+pub mod Turnings
+pub mod Desks
+pub mod Holding
+pub mod Wholes
+pub mod Going
+pub mod Bringing
