@@ -29,8 +29,14 @@ pub(crate) struct Experiment {
     pub frames: u32,
     /// How many microseconds a get takes.
     pub get_us: u32,
+    /// How many microseconds a fast query takes for each chunk, beside its work on the rows.
+    pub fast_us: u32,
     /// How many microseconds a slow query takes for each chunk, beside its work on the rows.
     pub slow_us: u32,
+    /// How many queries may be at such work at once.
+    pub processors: u32,
+    /// How many microseconds after the stream before it each stream begins.
+    pub stagger_us: u32,
     /// The kind of all queries; where there is none, that of each is drawn.
     pub kind: Option<Kind>,
     /// The seed of the table and of the queries.
@@ -39,12 +45,23 @@ pub(crate) struct Experiment {
     ghost queries_within: { (1 ≤ queries) × (queries ≤ MOST_QUERIES) },
     ghost chunk_within: { (1 ≤ chunk_rows) × (chunk_rows ≤ MOST_CHUNK_ROWS) },
     ghost table_within: { (1 ≤ table_rows) × (table_rows ≤ MOST_GENERATED_ROWS) },
+    ghost processors_within: { (1 ≤ processors) × (processors ≤ MOST_WORKERS) },
     ghost frames_within: { (1 ≤ frames) × (frames ≤ MOST_FRAMES) },
 }
 
 impl Experiment {
     ghost use Rattle.command_words.specs.Limits.{IsFrom, IsWithinLimits};
     ghost use Rattle.run_ends.specs.Settings.{asked_in_settings};
+
+    /// How many queries stand before those that were drawn: one for each stream, where they don't begin together.
+    pub(crate) fn starters(&self) -> usize
+        ensures few { result ≤ self.now.streams }
+    {
+        if self.stagger_us == 0 {
+            return 0;
+        }
+        self.streams as usize
+    }
 
     /// How many chunks the table has.
     pub(crate) fn chunks(&self) -> u32

@@ -28,6 +28,16 @@ impl Kind {
         }
     }
 
+    /// Fast, and over one row: with such a query a stream begins that waits first.
+    pub(crate) fn starter() -> Kind
+        ensures part { result.percent ≡ 0 }
+    {
+        Kind {
+            percent: 0,
+            slow: false,
+        }
+    }
+
     /// The kind of a number, which counts around: ranges of 1, 10, 50 and 100 in 100, the fast ones first.
     pub(crate) fn numbered(number: u32) -> Kind
         ensures part { Contains (1 ∷ 10 ∷ 50 ∷ 100 ∷ []) result.percent }

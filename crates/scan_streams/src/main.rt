@@ -9,6 +9,10 @@
 mod check;
 mod experiment;
 mod kind;
+mod lru_pool;
+mod ordered_scan;
+mod permits;
+mod plain;
 mod play;
 mod played;
 mod policies;
@@ -21,8 +25,8 @@ mod watch;
 mod words;
 
 use crate::check::check;
-use crate::range_query::drawn;
-use crate::report::report;
+use crate::range_query::{drawn, with_starters};
+use crate::report::{Wanted, report};
 use crate::words::{command, experiment_of};
 use anyhow::Result;
 use clap::ArgMatches;
@@ -38,13 +42,16 @@ fn play_words<R: Threads + Wait + Sync>(
     matches: &ArgMatches<'_>,
 ) -> Result<ExitCode> {
     let experiment = experiment_of(matches);
-    let queries = drawn(rt.alloc(), &experiment)?;
+    let queries = with_starters(rt.alloc(), &experiment, drawn(rt.alloc(), &experiment)?)?;
     if matches.get_flag("check") {
         return check(handle, rt, &experiment, &queries);
     }
-    let policy = matches.get_str("policy").unwrap_or("all");
-    let each = matches.get_flag("each");
-    report(handle, rt, &experiment, &queries, policy, each)
+    let wanted = Wanted {
+        name: matches.get_str("policy").unwrap_or("all"),
+        each: matches.get_flag("each"),
+        trace: matches.get_flag("trace"),
+    };
+    report(handle, rt, &experiment, &queries, wanted)
 }
 
 fn main(rt: HostRuntime) -> Result<ExitCode> {

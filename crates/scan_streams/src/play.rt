@@ -16,7 +16,7 @@ use policy_box::{Boxed, Elevator};
 use policy_plain::{Attach, Normal};
 use relevance::{Policy, Relevance};
 use run_ends::Counts;
-use scan_story::PolicyName;
+use scan_story::{Entry, PolicyName};
 use std::alloc::{AllocError, Global};
 use std::hash::RandomState;
 use std::sync::Wait;
@@ -48,6 +48,17 @@ fn sink(alloc: Global) -> MemSink {
     }
 }
 
+// The chunks that were delivered, in their order.
+fn delivered(alloc: Global, story: &[Entry]) -> Result<Vec<u32>, AllocError> {
+    let mut chunks = Vec::new(alloc);
+    for entry in story {
+        if let Entry::Deliver { chunk, .. } = entry {
+            chunks.push(*chunk)?;
+        }
+    }
+    Ok(chunks)
+}
+
 // Plays the queries under a policy, on so many workers.
 fn play<R: Threads + Wait + Sync>(
     handle: &R,
@@ -66,7 +77,7 @@ fn play<R: Threads + Wait + Sync>(
     let mut out = sink(alloc);
     let watch = Watch::new(rt)?;
     let depot = SlowDepot::new(alloc, watch, experiment.get_us);
-    let gate = TimingGate::new(alloc, watch, queries, experiment.slow_us)?;
+    let gate = TimingGate::new(alloc, watch, queries, experiment)?;
     let keys = RandomState::new(&rt)?;
     let ended = run_settings(
         handle, alloc, keys, &settings, &mut shelf, depot, policy, &gate, &mut out,
@@ -76,7 +87,9 @@ fn play<R: Threads + Wait + Sync>(
         status: ended.status,
         answers: taken,
         gets: ended.depot.gets(),
-        counts: Counts::of(&ended.story),
+        reads: Counts::of(&ended.story).reads,
+        taken: delivered(alloc, &ended.story)?,
+        work: gate.worked(),
         streams: workers as usize,
         began: ended.depot.filled_at(),
         ends: gate.ends(alloc)?,

@@ -6,7 +6,6 @@ use crate::kind::Kind;
 use crate::range_query::RangeQuery;
 use crate::times::{average, query_time, stream_time};
 use coop_outside::Bytes;
-use run_ends::Counts;
 use std::alloc::{AllocError, Global};
 
 /// What a run of queries under a policy came to.
@@ -18,8 +17,12 @@ pub(crate) struct Played {
     pub answers: Bytes,
     /// How many gets the depot counted.
     pub gets: u64,
-    /// What the manager's story counts.
-    pub counts: Counts,
+    /// How many chunks were read.
+    pub reads: u64,
+    /// The chunks that were handed out, in their order.
+    pub taken: Vec<u32>,
+    /// The microseconds of all work on chunks.
+    pub work: u64,
     /// On how many workers it ran, of which each has a stream of the queries.
     pub streams: usize,
     /// When the scans began, in microseconds.
@@ -41,16 +44,29 @@ impl Played {
         None
     }
 
-    /// How long each stream took, in microseconds.
-    pub(crate) fn stream_times(&self, alloc: Global) -> Result<Vec<u32>, AllocError>
+    /// How long each stream took, in microseconds. With a query for each stream that only waits for its begin, a stream
+    /// begins when that has ended.
+    pub(crate) fn stream_times(&self, alloc: Global, waited: bool) -> Result<Vec<u32>, AllocError>
         ensures few { IfOk result (λ times. vec_len times ≤ vec_len self.now.ends) }
     {
         let all = self.ends.len();
         let mut times = Vec::new(alloc);
         for last in all.saturating_sub(self.streams)..all {
-            times.push(stream_time(self.began, &self.ends, last))?;
+            let begin = if waited {
+                let place = last % self.streams.max(1);
+                self.ends.get(place).copied().unwrap_or(self.began)
+            } else {
+                self.began
+            };
+            times.push(stream_time(begin, &self.ends, last))?;
         }
         Ok(times)
+    }
+
+    /// How long all streams took together, in microseconds.
+    pub(crate) fn all_time(&self) -> u64 {
+        let last = self.ends.iter().copied().max().unwrap_or(0);
+        last.saturating_sub(self.began)
     }
 
     /// How long the queries of a kind took, in microseconds.

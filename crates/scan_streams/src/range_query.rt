@@ -65,6 +65,26 @@ pub(crate) fn drawn(alloc: Global, experiment: &Experiment) -> Result<Vec<RangeQ
     Ok(queries)
 }
 
+/// The queries that were drawn, in each stream behind one over the first row where streams don't begin together. Such a
+/// query is held until its stream is to begin.
+pub(crate) fn with_starters(
+    alloc: Global,
+    experiment: &Experiment,
+    drawn: Vec<RangeQuery>,
+) -> Result<Vec<RangeQuery>, AllocError>
+    requires { vec_len drawn < 2 ^ 31 }
+    ensures all { IfOk result (λ queries. vec_len queries ≤ vec_len drawn + experiment.now.streams) }
+{
+    let mut queries = Vec::new(alloc);
+    for _ in 0..experiment.starters() {
+        queries.push(RangeQuery::placed(Kind::starter(), experiment.table_rows, 0))?;
+    }
+    for query in &drawn {
+        queries.push(*query)?;
+    }
+    Ok(queries)
+}
+
 /// The batch of the queries: a statement for each.
 pub(crate) fn batch_text(alloc: Global, queries: &[RangeQuery]) -> Result<String, AllocError> {
     let mut text = String::new(alloc);

@@ -1,11 +1,12 @@
 // What was read, and how long streams and queries took.
-ghost use Rattle.std.specs.Prelude.{◌<◌, ◌^◌, length, vec_len};
+ghost use Rattle.std.specs.Prelude.{◌<◌, ◌^◌, ◌≡◌, IfOk, IfSome, length, vec_len};
 
 use crate::experiment::Experiment;
 use crate::kind::{KINDS, Kind};
+use crate::plain::{TooFew, play_plain};
 use crate::play::play_under;
 use crate::played::Played;
-use crate::policies::{POLICIES, name_text};
+use crate::policies::{WAYS, Way, way_text};
 use crate::range_query::RangeQuery;
 use crate::times::{Millis, average};
 use anyhow::Result;
@@ -61,16 +62,22 @@ fn print_experiment(rt: &impl Print, experiment: &Experiment) -> io::Result<()> 
 }
 
 // Prints what a run read, and how long its streams took.
-fn print_run(rt: &impl Print, alloc: Global, name: PolicyName, played: &Played) -> io::Result<()>
+fn print_run(
+    rt: &impl Print,
+    alloc: Global,
+    way: Way,
+    starters: usize,
+    played: &Played,
+) -> io::Result<()>
     requires few { vec_len played.now.ends < 2 ^ 32 }
 {
-    let times = played.stream_times(alloc)?;
-    let (reads, deliveries) = (played.gets, played.counts.deliveries);
+    let times = played.stream_times(alloc, starters > 0)?;
+    let (reads, deliveries) = (played.reads, played.taken.len().saturating_sub(starters));
     let stream = Millis(average(&times));
-    let longest = Millis(times.iter().copied().max().unwrap_or(0).into());
-    let text = name_text(name);
+    let (all, work) = (Millis(played.all_time()), Millis(played.work));
+    let text = way_text(way);
     println!(rt;
-        "{text}: {reads} reads, {deliveries} deliveries, a stream {stream} ms, all {longest} ms"
+        "{text}: {reads} reads, {deliveries} deliveries, a stream {stream} ms, all {all} ms, work {work} ms"
     )
 }
 
@@ -111,34 +118,102 @@ fn print_queries(
     Ok(())
 }
 
-/// Plays the queries under the policy of a name, or under each in turn for `all`, and prints what was read, how long
-/// streams took on average, and how long the queries of each kind took beside one alone; and with `each` every query.
-/// A run that stops or loses a query ends the work with its status, and what it wrote is printed.
+// Prints the chunks of each query.
+fn print_needs(rt: &impl Print, experiment: &Experiment, queries: &[RangeQuery]) -> io::Result<()> {
+    for (place, query) in queries.iter().enumerate() {
+        let stream = place % (experiment.streams as usize);
+        let (first, chunks) = (
+            query.least / experiment.chunk_rows,
+            query.chunks(experiment.chunk_rows),
+        );
+        println!(rt; "needs: stream {stream}, {chunks} chunks from {first} on")?;
+    }
+    Ok(())
+}
+
+// Prints the chunks that a run handed out, in their order.
+fn print_taken(rt: &impl Print, alloc: Global, way: Way, played: &Played) -> Result<()> {
+    let mut line = String::new(alloc);
+    for chunk in &played.taken {
+        write!(line, " {chunk}")?;
+    }
+    let text = way_text(way);
+    println!(rt; "{text} handed out:{line}")?;
+    Ok(())
+}
+
+/// What is to be played, and what is told of it.
+#[derive(Clone, Copy, Debug)]
+pub(crate) struct Wanted<'a> {
+    /// The name of a way, or `all`.
+    pub name: &'a str,
+    /// The time of each query is told.
+    pub each: bool,
+    /// The chunks of each query are told, and those that a run hands out.
+    pub trace: bool,
+}
+
+// Plays the queries in a way; not at all where that is a plain buffer manager and frames are too few.
+fn play_in<R: Threads + Wait + Sync>(
+    handle: &R,
+    rt: HostRuntime,
+    experiment: &Experiment,
+    queries: &[RangeQuery],
+    way: Way,
+) -> Result<Option<Played>>
+    requires few { length queries.now < 2 ^ 32 }
+    ensures each { IfOk result (λ run. IfSome run (λ played. vec_len played.ends ≡ length queries.now)) }
+{
+    let streams = experiment.streams;
+    let played = match way {
+        Way::Under(name) => play_under(handle, rt, experiment, streams, queries, name)?,
+        Way::Plain { attaches } => {
+            if experiment.frames < streams {
+                return Ok(None);
+            }
+            play_plain(handle, rt, experiment, queries, attaches)?
+        }
+    };
+    Ok(Some(played))
+}
+
+/// Plays the queries in the way of a name, or in each in turn for `all`, and prints what was read, how long streams took on
+/// average, and how long the queries of each kind took beside one alone; and what else is wanted. A run that stops or loses
+/// a query ends the work with its status, and what it wrote is printed.
 pub(crate) fn report<R: Threads + Wait + Sync>(
     handle: &R,
     rt: HostRuntime,
     experiment: &Experiment,
     queries: &[RangeQuery],
-    policy: &str,
-    each: bool,
+    wanted: Wanted<'_>,
 ) -> Result<ExitCode>
     requires few { length queries.now < 2 ^ 32 }
 {
     print_experiment(&rt, experiment)?;
+    if wanted.trace {
+        print_needs(&rt, experiment, queries)?;
+    }
     let alone = times_alone(handle, rt, experiment, queries)?;
-    for name in POLICIES {
-        if policy != "all" && policy != name_text(name) {
+    for way in WAYS {
+        if wanted.name != "all" && wanted.name != way_text(way) {
             continue;
         }
-        let played = play_under(handle, rt, experiment, experiment.streams, queries, name)?;
+        let Some(played) = play_in(handle, rt, experiment, queries, way)? else {
+            let text = way_text(way);
+            eprintln!(rt; "{text}: {}", TooFew(experiment))?;
+            return Ok(ExitCode::from(2));
+        };
         if played.status != 0 {
             let _ = write_all(&mut StdoutSink::new(rt), played.answers.as_slice());
             return Ok(ExitCode::from(played.status));
         }
-        print_run(&rt, rt.alloc(), name, &played)?;
+        print_run(&rt, rt.alloc(), way, experiment.starters(), &played)?;
         print_kinds(&rt, rt.alloc(), &played, queries, &alone)?;
-        if each {
+        if wanted.each {
             print_queries(&rt, &played, queries, &alone)?;
+        }
+        if wanted.trace {
+            print_taken(&rt, rt.alloc(), way, &played)?;
         }
     }
     Ok(ExitCode::SUCCESS)

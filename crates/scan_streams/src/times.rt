@@ -34,7 +34,7 @@ pub(crate) fn query_time(began: u64, ends: &[u64], streams: usize, place: usize)
     between(begin, ends[place])
 }
 
-/// How long a stream took whose last query stands at this place: from the begin of the run to the query's end.
+/// How long a stream took that began then and whose last query stands at this place: to the query's end.
 pub(crate) fn stream_time(began: u64, ends: &[u64], last: usize) -> u32
     requires place { last < length ends.now }
     ensures time { result ≡ time_between began (slice_index ends.now last) }

@@ -1,6 +1,9 @@
 // A gate with a clock.
 ghost use Rattle.std.specs.Prelude.{◌≡◌, IfOk, length, vec_len};
 
+use crate::experiment::Experiment;
+use crate::kind::Kind;
+use crate::permits::Permits;
 use crate::range_query::RangeQuery;
 use crate::watch::Watch;
 use cscan::Gate;
@@ -12,47 +15,91 @@ use std::sync::atomic::{AtomicU64, Ordering};
 // What is noted of a query.
 #[derive(Drop)]
 struct Mark {
-    slow: bool,
+    // the microseconds that it is held before its stream begins
+    late: u32,
+    // the microseconds of its work on a chunk
+    work: u32,
     // when it had its last chunk so far, in microseconds
     last: AtomicU64,
 }
 
-/// Notes when each query had its last chunk. A slow query sleeps first, with the chunk pinned, as if it worked on it.
+/// Notes when each query had its last chunk. A query sleeps first, with the chunk pinned, as if it worked on it, while it
+/// has one of the processors.
 #[derive(Drop)]
 pub(crate) struct TimingGate<C> {
     watch: Watch<C>,
-    slow_us: u32,
+    processors: Permits,
+    // the microseconds of all work so far
+    worked: AtomicU64,
     marks: Vec<Mark>,
 }
 
+// What is to be noted of the query at a place.
+fn mark_of(experiment: &Experiment, query: &RangeQuery, place: u32) -> Mark {
+    let (late, work) = if query.kind == Kind::starter() {
+        (place.saturating_mul(experiment.stagger_us), 0)
+    } else if query.kind.slow {
+        (0, experiment.slow_us)
+    } else {
+        (0, experiment.fast_us)
+    };
+    Mark {
+        late,
+        work,
+        last: AtomicU64::new(0),
+    }
+}
+
 // A mark for each query.
-fn marks_of(alloc: Global, queries: &[RangeQuery]) -> Result<Vec<Mark>, AllocError>
+fn marks_of(
+    alloc: Global,
+    queries: &[RangeQuery],
+    experiment: &Experiment,
+) -> Result<Vec<Mark>, AllocError>
     ensures each { IfOk result (λ marks. vec_len marks ≡ length queries.now) }
 {
     let mut marks = Vec::new(alloc);
-    for query in queries {
-        let (slow, last) = (query.kind.slow, AtomicU64::new(0));
-        marks.push(Mark { slow, last })?;
+    for (place, query) in queries.iter().enumerate() {
+        let number = u32::try_from(place).unwrap_or(u32::MAX);
+        marks.push(mark_of(experiment, query, number))?;
     }
     Ok(marks)
 }
 
 impl<C: Clock + Drop> TimingGate<C> {
-    /// A gate for the queries of a run, of which the slow ones sleep so many microseconds for each chunk.
+    /// A gate for the queries of a run.
     pub(crate) fn new(
         alloc: Global,
         watch: Watch<C>,
         queries: &[RangeQuery],
-        slow_us: u32,
+        experiment: &Experiment,
     ) -> Result<Self, AllocError>
         ensures each { IfOk result (λ gate. vec_len gate.marks ≡ length queries.now) }
     {
-        let marks = marks_of(alloc, queries)?;
+        let marks = marks_of(alloc, queries, experiment)?;
         Ok(TimingGate {
             watch,
-            slow_us,
+            processors: Permits::new(experiment.processors),
+            worked: AtomicU64::new(0),
             marks,
         })
+    }
+
+    /// The microseconds of all work so far.
+    pub(crate) fn worked(&self) -> u64 {
+        self.worked.load(Ordering::SeqCst)
+    }
+
+    // Works for so many microseconds on one of the processors.
+    fn work<R: Wait>(&self, rt: &R, micros: u32) {
+        if micros > 0 {
+            self.processors.take(rt);
+            let begun = self.watch.micros();
+            self.watch.sleep(micros);
+            let took = self.watch.micros().saturating_sub(begun);
+            self.worked.fetch_add(took, Ordering::SeqCst);
+            self.processors.give(rt);
+        }
     }
 
     /// When each query had its last chunk, in microseconds of the watch; 0 for one that had none.
@@ -68,12 +115,11 @@ impl<C: Clock + Drop> TimingGate<C> {
 }
 
 impl<C: Clock + Drop> Gate for TimingGate<C> {
-    fn holding<R: Wait>(&self, _rt: &R, _worker: u32, query: u32, _chunk: u32) {
+    fn holding<R: Wait>(&self, rt: &R, _worker: u32, query: u32, _chunk: u32) {
         let place = (query as usize).wrapping_sub(1);
         if let Some(mark) = self.marks.get(place) {
-            if mark.slow {
-                self.watch.sleep(self.slow_us);
-            }
+            self.watch.sleep(mark.late);
+            self.work(rt, mark.work);
             mark.last.store(self.watch.micros(), Ordering::SeqCst);
         }
     }

@@ -9,8 +9,16 @@ use command_words::{MOST_FRAMES, MOST_GENERATED_ROWS, MOST_WORKERS};
 use std::alloc::{AllocError, Global};
 use table_core::MOST_CHUNK_ROWS;
 
-// What `--policy` may be.
-const NAMES: [&str; 5] = ["all", "relevance", "elevator", "normal", "attach"];
+// What `--policy` may be: a policy, or a plain buffer manager for comparison.
+const NAMES: [&str; 7] = [
+    "all",
+    "relevance",
+    "elevator",
+    "normal",
+    "attach",
+    "in-order",
+    "in-order-attached",
+];
 
 // An option of a name, with what `--help` says of it.
 fn option<'a>(alloc: Global, name: &'a str, help: &'a str) -> Arg<'a> {
@@ -55,12 +63,35 @@ fn with_numbers<'a>(alloc: Global, command: Command<'a>) -> Result<Command<'a>, 
         number(alloc, "get-us", 0, most_us, "Microseconds of a get").default_value("1000"),
         number(
             alloc,
+            "fast-us",
+            0,
+            most_us,
+            "Microseconds of a fast query for each chunk"
+        )
+        .default_value("0"),
+        number(
+            alloc,
             "slow-us",
             0,
             most_us,
             "Microseconds of a slow query for each chunk"
         )
         .default_value("1000"),
+        number(
+            alloc,
+            "processors",
+            1,
+            MOST_WORKERS,
+            "Queries that work on a chunk at once [default: each]"
+        ),
+        number(
+            alloc,
+            "stagger-us",
+            0,
+            most_us,
+            "Microseconds from the begin of one stream to that of the next"
+        )
+        .default_value("0"),
         number(
             alloc,
             "frames",
@@ -82,9 +113,13 @@ fn with_numbers<'a>(alloc: Global, command: Command<'a>) -> Result<Command<'a>, 
 
 /// The command line that the program reads.
 pub(crate) fn command<'a>(alloc: Global) -> Result<Command<'a>, AllocError> {
-    let policy = option(alloc, "policy", "The policy under which the streams run")
-        .value_parser(NAMES.as_slice())
-        .default_value("all");
+    let policy = option(
+        alloc,
+        "policy",
+        "The policy, or the plain buffer manager, under which the streams run",
+    )
+    .value_parser(NAMES.as_slice())
+    .default_value("all");
     let about =
         "Plays streams of range queries over a table whose chunks take their time to be read";
     let command = Command::new(alloc, "scan_streams").about(about);
@@ -93,6 +128,11 @@ pub(crate) fn command<'a>(alloc: Global) -> Result<Command<'a>, AllocError> {
         policy,
         flag(alloc, "whole", "Each query is fast, over the whole table"),
         flag(alloc, "each", "Prints the time of each query"),
+        flag(
+            alloc,
+            "trace",
+            "Prints the chunks of each query, and those that were handed out, in their order"
+        ),
         flag(alloc, "check", "Prints only what every schedule gives"),
     ]?;
     numbers.args(others)
@@ -129,6 +169,10 @@ pub(crate) fn experiment_of(matches: &ArgMatches<'_>) -> Experiment {
         Some(frames) => frames.clamp(1, MOST_FRAMES),
         None => quarter(table_rows.div_ceil(chunk_rows), streams),
     };
+    let processors = match matches.get_one::<u32>("processors") {
+        Some(processors) => processors.clamp(1, MOST_WORKERS),
+        None => MOST_WORKERS,
+    };
     Experiment {
         streams,
         queries: given(matches, "queries", 1, MOST_QUERIES),
@@ -136,7 +180,10 @@ pub(crate) fn experiment_of(matches: &ArgMatches<'_>) -> Experiment {
         table_rows,
         frames,
         get_us: given(matches, "get-us", 0, u32::MAX),
+        fast_us: given(matches, "fast-us", 0, u32::MAX),
         slow_us: given(matches, "slow-us", 0, u32::MAX),
+        processors,
+        stagger_us: given(matches, "stagger-us", 0, u32::MAX),
         kind: matches.get_flag("whole").then_some(Kind::whole()),
         seed: given(matches, "seed", 0, u32::MAX),
     }
