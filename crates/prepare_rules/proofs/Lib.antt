@@ -1,0 +1,6 @@
+pub mod Back
+pub mod Choosing
+pub mod Fields
+pub mod Going
+pub mod Left
+pub mod Worth

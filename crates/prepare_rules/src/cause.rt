@@ -1,0 +1,50 @@
+// Why a record is refused.
+use thiserror::Error;
+
+/// Why a record is refused.
+#[derive(Clone, Copy, Debug, PartialEq, Eq, Error)]
+pub enum Cause {
+    /// There is no record but those that are left out, so there are no names.
+    #[error("no header")]
+    NoHeader,
+    /// No column is the one that the rule on columns names at this place, from 0.
+    #[error("there is no such column")]
+    NoColumn {
+        /// Its place in the rule, from 0.
+        word: usize,
+    },
+    /// No column is the one that the rule on numbers names at this place, from 0.
+    #[error("there is no such column of numbers")]
+    NoNumbers {
+        /// Its place in the rule, from 0.
+        word: usize,
+    },
+    /// No column has the name that the rule on names gives up at this place, from 0.
+    #[error("there is no such name")]
+    NoName {
+        /// Its place in the rule, from 0.
+        word: usize,
+    },
+    /// More columns would be written than a table has.
+    #[error("{columns} columns, where a table has 1 to 16")]
+    Columns {
+        /// How many there are.
+        columns: usize,
+    },
+    /// The record has another number of fields than there are names.
+    #[error("{fields} fields, where {names} are expected")]
+    Fields {
+        /// How many there are.
+        fields: usize,
+        /// How many names there are.
+        names: usize,
+    },
+}
+
+/// The first record that is refused, and why. Those before it are written, whole.
+#[derive(Clone, Copy, Debug, PartialEq, Eq)]
+pub struct Refusal {
+    /// Its number, from 1, among all records of the export, those that are left out and the names among them.
+    pub number: u64,
+    pub cause: Cause,
+}

@@ -1,0 +1,195 @@
+// All records of an export.
+ghost use Rattle.std.specs.Prelude.{◌≡◌, ◌<◌, ◌+◌, ◌^◌, IfOk, Ok, drop, false, option_map, true};
+ghost use Rattle.csv.specs.Records.{fields_of};
+ghost use Rattle.csv.specs.Writing.{text_written};
+ghost use Rattle.prepare_rules.specs.Outcome.{Becomes, Begins, IsPrepared, IsWriting, below, from_first, prepared, under};
+ghost use Rattle.prepare_rules.specs.Records.{IsOver, Takes, TakesEach, records_left};
+
+use crate::cause::{Cause, Refusal};
+use crate::columns::{Plan, picks_of};
+use crate::failure::Failure;
+use crate::names::{counted_names, make_names};
+use crate::records::{next_record, reader_of};
+use crate::row::make_row;
+use crate::rules::Rules;
+use crate::writing::{finish, put};
+use csv::{ByteRecord, Reader, Writer, WriterBuilder};
+use std::alloc::Global;
+use std::io::{Read, Write};
+
+/// The most records below the names.
+const MOST_RECORDS: u64 = 1 << 62;
+
+/// Reads the records of an export and writes what the rules make of them, one by one, to the output, which is given back
+/// with the first record that is refused, if there is one. Memory is bounded by the longest record and the rules.
+///
+/// # Errors
+///
+/// What breaks it off whatever the rules say; the output is dropped then, and how much of it was written is not known.
+pub fn prepare<R: Read + Drop, W: Write + Drop>(
+    alloc: Global,
+    rules: &Rules<'_>,
+    input: R,
+    output: W,
+) -> Result<(W, Option<Refusal>), Failure>
+    ensures { IfOk result (λ p. IsPrepared rules.now (R.remaining input) p.1 (W.contents output) (W.contents p.0)) }
+{
+    let mut reader = reader_of(alloc, rules.delimiter, rules.quote, input);
+    let mut writer = WriterBuilder::new().from_writer(output);
+    let refusal = copy(alloc, rules, &mut reader, &mut writer)?;
+    Ok((finish(writer)?, refusal))
+}
+
+// Copies all records of a reader.
+fn copy<R: Read, W: Write + Drop>(
+    alloc: Global,
+    rules: &Rules<'_>,
+    reader: &mut Reader<R>,
+    writer: &mut Writer<W>,
+) -> Result<Option<Refusal>, Failure>
+    requires each { TakesEach reader.old }
+    requires writing { IsWriting writer.old }
+    ensures { IfOk result (λ refusal. Becomes (prepared rules.now) (records_left R.remaining reader.old) refusal (text_written W.contents writer.old) (text_written W.contents writer.new)) }
+{
+    let mut row = ByteRecord::new(alloc);
+    if !first_kept(rules.skip, reader, &mut row)? {
+        return Ok(Some(refused(rules.skip, Cause::NoHeader)));
+    }
+    if rules.has_names {
+        return copy_under(alloc, rules, &row, reader, writer);
+    }
+    copy_from(alloc, rules, &row, reader, writer)
+}
+
+// Puts the first record that isn't left out into `row`, and says whether there is one.
+fn first_kept<R: Read>(
+    skip: u32,
+    reader: &mut Reader<R>,
+    row: &mut ByteRecord,
+) -> Result<bool, Failure>
+    requires { TakesEach reader.old }
+    ensures each { result ≡ Ok true → TakesEach reader.new }
+    ensures found { result ≡ Ok true → Takes (option_map (drop skip) (records_left R.remaining reader.old)) (fields_of row.new) (records_left R.remaining reader.new) }
+    ensures ended { result ≡ Ok false → IsOver (option_map (drop skip) (records_left R.remaining reader.old)) }
+{
+    for _done in 0..skip {
+        if !next_record(reader, row)? {
+            return Ok(false);
+        }
+    }
+    next_record(reader, row)
+}
+
+// The refusal of the first record that isn't left out.
+fn refused(skip: u32, cause: Cause) -> Refusal
+    ensures { result ≡ record { number = skip + 1; cause = cause } }
+{
+    Refusal {
+        number: skip as u64 + 1,
+        cause,
+    }
+}
+
+// Copies the records below the one that holds the names.
+fn copy_under<R: Read, W: Write + Drop>(
+    alloc: Global,
+    rules: &Rules<'_>,
+    names: &ByteRecord,
+    reader: &mut Reader<R>,
+    writer: &mut Writer<W>,
+) -> Result<Option<Refusal>, Failure>
+    requires each { TakesEach reader.old }
+    requires writing { IsWriting writer.old }
+    ensures { IfOk result (λ refusal. Becomes (under rules.now (fields_of names.now) (rules.now.skip + 2)) (records_left R.remaining reader.old) refusal (text_written W.contents writer.old) (text_written W.contents writer.new)) }
+{
+    match begin(alloc, rules, names, writer)? {
+        Ok(plan) => {
+            let first = rules.skip as u64 + 2;
+            return copy_below(alloc, rules, &plan, first, reader, writer);
+        }
+        Err(cause) => return Ok(Some(refused(rules.skip, cause))),
+    }
+}
+
+// Copies this record and those behind it below names by their numbers.
+fn copy_from<R: Read, W: Write + Drop>(
+    alloc: Global,
+    rules: &Rules<'_>,
+    row: &ByteRecord,
+    reader: &mut Reader<R>,
+    writer: &mut Writer<W>,
+) -> Result<Option<Refusal>, Failure>
+    requires each { TakesEach reader.old }
+    requires writing { IsWriting writer.old }
+    ensures { IfOk result (λ refusal. Becomes (from_first rules.now (fields_of row.now)) (records_left R.remaining reader.old) refusal (text_written W.contents writer.old) (text_written W.contents writer.new)) }
+{
+    let names = counted_names(alloc, row.len())?;
+    let plan = match begin(alloc, rules, &names, writer)? {
+        Ok(plan) => plan,
+        Err(cause) => return Ok(Some(refused(rules.skip, cause))),
+    };
+    let mut text = Vec::new(alloc);
+    let mut made = ByteRecord::new(alloc);
+    if let Some(cause) = make_row(rules, &plan, row, &mut text, &mut made)? {
+        return Ok(Some(refused(rules.skip, cause)));
+    }
+    put(writer, &made)?;
+    let first = rules.skip as u64 + 2;
+    copy_below(alloc, rules, &plan, first, reader, writer)
+}
+
+// Writes the names of the columns that are written, and gives those; or why there are none.
+fn begin<W: Write + Drop>(
+    alloc: Global,
+    rules: &Rules<'_>,
+    names: &ByteRecord,
+    writer: &mut Writer<W>,
+) -> Result<Result<Plan, Cause>, Failure>
+    requires { IsWriting writer.old }
+    ensures writing { IfOk result (λ begun. IsWriting writer.new) }
+    ensures begun { IfOk result (λ begun. Begins rules.now (fields_of names.now) begun (text_written W.contents writer.old) (text_written W.contents writer.new)) }
+{
+    let picks = match picks_of(alloc, rules, names)? {
+        Ok(picks) => picks,
+        Err(cause) => return Ok(Err(cause)),
+    };
+    let mut made = ByteRecord::new(alloc);
+    make_names(rules, names, picks.as_slice(), &mut made)?;
+    put(writer, &made)?;
+    Ok(Ok(Plan {
+        names: names.len(),
+        picks,
+    }))
+}
+
+// Copies the records that are left, of which the first has this number.
+fn copy_below<R: Read, W: Write + Drop>(
+    alloc: Global,
+    rules: &Rules<'_>,
+    plan: &Plan,
+    first: u64,
+    reader: &mut Reader<R>,
+    writer: &mut Writer<W>,
+) -> Result<Option<Refusal>, Failure>
+    requires low { first < 2 ^ 63 }
+    requires each { TakesEach reader.old }
+    requires writing { IsWriting writer.old }
+    ensures { IfOk result (λ refusal. Becomes (below rules.now plan.now.names plan.now.picks.items first) (records_left R.remaining reader.old) refusal (text_written W.contents writer.old) (text_written W.contents writer.new)) }
+{
+    let mut row = ByteRecord::new(alloc);
+    let mut text = Vec::new(alloc);
+    let mut made = ByteRecord::new(alloc);
+    for done in 0..MOST_RECORDS {
+        if !next_record(reader, &mut row)? {
+            return Ok(None);
+        }
+        if let Some(cause) = make_row(rules, plan, &row, &mut text, &mut made)? {
+            return Ok(Some(Refusal {
+                number: first + done,
+                cause,
+            }));
+        }
+        put(writer, &made)?;
+    }
+    Err(Failure::TooLong)
+}

@@ -1,0 +1,195 @@
+// Exports, the rules for them, and what they become.
+use prepare_rules::{Cause, Column, Failure, Mark, Refusal, Rename, Rules, prepare};
+use std::alloc::Global;
+use std::process::Abort;
+
+/// Commas and double quotes, names first, and nothing else.
+pub(crate) const PLAIN: Rules<'static> = Rules {
+    delimiter: b',',
+    quote: b'"',
+    skip: 0,
+    has_names: true,
+    columns: &[],
+    renames: &[],
+    numbers: &[],
+    missing: &[],
+    mark: Mark::Point,
+    parts: None,
+    trims: false,
+    pads: false,
+};
+
+// The text that becomes of an export, and the refusal that ends it.
+fn prepared(
+    alloc: Global,
+    rules: &Rules<'_>,
+    export: &[u8],
+) -> Result<(Vec<u8>, Option<Refusal>), Failure> {
+    prepare(alloc, rules, export, Vec::new(alloc))
+}
+
+fn becomes(alloc: Global, rules: &Rules<'_>, export: &[u8], text: &[u8]) -> bool {
+    match prepared(alloc, rules, export) {
+        Ok((made, refusal)) => made.as_slice() == text && refusal.is_none(),
+        Err(_) => false,
+    }
+}
+
+// Whether this text is written, and then this record refused.
+fn ends(
+    alloc: Global,
+    rules: &Rules<'_>,
+    export: &[u8],
+    text: &[u8],
+    number: u64,
+    cause: Cause,
+) -> bool {
+    match prepared(alloc, rules, export) {
+        Ok((made, refusal)) => {
+            made.as_slice() == text && refusal == Some(Refusal { number, cause })
+        }
+        Err(_) => false,
+    }
+}
+
+fn expect(rt: &impl Abort, alloc: Global, rules: &Rules<'_>, export: &[u8], text: &[u8]) {
+    assert!(rt; becomes(alloc, rules, export, text));
+}
+
+#[test]
+fn marks_and_titles(rt: HostRuntime) {
+    let rules = Rules {
+        delimiter: b';',
+        quote: b'\'',
+        skip: 2,
+        ..PLAIN
+    };
+    let export = b"Orders\nof \"2026\"\n\nday;'pay; net'\r\n5;'it''s'\n6;\"x\",y";
+    let text = b"day,pay; net\n5,it's\n6,\"\"\"x\"\",y\"\n";
+    expect(&rt, rt.alloc(), &rules, export, text);
+}
+
+#[test]
+fn names_by_numbers(rt: HostRuntime) {
+    let rules = Rules {
+        has_names: false,
+        columns: &[Column::Named("c3"), Column::Placed(1)],
+        renames: &[Rename {
+            from: "c1",
+            to: "id, old",
+        }],
+        ..PLAIN
+    };
+    expect(
+        &rt,
+        rt.alloc(),
+        &rules,
+        b"\xEF\xBB\xBF7,a,x\n8,b,\"y\nz\"\n",
+        b"c3,\"id, old\"\nx,7\n\"y\nz\",8\n",
+    );
+}
+
+#[test]
+fn missing_values_of_numbers(rt: HostRuntime) {
+    let rules = Rules {
+        numbers: &[Column::Placed(2)],
+        missing: &["NA", "-"],
+        trims: true,
+        ..PLAIN
+    };
+    expect(
+        &rt,
+        rt.alloc(),
+        &rules,
+        b"land,pay\nNA , NA\n\t-,-\nNANA,xNA\n",
+        b"land,pay\nNA,\n-,\nNANA,xNA\n",
+    );
+}
+
+#[test]
+fn numbers_of_another_country(rt: HostRuntime) {
+    let rules = Rules {
+        delimiter: b';',
+        numbers: &[Column::Named("pay")],
+        mark: Mark::Comma,
+        parts: Some(b'.'),
+        ..PLAIN
+    };
+    expect(
+        &rt,
+        rt.alloc(),
+        &rules,
+        b"note;pay\n1.234,5;1.234.567,50\nx;-0,5\n;12\n;1234,5\n;1.5\n;12.34\n;1,2,3\n;1,\n;-\n;+4,5\n;1.234.56\n",
+        b"note,pay\n\"1.234,5\",1234567.50\nx,-0.5\n,12\n,1234.5\n,1.5\n,12.34\n,\"1,2,3\"\n,\"1,\"\n,-\n,\"+4,5\"\n,1.234.56\n",
+    );
+}
+
+#[test]
+fn short_records(rt: HostRuntime) {
+    let export = b"a,b,c\n1,2,3\n4\n5,6,7,8\n";
+    let pads = Rules {
+        pads: true,
+        ..PLAIN
+    };
+    let four = Cause::Fields {
+        fields: 4,
+        names: 3,
+    };
+    let one = Cause::Fields {
+        fields: 1,
+        names: 3,
+    };
+    assert!(rt; ends(rt.alloc(), &pads, export, b"a,b,c\n1,2,3\n4,,\n", 4, four));
+    assert!(rt; ends(rt.alloc(), &PLAIN, export, b"a,b,c\n1,2,3\n", 3, one));
+}
+
+#[test]
+fn nothing_to_write(rt: HostRuntime) {
+    let alloc = rt.alloc();
+    let skips = Rules { skip: 3, ..PLAIN };
+    assert!(rt; ends(alloc, &skips, b"a\nb\nc\n", b"", 4, Cause::NoHeader));
+    let lacks = Rules {
+        columns: &[Column::Named("a"), Column::Placed(2)],
+        ..PLAIN
+    };
+    assert!(rt;
+        ends(
+            alloc,
+            &lacks,
+            b"a\n1\n",
+            b"",
+            1,
+            Cause::NoColumn { word: 1 }
+        )
+    );
+    let numbers = Rules {
+        numbers: &[Column::Named("A")],
+        ..PLAIN
+    };
+    assert!(rt;
+        ends(
+            alloc,
+            &numbers,
+            b"a\n1\n",
+            b"",
+            1,
+            Cause::NoNumbers { word: 0 }
+        )
+    );
+    let renames = Rules {
+        renames: &[Rename { from: "b", to: "c" }],
+        ..PLAIN
+    };
+    assert!(rt;
+        ends(
+            alloc,
+            &renames,
+            b"a\n1\n",
+            b"",
+            1,
+            Cause::NoName { word: 0 }
+        )
+    );
+    let wide = b"1,2,3,4,5,6,7,8,9,10,11,12,13,14,15,16,17\n";
+    assert!(rt; ends(alloc, &PLAIN, wide, b"", 1, Cause::Columns { columns: 17 }));
+}
