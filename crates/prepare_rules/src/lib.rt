@@ -6,7 +6,7 @@ mod cause;
 mod columns;
 mod failure;
 mod field;
-mod kept_records;
+mod laws;
 mod names;
 mod number;
 mod preparing;
@@ -18,6 +18,6 @@ mod writing;
 
 pub use cause::{Cause, Refusal};
 pub use failure::Failure;
-pub use kept_records::{numbers_keep_their_value, written_records_are_read_back};
+pub use laws::{numbers_keep_their_value, written_records_are_read_back};
 pub use preparing::prepare;
 pub use rules::{Column, Mark, Rename, Rules};
