@@ -1,9 +1,11 @@
 -- What a query is answered.
-use Rattle.std.specs.Prelude.{◌≡◌, ℕ, Bool, true, false, List, All, Some, None, MatchOption}
+use Rattle.std.specs.Prelude.{◌≡◌, ◌⊎◌, ◌+◌, ℕ, ℤ, Bool, true, false, List, [], ◌∷◌, All, Some, None, MatchOption}
 use Rattle.table_core.specs.declared.cell.Cell.{Cell}
 use Rattle.table_core.specs.Answer.{AreCellsOf}
 use Rattle.query_meaning.specs.Cells.{codes}
-use Rattle.query_meaning.specs.Meaning.{meaning, overflow}
+use Rattle.query_meaning.specs.Meaning.{fits, meaning, overflow}
+use Rattle.query_meaning.specs.declared.item.Item.{Item}
+use Rattle.query_meaning.specs.declared.item.Item.TheVariants as items
 use Rattle.query_meaning.specs.GroupText as groups_text
 use Rattle.query_meaning.specs.RowText as rows_text
 use Rattle.query_meaning.specs.Rows.{Numbered, rows_meaning}
@@ -28,11 +30,23 @@ IsAnswer p table (Picked r) = MatchOption p.rows ⊥ (λ q. r ≡ plan_rows p q 
 IsAnswer p table (Overflow item total) = (p.rows ≡ None) × (plan_overflow p table ≡ Some (item, total))
 IsAnswer p table (Stopped why) = Unit {0}
 
--- each cell of the answer can be read in the dictionary of its column
+-- the item of this number is a sum; the first item has the number n
+abbrev pub IsSumOf : ℕ → List Item → ℕ → Type 0
+IsSumOf n [] item = ⊥
+IsSumOf n (items.Sum x ∷ rest) item = (item ≡ n) ⊎ IsSumOf (n + 1) rest item
+IsSumOf n (i ∷ rest) item = IsSumOf (n + 1) rest item
+
+-- A SUM WITHOUT AN ANSWER: a sum of the plan, its items counted from 1, whose total is no whole number of 64 bits
+pub record IsLostSum (p : Plan) (item : ℕ) (total : ℤ) : Type 0 where
+  pub grouped : p.rows ≡ None
+  pub sum : IsSumOf 1 p.items.items item
+  pub beyond : fits total ≡ false
+
+-- each cell of the answer can be read in the dictionary of its column; a sum without an answer is one of the plan, and doesn't fit
 abbrev pub CanBeWritten : List (List (List ℕ)) → Plan → Answer → Type 0
 CanBeWritten dicts p (Rows r) = (p.rows ≡ None) × All (AreCellsOf (groups_text.columns_of p.keys.items p.items.items) dicts) r
 CanBeWritten dicts p (Picked r) = MatchOption p.rows ⊥ (λ q. All (AreCellsOf (rows_text.columns_of q.columns) dicts) r)
-CanBeWritten dicts p (Overflow item total) = p.rows ≡ None
+CanBeWritten dicts p (Overflow item total) = IsLostSum p item total
 CanBeWritten dicts p (Stopped why) = Unit {0}
 
 abbrev pub is_stopped : Answer → Bool

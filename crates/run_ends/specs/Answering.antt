@@ -4,7 +4,7 @@ use Rattle.std.specs.List.{AllZip}
 use Rattle.csv_load.specs.Judged.{Fields}
 use Rattle.table_core.specs.declared.schema.Column.{Column}
 use Rattle.scan_story.specs.declared.entry.Entry.{Entry}
-use Rattle.query_gather.specs.Answer.{CanBeWritten, IsAnswer}
+use Rattle.query_gather.specs.Answer.{IsAnswer}
 use Rattle.query_gather.specs.declared.answer.Answer.{Answer}
 use Rattle.run_inputs.specs.declared.inputs.Inputs.{Inputs}
 use Rattle.batch_ends.specs.Lost.{Tells}
@@ -31,11 +31,10 @@ abbrev pub IsUnanswered : Inputs → Work → Stop → Type 0
 IsUnanswered i w s = ((s ≡ stop.Memory) × IsIdle w) ⊎ IsNotStored i w s
 
 -- a batch was answered: with the answers stand its statements, the columns of its table and their dictionaries; where the depot tells
--- what it holds each answer is the one over the whole table, and over every depot its rows can be written
+-- what it holds each answer is the one over the whole table
 pub record IsAnswered (i : Inputs) (w : Work) (outcomes : List Outcome) (answers : List Answer) (columns : List Column) (dicts : List Fields) : Type 0 where
   pub outcomes_are : outcomes ≡ i.outcomes.items
   pub columns_are : columns ≡ i.loaded.table.columns
   pub dicts_are : dicts ≡ i.loaded.dicts.items
   pub are : AreAnswers i w answers
   pub right : Tells w.old.held → AllZip (λ p a. IsAnswer p i.loaded.table.rows a) (plans_of i.outcomes.items) answers
-  pub written : AllZip (CanBeWritten i.loaded.dicts.items) (plans_of i.outcomes.items) answers

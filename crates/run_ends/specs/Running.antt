@@ -15,6 +15,7 @@ use Rattle.scan_story.specs.declared.setting.Setting.{Setting}
 use Rattle.scan_story.specs.Setting.{HasRoom}
 use Rattle.scan_story.specs.Views.{past}
 use Rattle.story_laws.specs.Queries.{chunks_delivered}
+use Rattle.query_gather.specs.Answer.{CanBeWritten}
 use Rattle.query_gather.specs.declared.answer.Answer.{Answer}
 use Rattle.run_stops.specs.declared.stop.Stop.{Stop}
 use Rattle.run_stops.specs.declared.stop.Stop.TheVariants as stop
@@ -103,11 +104,13 @@ pub record IsWorked (i : Inputs) (w : Work) : Type 0 where
   -- the table's pieces are put, and stay
   pub stored : ArePut (shape_in i) i.loaded.table.rows (pieces (shape_in i)) (pieces (shape_in i)) w.old.held w.new.held
 
--- THE ANSWERS of a batch: each is the one to its query over the whole table, or tells why its query was stopped
+-- THE ANSWERS of a batch: each is the one to its query over the whole table, or tells why its query was stopped; over every depot its
+-- rows can be written, and a sum that is told to have no number of 64 bits is one of its query, whose total has none
 pub record AreAnswers (i : Inputs) (w : Work) (answers : List Answer) : Type 0 where
   pub each : length answers ≡ length (plans_of i.outcomes.items)
   pub worked : IsWorked i w
   pub lost : AreLostBy (past w.story) i.options.parts 1 i.outcomes.items (losses i.outcomes.items answers)
+  pub written : AllZip (CanBeWritten i.loaded.dicts.items) (plans_of i.outcomes.items) answers
 
 -- what is printed of answers
 abbrev pub text_of : Inputs → Work → List Answer → Text

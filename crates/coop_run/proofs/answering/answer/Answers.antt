@@ -52,7 +52,7 @@ returns-clause-answered g c =
         lost = lost_by (past end.ran.story.items) (zones_in i) i.options.workers i.options.parts os
             (λ q none. only_asked (setting_in i (g.P.Policy.name c.args.policy) (g.P.Policy.cursor c.args.policy)) (past end.ran.story.items) q (rw tasks at told.story).whole.legal none)
             end.answers.items (rw tasks at told.lost);
+        written = written;
       };
       right = λ tells. each-answer (λ p a. IsAnswer p i.loaded.table.rows a) 1 os end.answers.items (rw tasks at (told.answers tells));
-      written = written;
     }
