@@ -380,7 +380,7 @@ each_goes_on s h m room legal w lt = by_hold (held_by h w) refl
 
 -- Where each worker is done, the history is whole
 
-abbrev AllDone : Setting → History → ℕ → Type 0
+abbrev pub AllDone : Setting → History → ℕ → Type 0
 AllDone s h k = (w : ℕ) → w < k → IsDone s h w
 
 on_of : (s : Setting) (h : History) (w : ℕ) → MayGoOn s h w → GoesOn s h
@@ -421,7 +421,7 @@ once_each s (Release w r c ∷ h) q legal e = once_each s h q legal.2 e
 once_each s (Stop w r ∷ h) q legal e = once_each s h q legal.2 e
 once_each s (End w r ∷ h) q legal e = once_each s h q legal.2 e
 
-whole : (s : Setting) (h : History) → IsSetting s → HasRoom s → Legal s h → AllDone s h s.workers → IsWhole s h
+pub whole : (s : Setting) (h : History) → IsSetting s → HasRoom s → Legal s h → AllDone s h s.workers → IsWhole s h
 whole s h m room legal all = record {
   registered = once s.needs m.needs (λ w lt. (all w lt).over);
   finished = ended s.needs m.needs (λ w lt. (all w lt).over);

@@ -24,6 +24,8 @@ mod machine;
 #[cfg(test)]
 mod met;
 #[cfg(test)]
+mod ordering;
+#[cfg(test)]
 mod query;
 #[cfg(test)]
 mod ringing;

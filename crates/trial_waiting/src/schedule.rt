@@ -25,6 +25,8 @@ pub(crate) enum Outcome {
     GoesOn,
     // Somebody sleeps whom nobody would wake.
     Unseen,
+    // A worker made a step out of order.
+    OutOfOrder,
 }
 
 // The order in which workers go on: one goes on, and then another is drawn.
@@ -91,6 +93,24 @@ impl Schedule {
             if is_watched && !self.machine.all_are_seen() {
                 return Outcome::Unseen;
             }
+        }
+        Outcome::GoesOn
+    }
+
+    // Plays it to its end, or up to a step that is out of order.
+    pub(crate) fn play_in_order(&mut self) -> Outcome {
+        let mut worker = 0;
+        for _ in 0..MOST {
+            let Some(next) = self.next(worker) else {
+                return self.outcome();
+            };
+            worker = next;
+            let before = self.machine;
+            self.machine.step(worker, &mut self.draws);
+            if !before.is_in_order(before.worker(worker), self.machine.worker(worker)) {
+                return Outcome::OutOfOrder;
+            }
+            self.wake_early();
         }
         Outcome::GoesOn
     }

@@ -128,3 +128,37 @@ fn wrong_bodies_let_a_worker_sleep_unseen(rt: HostRuntime) {
         assert!(rt; unseen > 0, "{body:?}");
     }
 }
+
+// How many of so many schedules of three workers make a step out of order.
+fn count_out_of_order(body: Body, seeds: u64) -> u64 {
+    let mut count: u64 = 0;
+    for seed in 0..seeds {
+        let mut schedule = Schedule::new(seed, 3, body);
+        if schedule.play_in_order() == Outcome::OutOfOrder {
+            count = count.saturating_add(1);
+        }
+    }
+    count
+}
+
+#[test]
+fn steps_come_in_order(rt: HostRuntime) {
+    assert_eq!(rt; count_out_of_order(Body::Code, 5_000), 0);
+}
+
+#[test]
+fn wrong_bodies_make_steps_out_of_order(rt: HostRuntime) {
+    for body in [
+        Body::AddsFirst,
+        Body::ReadsCallsLate,
+        Body::NeverCalls,
+        Body::TakesOneAway,
+        Body::NotesFirst,
+        Body::ReadsRingsLate,
+        Body::KeepsDesk,
+        Body::NeverLoads,
+    ] {
+        let wrong = count_out_of_order(body, 20);
+        assert!(rt; wrong > 0, "{body:?}");
+    }
+}

@@ -21,7 +21,7 @@ use Rattle.waiting_core.proofs.Puts.{at_put, off_put, put_keep}
 
 -- How a worker rests, by its task
 
-abbrev fits : Task → bell.Rest → Bool
+abbrev pub fits : Task → bell.Rest → Bool
 fits x bell.Rest.Up = true
 fits LiesDown (bell.Rest.Reads n) = true
 fits Rests (bell.Rest.Lies n) = true
@@ -34,17 +34,17 @@ plain Rests = false
 plain _ = true
 
 -- a ring for v itself
-abbrev is_own_ring : ℕ → bell.Ring → Bool
+abbrev pub is_own_ring : ℕ → bell.Ring → Bool
 is_own_ring v Idle = true
 is_own_ring v (Rings u) = false
 is_own_ring v (Cleared u) = u == v
 is_own_ring v (Counted u m) = u == v
 is_own_ring v (bell.Ring.Raised u) = u == v
 
-record Ordered (k : ℕ) (s : Whole) : Type 0 where
-  rest : (v : ℕ) → fits (s.task v) (s.bell.rest v) ≡ true
-  due : (v u : ℕ) → s.due v u ≡ true → u < k
-  own : (v : ℕ) → rises (s.task v) ≡ true → is_own_ring v (s.bell.ring v) ≡ true
+pub record Ordered (k : ℕ) (s : Whole) : Type 0 where
+  pub rest : (v : ℕ) → fits (s.task v) (s.bell.rest v) ≡ true
+  pub due : (v u : ℕ) → s.due v u ≡ true → u < k
+  pub own : (v : ℕ) → rises (s.task v) ≡ true → is_own_ring v (s.bell.ring v) ≡ true
 
 only_up : (x z : Task) (y : bell.Rest) → plain x ≡ true → fits x y ≡ true → fits z y ≡ true
 only_up x z bell.Rest.Up p e = refl
@@ -146,7 +146,7 @@ module _ (k w : ℕ) (r : Whole) (i : Ordered k r) where
   less_due : (j : ℕ) (v u : ℕ) → made_due r w j false v u ≡ true → u < k
   less_due j v u e = i.due v u (put_keep (λ (d : ℕ → Bool). d u) true r.due w (put (r.due w) j false) v (put_keep (λ b. b) true (r.due w) j false u (λ f. absurd (not_both false f refl))) e)
 
-ordered : (k w : ℕ) (d : Does) (r t : Whole) → Step k w d r t → Ordered k r → Ordered k t
+pub ordered : (k w : ℕ) (d : Does) (r t : Whole) → Step k w d r t → Ordered k r → Ordered k t
 ordered k w (InLobby d) r t s i = subst (Ordered k) (sym (s.3)) (record { rest = i.rest; due = i.due; own = i.own })
 ordered k w Registers r t s i = subst (Ordered k) (sym (s.3)) (goes k w r i Works r.due (put r.active w true) (put r.has_chunk w s.0) (ap plain s.2) refl i.due)
 ordered k w Decides r t s i = subst (Ordered k) (sym (s.4)) (goes k w r i LiesDown r.due r.active r.has_chunk (ap plain s.1) refl i.due)
@@ -199,7 +199,7 @@ ordered k w WakesNobody r t s i = subst (Ordered k) (sym (s.4 ∙ ap (λ (b : be
 ordered k w HasRung r t s i = subst (Ordered k) (sym (s.5)) (goes k w r i (goes_on s.0) r.due r.active r.has_chunk (ap plain s.1) (goes_up s.0) i.due)
 ordered k w CallsNext r t s i = subst (Ordered k) (sym (s.2)) (goes k w r i Turns r.due r.active r.has_chunk (ap plain s.1) refl i.due)
 
-ordered_at : (k : ℕ) (at : ℕ → Whole) → IsRun k at → (n : ℕ) → Ordered k (at n)
+pub ordered_at : (k : ℕ) (at : ℕ → Whole) → IsRun k at → (n : ℕ) → Ordered k (at n)
 ordered_at k at run zero = subst (Ordered k) (sym run.begins) (record { rest = λ v. refl; due = λ v u e. absurd (not_both false e refl); own = λ v e. absurd (not_both false e refl) })
 ordered_at k at run (suc n) = let next : n + 1 ≡ suc n = omega arith in subst (λ m. Ordered k (at m)) next (by (ordered_at k at run n) (run.steps n))
   where

@@ -26,7 +26,7 @@ use Rattle.waiting_core.proofs.Puts.{put_keep}
 -- Each part, at each step
 
 -- whose task isn't to ring is at no ring
-no_ring_yet : (k : ℕ) (r : Whole) (w : ℕ) → IsSound k r w → may_ring (r.task w) ≡ false → r.bell.ring w ≡ Idle
+pub no_ring_yet : (k : ℕ) (r : Whole) (w : ℕ) → IsSound k r w → may_ring (r.task w) ≡ false → r.bell.ring w ≡ Idle
 no_ring_yet k r w i e = by (r.bell.ring w) refl
   where
     busy : (g : bell.Ring) → r.bell.ring w ≡ g → is_idle g ≡ false → ⊥
@@ -240,7 +240,7 @@ turned_with k w CallsNext r t lt s i = subst (Turned k) (sym s.2)
 
 -- Each time
 
-step_keeps : (k w : ℕ) (d : Does) (r t : Whole) → w < k → Step k w d r t → Kept k r → Kept k t
+pub step_keeps : (k w : ℕ) (d : Does) (r t : Whole) → w < k → Step k w d r t → Kept k r → Kept k t
 step_keeps k w d r t lt s i = record {
   lobby = lobby_with k w d r t lt s i.lobby;
   bell = bell_with k w d r t i.sound s i.bell;
