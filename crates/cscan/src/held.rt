@@ -9,7 +9,7 @@ ghost use Rattle.frame_rows.specs.Rows.{FitColumns, HasCellsOf, OthersAreNull};
 ghost use Rattle.cscan.specs.Scans.{IsSameScan, IsScan, ReadsColumns, reads_column};
 ghost use Rattle.frame_rows.specs.Tables.{HoldsTable};
 
-use crate::desk::take_desk;
+use crate::releasing::note_release;
 use crate::scan::CScan;
 use crate::slots::place_of;
 use coop_outside::Depot;
@@ -165,11 +165,8 @@ impl Held {
         let pool = scan.pool;
         let baton = scan.baton;
         let query = scan.query;
-        let number = scan.station.number;
         unpin_all(pool, &mut scan.station.berth, &given.slots);
-        let mut desk = take_desk(rt, baton, &mut scan.station.pass);
-        desk.release(number, query, given.chunk);
-        baton.give(rt, &mut scan.station.pass, desk);
+        note_release(rt, baton, scan.station, query, &given);
         scan.out = None;
     }
 }

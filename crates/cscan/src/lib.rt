@@ -21,6 +21,7 @@ mod held;
 mod loading;
 mod next;
 mod pausing;
+mod releasing;
 mod rounds;
 mod scan;
 mod slots;
