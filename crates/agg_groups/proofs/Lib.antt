@@ -12,3 +12,5 @@ pub mod Grown
 pub mod Refusals
 pub mod Writing
 pub mod Placing
+pub mod Stepping
+pub mod Next

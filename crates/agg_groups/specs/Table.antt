@@ -9,7 +9,8 @@ use Rattle.query_meaning.specs.declared.item.Item.{Item}
 use Rattle.agg_groups.specs.declared.running.Running.{Running}
 use Rattle.query_meaning.specs.Cells.{codes}
 use Rattle.query_meaning.specs.Meaning.{same_key, key_cmp, key_of, first_some}
-use Rattle.agg_groups.specs.Running.{runnings, joins, HasRoom, all_shown, over_shown, FitsCell}
+use Rattle.agg_groups.specs.declared.running.Running.TheVariants as running
+use Rattle.agg_groups.specs.Running.{running_of, runnings, joins, HasRoom, all_shown, over_shown, FitsCell}
 use Rattle.agg_groups.specs.declared.met.Met.{Met}
 use Rattle.row_blocks.specs.Blocks.{BlockView, row_at}
 use Rattle.agg_groups.specs.Blocks.{chosen_in}
@@ -155,6 +156,24 @@ PicksPlace b word places p f = (i : ℕ) → i < b.count → bit_at word i ≡ 1
 abbrev pub AddsRows : List Item → BlockView → ℕ → List ℕ → List (List Running) → List (List Running) → Type 0
 AddsRows items b word places old new = (p : ℕ) (f : List Cell → Bool) (rows : List (List Cell)) → p < length old → PicksPlace b word places p f
     → values_at old p ≡ runnings items rows → values_at new p ≡ runnings items (rows ++ filter f (chosen_in b word))
+
+-- the value of the item with the number k at a place
+abbrev pub value_at : List (List Running) → ℕ → ℕ → Running
+value_at vs p k = slice_index_or (values_at vs p) k running.Nothing
+
+-- each place has a value of the item with the number k, over at most n rows
+pub record HasItem (n k : ℕ) (vs : List (List Running)) : Type 0 where
+  pub there : (p : ℕ) → p < length vs → k < length (values_at vs p)
+  pub room : (p : ℕ) → p < length vs → HasRoom n (value_at vs p k)
+
+-- the values of an item, the one with the number k, over the rows of each place, with those of these rows that have that place, over at most n rows; all other values stay
+pub record AddsItem (item : Item) (k n : ℕ) (b : BlockView) (word : ℕ) (places : List ℕ) (more : List (List Cell)) (old new : List (List Running)) : Type 0 where
+  pub long : length new ≡ length old
+  pub same : (p : ℕ) → length (values_at new p) ≡ length (values_at old p)
+  pub others : (p j : ℕ) → (j ≡ k → ⊥) → value_at new p j ≡ value_at old p j
+  pub room : (p : ℕ) → p < length old → HasRoom n (value_at new p k)
+  pub added : (p : ℕ) (f : List Cell → Bool) (rows : List (List Cell)) → p < length old → PicksPlace b word places p f
+      → value_at old p k ≡ running_of rows item → value_at new p k ≡ running_of (rows ++ filter f more) item
 
 -- the places below n
 abbrev pub first_places : ℕ → List (List Cell × ℕ) → List (List Cell × ℕ)

@@ -1,17 +1,18 @@
 // The places of the rows of a block.
 ghost use Rattle.std.specs.Prelude.{◌≡◌, ◌<◌, length, map, None, All, OnErr, OnOk, IfOk};
 ghost use Rattle.row_blocks.specs.Blocks.{row_at};
-ghost use Rattle.agg_groups.specs.Blocks.{chosen_in};
+ghost use Rattle.agg_groups.specs.Blocks.{AreInBlock, chosen_in};
 ghost use Rattle.query_meaning.specs.Cells.{codes};
 ghost use Rattle.query_meaning.specs.Meaning.{cell, key_of};
 ghost use Rattle.agg_groups.specs.Table.{AreFound, HasGrown, HasNamed, IsPlaceFor, IsReady, KnowsRows, StaySound, place_at, seen};
 
+use crate::chosen::next_chosen;
 use crate::lanes::cell_in;
 use crate::met::{known, pair_of, remember};
 use crate::place::Last;
 use crate::table::GroupTable;
 use query_meaning::Item;
-use row_blocks::{Block, is_chosen};
+use row_blocks::Block;
 use table_core::{Cell, Memory};
 
 // Writes the key of a row of a block, in place.
@@ -95,6 +96,7 @@ fn find_all(
     requires ready { IsReady (length keys.now) last.old.key.items last.old.place last.old.met.items table.old }
     requires in_row { All (λ x. x < block.now.width) keys.now }
     requires long { length places.old ≡ 64 }
+    requires below { AreInBlock block.now.count word }
     ensures found { OnOk result (AreFound keys.now block.now word places.new table.new) }
     ensures named { OnOk result (HasNamed table.old.places (map (key_of codes keys.now) (chosen_in block.now word))
         table.new.places) }
@@ -104,12 +106,11 @@ fn find_all(
     ensures sound { StaySound (length items.now) table.old.values table.new.values }
     ensures long { length places.new ≡ 64 }
 {
-    for row in 0..block.len() {
-        if !is_chosen(word, row) {
-            continue;
-        }
+    let mut from = 0;
+    while let Some(row) = next_chosen(word, from) {
         let place = place_of(table, last, items, keys, block, row)?;
         places[row as usize] = place;
+        from = row + 1;
     }
     Ok(())
 }
@@ -130,6 +131,7 @@ pub(crate) fn places_in_block(
     requires ready { IsReady (length keys.now) last.old.key.items last.old.place last.old.met.items table.old }
     requires in_row { All (λ x. x < block.now.width) keys.now }
     requires long { length places.old ≡ 64 }
+    requires below { AreInBlock block.now.count word }
     ensures found { OnOk result (AreFound keys.now block.now word places.new table.new) }
     ensures named { OnOk result (HasNamed table.old.places (map (key_of codes keys.now) (chosen_in block.now word))
         table.new.places) }

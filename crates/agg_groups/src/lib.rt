@@ -6,6 +6,7 @@
 //!     let rows = groups.finish()?;                      // by rising keys; or the first sum that overflows
 #![tactic(auto)]
 
+mod chosen;
 mod finding;
 mod groups;
 mod lanes;

@@ -9,8 +9,8 @@ use crate::table::GroupTable;
 use query_meaning::Item;
 use table_core::{Cell, Memory};
 
-/// The group that the last row belongs to: its key, as long as the key columns, and its place if that is known. And keys
-/// that were met lately in blocks.
+/// The group that the last row belongs to: its key, as long as the key columns, and its place if that is known. And
+/// keys that were met lately in blocks.
 #[derive(Drop)]
 pub(crate) struct Last {
     pub(crate) key: Vec<Cell>,

@@ -6,7 +6,8 @@ ghost use Rattle.table_core.specs.Lists.{lists};
 use std::marker::Model;
 use table_core::{Cell, Memory};
 
-/// The result rows of a query, seen as their list: those of a groups query in key order, those of a rows query in its order.
+/// The result rows of a query, seen as their list: those of a groups query in key order, those of a rows query in its
+/// order.
 #[derive(Debug, Drop)]
 pub struct Rows {
     rows: Vec<Vec<Cell>>,

@@ -1,17 +1,19 @@
-// Rows of a block added to the running values at their places.
+// Rows of a block added to the running values at their places: an item at a time, and for each item row by row.
 ghost use Rattle.std.specs.Prelude.{◌≡◌, ◌<◌, ◌≤◌, ◌+◌, ℕ, length, set, count_ones, All, slice_index_or};
 ghost use Rattle.std.specs.Int.{bit_at};
 ghost use Rattle.table_core.specs.Lists.{lists};
 ghost use Rattle.row_blocks.specs.Blocks.{row_at};
-ghost use Rattle.agg_groups.specs.Blocks.{AreInBlock};
+ghost use Rattle.agg_groups.specs.Blocks.{AreInBlock, chosen_in};
 ghost use Rattle.agg_groups.specs.Running as spec;
+ghost use Rattle.agg_groups.specs.declared.running.Running.TheVariants as running;
 ghost use Rattle.query_meaning.specs.Places.{IsInRow};
-ghost use Rattle.agg_groups.specs.Table.{AddsRows, AreSound, values_at};
+ghost use Rattle.agg_groups.specs.Table.{AddsItem, AddsRows, AreSound, HasItem, value_at, values_at};
 
+use crate::chosen::next_chosen;
 use crate::lanes::cell_in;
 use crate::running::{Running, next};
 use query_meaning::Item;
-use row_blocks::{Block, is_chosen};
+use row_blocks::Block;
 use table_core::{Cell, MOST_ROWS};
 
 // The cell of a row of a block that an item reads, NULL where it reads none.
@@ -26,44 +28,104 @@ fn cell_of(item: Item, block: &Block, row: u32) -> Cell
     }
 }
 
-// Adds a row of a block to the value of each item, in place.
-fn step(items: &[Item], block: &Block, row: u32, rows: u32, values: &mut [Running])
+// Adds a row of a block to the value of an item, in place.
+fn step(values: &mut [Running], k: usize, item: Item, block: &Block, row: u32, rows: u32)
     requires row { row < 64 }
-    requires in_row { All (λ i. IsInRow i block.now.width) items.now }
+    requires in_row { IsInRow item block.now.width }
     requires few { rows < MOST_ROWS }
-    requires same { length values.old ≡ length items.now }
-    requires room { All (spec.HasRoom rows) values.old }
-    ensures value { values.new ≡ spec.nexts items.now (row_at block.now row) values.old }
-    ensures room { All (spec.HasRoom (rows + 1)) values.new }
+    requires there { k < length values.old }
+    requires room { spec.HasRoom rows (slice_index_or values.old k running.Nothing) }
+    ensures value { values.new ≡ set values.old k
+        (spec.next item (row_at block.now row) (slice_index_or values.old k running.Nothing)) }
+    ensures room { spec.HasRoom (rows + 1)
+        (spec.next item (row_at block.now row) (slice_index_or values.old k running.Nothing)) }
     ensures len { length values.new ≡ length values.old }
 {
-    for i in 0..items.len() {
-        values[i] = next(items[i], cell_of(items[i], block, row), values[i], rows);
-    }
+    values[k] = next(item, cell_of(item, block, row), values[k], rows);
 }
 
-// Adds a row of a block to the values at a place.
+// Adds a row of a block to the value of an item at a place.
 fn step_at(
     values: &mut [Vec<Running>],
     place: usize,
-    items: &[Item],
+    k: usize,
+    item: Item,
     block: &Block,
     row: u32,
     rows: u32,
 )
     requires row { row < 64 }
-    requires in_row { All (λ i. IsInRow i block.now.width) items.now }
+    requires in_row { IsInRow item block.now.width }
     requires few { rows < MOST_ROWS }
     requires there { place < length values.old }
-    requires same { length (values_at (lists values.old) place) ≡ length items.now }
-    requires room { All (spec.HasRoom rows) (values_at (lists values.old) place) }
-    ensures values { lists values.new ≡ set (lists values.old) place
-        (spec.nexts items.now (row_at block.now row) (values_at (lists values.old) place)) }
-    ensures room { All (spec.HasRoom (rows + 1))
-        (spec.nexts items.now (row_at block.now row) (values_at (lists values.old) place)) }
+    requires item { k < length (values_at (lists values.old) place) }
+    requires room { spec.HasRoom rows (value_at (lists values.old) place k) }
+    ensures values { lists values.new ≡ set (lists values.old) place (set (values_at (lists values.old) place) k
+        (spec.next item (row_at block.now row) (value_at (lists values.old) place k))) }
+    ensures room { spec.HasRoom (rows + 1)
+        (spec.next item (row_at block.now row) (value_at (lists values.old) place k)) }
 {
     let kept = &mut values[place];
-    step(items, block, row, rows, kept);
+    step(kept, k, item, block, row, rows);
+}
+
+// Adds the chosen rows of a block to the value of an item at each place.
+fn step_item(
+    values: &mut [Vec<Running>],
+    k: usize,
+    item: Item,
+    places: &[usize],
+    block: &Block,
+    word: u64,
+    rows: u32,
+)
+    requires few { rows + block.now.count ≤ MOST_ROWS }
+    requires in_row { IsInRow item block.now.width }
+    requires long { length places.now ≡ 64 }
+    requires there { (i : ℕ) → i < block.now.count → bit_at word i ≡ 1
+        → slice_index_or places.now i 0 < length values.old }
+    requires below { AreInBlock block.now.count word }
+    requires item { HasItem rows k (lists values.old) }
+    ensures { AddsItem item k (rows + count_ones word) block.now word places.now (chosen_in block.now word)
+        (lists values.old) (lists values.new) }
+{
+    let mut added = rows;
+    let mut from = 0;
+    while let Some(row) = next_chosen(word, from) {
+        step_at(values, places[row as usize], k, item, block, row, added);
+        added += 1;
+        from = row + 1;
+    }
+}
+
+// The same. Each kind of item has a call of its own, so that it is told once for all rows.
+fn step_kind(
+    values: &mut [Vec<Running>],
+    k: usize,
+    item: Item,
+    places: &[usize],
+    block: &Block,
+    word: u64,
+    rows: u32,
+)
+    requires few { rows + block.now.count ≤ MOST_ROWS }
+    requires in_row { IsInRow item block.now.width }
+    requires long { length places.now ≡ 64 }
+    requires there { (i : ℕ) → i < block.now.count → bit_at word i ≡ 1
+        → slice_index_or places.now i 0 < length values.old }
+    requires below { AreInBlock block.now.count word }
+    requires item { HasItem rows k (lists values.old) }
+    ensures { AddsItem item k (rows + count_ones word) block.now word places.now (chosen_in block.now word)
+        (lists values.old) (lists values.new) }
+{
+    match item {
+        Item::CountAll => step_item(values, k, Item::CountAll, places, block, word, rows),
+        Item::Count(x) => step_item(values, k, Item::Count(x), places, block, word, rows),
+        Item::Sum(x) => step_item(values, k, Item::Sum(x), places, block, word, rows),
+        Item::Min(x) => step_item(values, k, Item::Min(x), places, block, word, rows),
+        Item::Max(x) => step_item(values, k, Item::Max(x), places, block, word, rows),
+        Item::Key(_) => {}
+    }
 }
 
 /// Adds each chosen row of a block to the values at its place.
@@ -86,12 +148,7 @@ pub(crate) fn step_all(
     ensures sound { AreSound (rows + count_ones word) (length items.now) (lists values.new) }
     ensures len { length values.new ≡ length values.old }
 {
-    let mut added = rows;
-    for row in 0..block.len() {
-        if !is_chosen(word, row) {
-            continue;
-        }
-        step_at(values, places[row as usize], items, block, row, added);
-        added += 1;
+    for k in 0..items.len() {
+        step_kind(values, k, items[k], places, block, word, rows);
     }
 }

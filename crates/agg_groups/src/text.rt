@@ -29,7 +29,8 @@ fn columns_of(alloc: Global, keys: &[u32], items: &[Item]) -> Result<Vec<Option<
 
 /// The text of an answer: the line `query` with its number, then a line for each result row.
 ///
-/// A cell is written by its item's column: counts as whole numbers, numbers of a DEC column with their places, texts in quotes.
+/// A cell is written by its item's column: counts as whole numbers, numbers of a DEC column with their places, texts in
+/// quotes.
 pub fn rows_text(
     alloc: Global,
     query: u32,

@@ -1,7 +1,6 @@
 -- Rows that are read as a block, column by column.
-use Rattle.std.proofs.Common.{◌≡◌, ◌==◌, ◌<◌, ◌+◌, ◌-◌, ◌*◌, ◌%◌, ◌^◌, ◌∙◌, if◌then◌else◌, ℕ, Bool, true, false, nat_le, max, List, [], ◌∷◌, ◌++◌, length, get_or, arith, refl, sym, ap, subst, inl, inr, eq-eqb, ne_eqb, Some}
+use Rattle.std.proofs.Common.{◌≡◌, ◌==◌, ◌<◌, ◌+◌, ◌-◌, ◌*◌, ◌%◌, ◌^◌, ◌∙◌, if◌then◌else◌, ℕ, Bool, true, false, nat_le, max, List, [], ◌∷◌, length, get_or, arith, refl, sym, ap, subst, inl, inr, eq-eqb, ne_eqb, Some}
 use Rattle.std.proofs.lemmas.Bool.{cases_eq, cases_lt, le-leb, lt-leb, lt-ltb, le-ltb, false≢true}
-use Rattle.std.proofs.lemmas.List.{get_or_append_left}
 use Rattle.std.specs.Int.{bit_at, cast_signed, w64}
 use Rattle.table_core.specs.Chunk.{chunk}
 use Rattle.table_sets.specs.Sets.{has}
@@ -9,9 +8,8 @@ use Rattle.table_core.specs.declared.cell.Cell.{Cell}
 use Rattle.table_core.specs.declared.cell.Cell.TheVariants.{Null, Int, Code}
 use Rattle.table_core.specs.declared.schema.Kind.{Kind}
 use Rattle.table_core.specs.declared.schema.Kind.TheVariants as kinds
-use Rattle.row_blocks.specs.declared.lane.Holds.{Holds}
 use Rattle.row_blocks.specs.declared.lane.Lane.{Lane}
-use Rattle.row_blocks.specs.Lanes.{held, lane_cell}
+use Rattle.row_blocks.specs.Lanes.{lane_cell}
 use Rattle.row_blocks.specs.Blocks.{BlockView, lane_at, row_at}
 use Rattle.row_blocks.proofs.Rows.{cell-row, length-row}
 use Rattle.piece_format.specs.Broken.{is_text}
@@ -30,7 +28,7 @@ use Rattle.frame_pool.specs.Steps.{AreWordsOf, IsWordOf}
 use Rattle.frame_pool.specs.Views.{pinned}
 use Rattle.story_laws.proofs.Bools.{not_both}
 use Rattle.frame_rows.specs.declared.span.Span.{Span}
-use Rattle.frame_rows.specs.Blocks.{EachRow, HasNullBits, HasRead, HasReadAll, IsLaneOf, IsSpan, lane_of, row_step, row_step_in}
+use Rattle.frame_rows.specs.Blocks.{EachRow, HasNullBits, HasRead, HasReadAll, IsLaneOf, IsSpan, row_step, row_step_in}
 use Rattle.frame_rows.specs.Rows.{IsForPlace, OthersAreNull, in_place}
 use Rattle.frame_rows.proofs.Tables.{cell_read}
 
@@ -134,17 +132,6 @@ pub lane_read : (told : Told) (z : TableShape) (pins : List Pin) (p f : ℕ) (q 
 lane_read told z pins p f q s x nulls words lane e there is len cells =
     subst (λ (r : Piece). IsSpan r.rows s → HasColumn r x → HasNullBits told pins f r s x nulls → AreWordsOf told pins f (value_place r s.first x) (row_step r) words → IsLaneOf told z (chunk_of z p) s x lane) (sym e)
     (read_at told z pins p f s x nulls words lane there is len cells)
-
--- a lane of more words has the same cells in its first rows
-pub longer_lane : (told : Told) (z : TableShape) (c : ℕ) (s : Span) (x : ℕ) (holds : Holds) (nulls : ℕ) (words more : List ℕ) → length words ≡ s.count → IsLaneOf told z c s x (lane_of holds nulls words)
-    → IsLaneOf told z c s x (lane_of holds nulls (words ++ more))
-longer_lane told z c s x holds nulls words more len is =
-    let cells : (i : ℕ) → i < s.count → lane_cell (lane_of holds nulls (words ++ more)) i ≡ lane_cell (lane_of holds nulls words) i =
-    λ i low. ap (λ (word : ℕ). if bit_at nulls i == 1 then Null else held holds word) (get_or_append_left words more 0 i (omega (arith, low, len))) in
-    record {
-      fits = λ i low. subst (λ (cell : Cell). FitsKind (kind_at z x) (dict_len_at z x) cell) (sym (cells i low)) (is.fits i low);
-      is = λ kept rows table i low. cells i low ∙ is.is kept rows table i low;
-    }
 
 -- Blocks
 

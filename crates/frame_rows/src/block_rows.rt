@@ -13,7 +13,7 @@ use crate::lanes::{column_bits, read_lane, read_masks};
 use crate::span::Span;
 use frame_pool::{Berth, Content, Pool};
 use piece_format::Shape;
-use row_blocks::Block;
+use row_blocks::{Block, Holds, Lane};
 use table_core::ColumnSet;
 
 /// Reads these columns of some rows of a framed piece in the row layout. The words with the rows' null bits are read once.
@@ -44,10 +44,11 @@ pub fn put_columns<C: Content>(
     let mut room = [0; 64];
     let masks = &mut room[..span.count as usize];
     read_masks(pool, shape, berth, framed, span, masks);
+    let mut lane = Lane::empty(Holds::Numbers);
     for x in 0..block.width() {
         if columns.has(x) {
             let nulls = column_bits(masks, x);
-            let lane = read_lane(pool, shape, berth, framed, span, x, nulls);
+            read_lane(pool, shape, berth, framed, span, x, nulls, &mut lane);
             block.put(x, &lane);
         }
     }
@@ -81,13 +82,14 @@ pub fn put_slots<C: Content>(
         (length given.now.slots) block.new }
 {
     let first = given.chunk * block.width();
+    let mut lane = Lane::empty(Holds::Numbers);
     for k in 0..given.slots.len() {
         let slot = given.slots.at(k);
         let column = slot.1 - first;
         if columns.has(column) {
             let framed = Framed::of(shape, slot, given.rows, column);
             let nulls = nulls_of(pool, shape, berth, framed, span.first);
-            let lane = read_lane(pool, shape, berth, framed, span, column, nulls);
+            read_lane(pool, shape, berth, framed, span, column, nulls, &mut lane);
             block.put(column, &lane);
         }
     }

@@ -20,13 +20,12 @@ use piece_format::{Layout, Piece, Shape};
 use row_blocks::{Holds, Lane};
 use table_core::Kind;
 
-// A word whose bits from this place on are clear, with the bit there.
-fn with_bit(word: u64, place: usize, set: bool) -> u64
-    requires place { place < 64 }
-    requires word { word < 2 ^ place }
-    ensures { result ≡ word + (if set then 2 ^ place else 0) }
+// The word moved up by one, with a bit below. It costs one step, where a bit put in at a place costs three.
+fn pushed(word: u64, set: bool) -> u64
+    requires { word < 2 ^ 63 }
+    ensures { result ≡ word + word + (if set then 1 else 0) }
 {
-    if set { word + (1 << place) } else { word }
+    word * 2 + u64::from(set)
 }
 
 /// The bits that a column has in the mask words of some rows, one for each row.
@@ -36,8 +35,10 @@ pub(crate) fn column_bits(masks: &[u64], column: u32) -> u64
     ensures { result ≡ bits (λ i. bit_at (slice_index masks.now i) column == 1) (length masks.now) }
 {
     let mut word = 0;
-    for (i, mask) in masks.iter().enumerate() {
-        word = with_bit(word, i, is_set(*mask, column));
+    let mut i = masks.len();
+    while i > 0 {
+        i -= 1;
+        word = pushed(word, is_set(masks[i], column));
     }
     word
 }
@@ -48,8 +49,10 @@ fn no_codes(words: &[u64], dict_len: u32) -> u64
     ensures { result ≡ bits (λ i. nat_le dict_len (slice_index words.now i)) (length words.now) }
 {
     let mut word = 0;
-    for (i, code) in words.iter().enumerate() {
-        word = with_bit(word, i, *code >= u64::from(dict_len));
+    let mut i = words.len();
+    while i > 0 {
+        i -= 1;
+        word = pushed(word, words[i] >= u64::from(dict_len));
     }
     word
 }
@@ -128,7 +131,7 @@ fn read_column<C: Content>(
     held_by(kind(shape, column), dict_len(shape, column), nulls, words)
 }
 
-/// Reads a column of some rows of a framed piece, by the word that has their null bits.
+/// Reads a column of some rows of a framed piece into a lane, by the word that has their null bits.
 pub(crate) fn read_lane<C: Content>(
     pool: &Pool<C>,
     shape: &Shape,
@@ -137,21 +140,18 @@ pub(crate) fn read_lane<C: Content>(
     span: Span,
     column: u32,
     nulls: u64,
-) -> Lane
+    lane: &mut Lane,
+)
     requires shape { IsShape shape.now }
     requires framed { IsFramed shape.now pool.now berth.old framed }
     requires span { IsSpan framed.piece.rows span }
     requires column { HasColumn framed.piece column }
     requires nulls { HasNullBits C.pieces berth.old.pins framed.frame framed.piece span column nulls }
     ensures same { berth.new ≡ berth.old }
-    ensures lane { IsLaneOf C.pieces shape.now (chunk_of shape.now framed.number) span column result }
+    ensures lane { IsLaneOf C.pieces shape.now (chunk_of shape.now framed.number) span column lane.new }
 {
-    let mut words = [0; 64];
-    let read = &mut words[..span.count as usize];
-    let (holds, nulls) = read_column(pool, shape, berth, framed, span, column, nulls, read);
-    Lane {
-        holds,
-        nulls,
-        words,
-    }
+    let words = &mut lane.words[..span.count as usize];
+    let (holds, nulls) = read_column(pool, shape, berth, framed, span, column, nulls, words);
+    lane.holds = holds;
+    lane.nulls = nulls;
 }

@@ -1,17 +1,19 @@
 -- The best candidates are choices by relevance.
-use Rattle.std.proofs.Common.{◌≡◌, ◌<◌, ◌≤◌, ◌+◌, ◌≤ℤ◌, ◌∷◌, [], ◌==◌, ◌&&◌, ◌||◌, not, ℕ, Bool, true, false, if◌then◌else◌, List, length, find, Option, None, Some, IfSome, is_none, is_some, nat_lt, refl, sym, ◌∙◌, ap, subst, arith, inl, inr}
+use Rattle.std.proofs.Common.{◌≡◌, ◌<◌, ◌≤◌, ◌+◌, ◌-◌, ◌^◌, min, ◌≤ℤ◌, ◌∷◌, [], ◌==◌, ◌&&◌, ◌||◌, not, ℕ, Bool, true, false, if◌then◌else◌, List, length, find, Option, None, Some, IfSome, is_none, is_some, nat_lt, refl, sym, ◌∙◌, ap, subst, arith, inl, inr}
 use Rattle.std.specs.List.{list_any}
 use Rattle.std.proofs.lemmas.Bool.{cases_Bool}
 use Rattle.std.proofs.lemmas.Bool.Decides.{nat_tests}
+use Rattle.std.proofs.Math.Nat.{min-eq_left}
+use Rattle.scan_story.proofs.Counts.{below_all, below_within}
 use Rattle.scan_story.specs.declared.setting.Need.{Need}
 use Rattle.scan_story.specs.declared.setting.PolicyName.TheVariants.{Relevance}
 use Rattle.scan_story.specs.declared.ratio.Ratio.{Ratio}
 use Rattle.scan_story.specs.declared.setting.Setting.{Setting}
 use Rattle.scan_story.specs.Counting.{has, count_among, any_below}
-use Rattle.scan_story.specs.Setting.{IsSetting, need_of, chunks_in, asks_for, groups_read, shares}
-use Rattle.scan_story.specs.Views.{History, is_active, is_stopped, is_ended, is_held, delivers, needs_chunk, is_wholly_framed}
+use Rattle.scan_story.specs.Setting.{IsSetting, need_of, chunks_in, asks_for, groups_read, piece_at, shares}
+use Rattle.scan_story.specs.Views.{History, is_active, is_framed, is_stopped, is_ended, is_held, delivers, needs_chunk, is_wholly_framed}
 use Rattle.scan_story.specs.Loads.{underway, is_load_of}
-use Rattle.scan_story.specs.Numbers.{is_starved, cached, missing_for, overlap}
+use Rattle.scan_story.specs.Numbers.{is_starved, cached, missing, missing_for, overlap}
 use Rattle.scan_story.specs.Ratios.{query_rank, load_ratio, use_ratio, keep_ratio, IsAtMost}
 use Rattle.scan_story.specs.MayFollow.{is_target, is_ready, is_trigger, is_victim, feeds_starved}
 use Rattle.interest_book.specs.declared.book.Book.{Book}
@@ -198,6 +200,10 @@ pub first_victim : (s : Setting) (h : History) (n : ℕ) (best : Option BestChun
 first_victim s h n best r all is e =
     first_chunk is_less (λ a b. IsAtMost b a) (is_victim s h) (keep_ratio s h) s.chunks n best r (less_order (is_victim s h) (keep_ratio s h) (λ y t. victim_cached s h y t)) (λ y t. victim_inside s h y t) all is e
 
+denied : (b : Bool) → not b ≡ true → b ≡ false
+denied true e = absurd (true_false false e refl)
+denied false e = refl
+
 -- the best of the targets that were tried, where none is left or none may exceed it
 pub load_settled : (q a most : ℕ) (targets : List ℕ) (s : Setting) (h : History) (may : Bool) (best : Option BestChunk) → ((c : ℕ) → has targets c ≡ is_target s h q c) → may ≡ may_exceed most best
     → (not may ≡ false → (c : ℕ) → a ≤ c → has targets c ≡ false) → ((c : ℕ) → (load_ratio s h q c).num ≤ most) → best ≡ greatest_below (is_target s h q) (load_ratio s h q) a
@@ -205,10 +211,24 @@ pub load_settled : (q a most : ℕ) (targets : List ℕ) (s : Setting) (h : Hist
 load_settled q a most targets s h may best are e none within is =
     settled chunk_with ratio_of is_greater (is_target s h q) (load_ratio s h q) a s.chunks (not may) best (λ on c from. sym (are c) ∙ none on c from) (λ c t. target_inside s h q c t)
     (λ over c t. no_more best c most (load_ratio s h q c) (target_misses s h q c t) (within c) (sym e ∙ denied may over)) is
-  where
-    denied : (b : Bool) → not b ≡ true → b ≡ false
-    denied true e = absurd (true_false false e refl)
-    denied false e = refl
+
+-- the best of the ready chunks that were tried, where none is left or none may exceed it
+pub delivery_settled : (b : Book) (q a most : ℕ) (ready : List ℕ) (s : Setting) (h : History) (may : Bool) (best : Option BestChunk) → HasActive b q → Stands b s h → ((c : ℕ) → has ready c ≡ is_ready s h q c) → may ≡ may_exceed most best
+    → (not may ≡ false → (c : ℕ) → a ≤ c → has ready c ≡ false) → ((c : ℕ) → (use_ratio s h q c).num ≤ most) → best ≡ greatest_below (is_ready s h q) (use_ratio s h q) a
+    → best ≡ greatest_below (is_ready s h q) (use_ratio s h q) s.chunks
+delivery_settled b q a most ready s h may best active st are e none within is =
+    settled chunk_with ratio_of is_greater (is_ready s h q) (use_ratio s h q) a s.chunks (not may) best (λ on c from. sym (are c) ∙ none on c from) (λ c t. ready_inside s h q c t)
+    (λ over c t. no_more best c most (use_ratio s h q c) (ready_overlaps s h q c st.setting (still_active b s h q active st) t) (within c) (sym e ∙ denied may over)) is
+
+-- no chunk has more pieces in frames than one has pieces
+pub most_cached : (s : Setting) (h : History) (c in_frames in_none most : ℕ) → IsSetting s → in_frames ≡ cached s h 0 → in_none ≡ missing s h 0 → most ≡ min (in_frames + in_none) (2 ^ 32 - 1) → cached s h c ≤ most
+most_cached s h c in_frames in_none most ok framed unframed is =
+    let all = below_all (λ g. is_framed s h (piece_at s 0 g)) s.groups in
+    let within = below_within (λ g. is_framed s h (piece_at s c g)) s.groups in
+    let few = ok.groups.1 in
+    let whole : in_frames + in_none ≡ s.groups = omega (arith, all, framed, unframed) in
+    let at : most ≡ s.groups = is ∙ ap (λ (n : ℕ). min n (2 ^ 32 - 1)) whole ∙ min-eq_left (omega (arith, few)) in
+    omega (arith, within, at)
 
 -- the best of the victims that were tried, where none is left or none is less
 pub victim_settled : (a : ℕ) (unheld : List ℕ) (s : Setting) (h : History) (over : Bool) (best : Option BestChunk) → ((c : ℕ) → has unheld c ≡ false → is_victim s h c ≡ false) → over ≡ is_least best → (over ≡ false → (c : ℕ) → a ≤ c → has unheld c ≡ false)

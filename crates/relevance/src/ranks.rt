@@ -73,6 +73,13 @@ pub fn use_ratio(book: &Book, q: u32, c: u32) -> Ratio
     }
 }
 
+/// The number of the ratio by which a chunk is delivered is no greater for any chunk: how many pieces each has.
+pub fn most_room(book: &Book) -> u32
+    ensures { (s : Setting) (h : History) (q c : ℕ) → Stands book.now s h → (use_ratio s h q c).num ≤ result }
+{
+    book.cached(0).saturating_add(book.missing(0))
+}
+
 /// How much is lost by evicting the chunk. `den` is 0 where no piece of it is in a frame; no pick compares such a
 /// chunk.
 pub fn keep_ratio(book: &Book, c: u32) -> Ratio

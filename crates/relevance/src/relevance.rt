@@ -10,7 +10,7 @@ ghost use Rattle.interest_book.specs.Picks.{PicksQuery, PicksLoad, PicksDelivery
 
 use crate::best::{chunk_in, greater_of, higher_of, lesser_of, query_in};
 use crate::loads::gaining_more;
-use crate::ranks::{keep_ratio, most_gain, query_rank, use_ratio};
+use crate::ranks::{keep_ratio, most_gain, most_room, query_rank, use_ratio};
 use crate::search::{is_least, may_exceed, next_chunk};
 use interest_book::{Book, Policy};
 use scan_story::PolicyName;
@@ -76,9 +76,10 @@ impl Policy for Relevance {
         ensures cursor { [] ≡ cursor_after_delivery names.Relevance [] q result }
     {
         let ready = book.deliverable(q);
+        let most = most_room(book);
         let mut best = None;
         let mut from = 0;
-        while let Some(c) = ready.least_from(from) {
+        while let Some(c) = next_chunk(&ready, from, !may_exceed(most, best)) {
             best = greater_of(best, c, use_ratio(book, q, c));
             from = c + 1;
         }

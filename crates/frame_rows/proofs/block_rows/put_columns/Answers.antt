@@ -43,24 +43,24 @@ loop-x-init g c = record {
 pub column_bits-nulls-requires-clause-few : goal.column_bits-nulls-requires-clause-few
 column_bits-nulls-requires-clause-few g c = subst (λ (n : ℕ). n ≤ 64) (sym (c.read_masks.ensures.count ∙ length-take-le c.args.span.count _ c.requires.span.2)) c.requires.span.2
 
-pub read_lane-lane-requires-clause-shape : goal.read_lane-lane-requires-clause-shape
-read_lane-lane-requires-clause-shape g c = c.requires.shape
+pub read_lane-requires-clause-shape : goal.read_lane-requires-clause-shape
+read_lane-requires-clause-shape g c = c.requires.shape
 
-pub read_lane-lane-requires-clause-framed : goal.read_lane-lane-requires-clause-framed
-read_lane-lane-requires-clause-framed g c = subst (λ (b : BerthView). IsFramed c.args.shape.now c.args.pool.now b c.args.framed) (sym c.loop-x.invariant.same) c.requires.framed
+pub read_lane-requires-clause-framed : goal.read_lane-requires-clause-framed
+read_lane-requires-clause-framed g c = subst (λ (b : BerthView). IsFramed c.args.shape.now c.args.pool.now b c.args.framed) (sym c.loop-x.invariant.same) c.requires.framed
 
-pub read_lane-lane-requires-clause-span : goal.read_lane-lane-requires-clause-span
-read_lane-lane-requires-clause-span g c = c.requires.span
+pub read_lane-requires-clause-span : goal.read_lane-requires-clause-span
+read_lane-requires-clause-span g c = c.requires.span
 
-pub read_lane-lane-requires-clause-column : goal.read_lane-lane-requires-clause-column
-read_lane-lane-requires-clause-column g c =
+pub read_lane-requires-clause-column : goal.read_lane-requires-clause-column
+read_lane-requires-clause-column g c =
     has_each c.args.shape.now c.args.framed.number c.loop-x.x c.args.framed.piece c.requires.layout c.requires.framed.piece (omega (arith, c.loop-x-test.true, c.width-x-end.ensures.width, c.requires.width))
 
 pub put-requires : goal.put-requires
 put-requires g c = omega (arith, c.loop-x-test.true, c.width-x-end.ensures.width, c.loop-x.invariant.width)
 
-pub read_lane-lane-requires-clause-nulls : goal.read_lane-lane-requires-clause-nulls
-read_lane-lane-requires-clause-nulls g c =
+pub read_lane-requires-clause-nulls : goal.read_lane-requires-clause-nulls
+read_lane-requires-clause-nulls g c =
     let told = g.C.Content.pieces in
     let f : ℕ = c.args.framed.frame in
     let q = c.args.framed.piece in
@@ -86,15 +86,15 @@ loop-x-preserved g c =
     elim c.if-has.branch [
       | then-has w ↦
           let named : has columns x ≡ true = sym c.has.ensures ∙ w.if-has.true in
-          let lane = w.read_lane-lane.result in
+          let lane = w.read_lane.new.lane in
           let put = w.put.ensures in
           record {
-            same = w.berth-is ∙ (w.read_lane-lane.ensures.same ∙ before.same);
+            same = w.berth-is ∙ (w.read_lane.ensures.same ∙ before.same);
             count = ap (λ (v : BlockView). v.count) w.block-is ∙ (put.count ∙ before.count);
             width = ap (λ (v : BlockView). v.width) w.block-is ∙ (put.width ∙ before.width);
             read = subst (λ (v : BlockView). HasRead told z chunk first columns (λ y. y < x + 1) v) (sym w.block-is)
                 (one_lane_more told z chunk first columns b w.put.new.self x lane (λ y. y < x) (λ y. y < x + 1) named put.count put.width put.lanes
-                (λ i low. lane_place told z chunk first columns c.args.span x i lane refl w.read_lane-lane.ensures.lane named (omega (arith, low, before.count, c.requires.count))) more before.read);
+                (λ i low. lane_place told z chunk first columns c.args.span x i lane refl w.read_lane.ensures.lane named (omega (arith, low, before.count, c.requires.count))) more before.read);
           }
       | else-has w ↦ record {
         same = w.berth-is ∙ before.same;

@@ -88,29 +88,29 @@ nulls_of-nulls-requires-clause-row g c =
 pub nulls_of-nulls-requires-clause-framed : goal.nulls_of-nulls-requires-clause-framed
 nulls_of-nulls-requires-clause-framed g c = framed g (goal.at.nulls_of-nulls-requires-clause-framed g c).After-of-framed
 
-pub read_lane-lane-requires-clause-shape : goal.read_lane-lane-requires-clause-shape
-read_lane-lane-requires-clause-shape g c = c.requires.shape
+pub read_lane-requires-clause-shape : goal.read_lane-requires-clause-shape
+read_lane-requires-clause-shape g c = c.requires.shape
 
-pub read_lane-lane-requires-clause-framed : goal.read_lane-lane-requires-clause-framed
-read_lane-lane-requires-clause-framed g c =
-    subst (λ (b : BerthView). IsFramed c.args.shape.now c.args.pool.now b c.of-framed.result) (sym c.nulls_of-nulls.ensures.same) (framed g (goal.at.read_lane-lane-requires-clause-framed g c).After-of-framed)
+pub read_lane-requires-clause-framed : goal.read_lane-requires-clause-framed
+read_lane-requires-clause-framed g c =
+    subst (λ (b : BerthView). IsFramed c.args.shape.now c.args.pool.now b c.of-framed.result) (sym c.nulls_of-nulls.ensures.same) (framed g (goal.at.read_lane-requires-clause-framed g c).After-of-framed)
 
-pub read_lane-lane-requires-clause-column : goal.read_lane-lane-requires-clause-column
-read_lane-lane-requires-clause-column g c =
-    has_column c.args.shape.now c.at-slot.result.1 (c.at-slot.result.1 - c.args.given.now.chunk * c.width.result) c.of-framed.result.piece c.requires.layout c.of-framed.ensures.piece (group_is g (goal.at.read_lane-lane-requires-clause-column g c).After-at-slot)
+pub read_lane-requires-clause-column : goal.read_lane-requires-clause-column
+read_lane-requires-clause-column g c =
+    has_column c.args.shape.now c.at-slot.result.1 (c.at-slot.result.1 - c.args.given.now.chunk * c.width.result) c.of-framed.result.piece c.requires.layout c.of-framed.ensures.piece (group_is g (goal.at.read_lane-requires-clause-column g c).After-at-slot)
 
-pub read_lane-lane-requires-clause-span : goal.read_lane-lane-requires-clause-span
-read_lane-lane-requires-clause-span g c =
-    subst (λ (n : ℕ). IsSpan n c.args.span) (sym (rows_are g (goal.at.read_lane-lane-requires-clause-span g c).After-of-framed)) c.requires.span
+pub read_lane-requires-clause-span : goal.read_lane-requires-clause-span
+read_lane-requires-clause-span g c =
+    subst (λ (n : ℕ). IsSpan n c.args.span) (sym (rows_are g (goal.at.read_lane-requires-clause-span g c).After-of-framed)) c.requires.span
 
-pub read_lane-lane-requires-clause-nulls : goal.read_lane-lane-requires-clause-nulls
-read_lane-lane-requires-clause-nulls g c =
+pub read_lane-requires-clause-nulls : goal.read_lane-requires-clause-nulls
+read_lane-requires-clause-nulls g c =
     let told = g.C.Content.pieces in
     let f : ℕ = c.of-framed.result.frame in
     let q = c.of-framed.result.piece in
     let x : ℕ = c.at-slot.result.1 - c.args.given.now.chunk * c.width.result in
     let layout : q.layout ≡ layouts.Column = ap (λ (r : Piece). r.layout) c.of-framed.ensures.piece ∙ c.requires.layout in
-    let span = subst (λ (n : ℕ). IsSpan n c.args.span) (sym (rows_are g (goal.at.read_lane-lane-requires-clause-nulls g c).After-of-framed)) c.requires.span in
+    let span = subst (λ (n : ℕ). IsSpan n c.args.span) (sym (rows_are g (goal.at.read_lane-requires-clause-nulls g c).After-of-framed)) c.requires.span in
     subst (λ (b : BerthView). HasNullBits told b.pins f q c.args.span x c.nulls_of-nulls.result) (sym c.nulls_of-nulls.ensures.same)
     (shared_bits told c.loop-k.berth.pins f q c.args.span x c.nulls_of-nulls.result layout span c.nulls_of-nulls.ensures.word)
 
@@ -142,12 +142,12 @@ loop-k-preserved g c =
     elim c.if-has.branch [
       | then-has w ↦
           let named : has columns x ≡ true = sym c.has.ensures ∙ w.if-has.true in
-          let lane = w.read_lane-lane.result in
+          let lane = w.read_lane.new.lane in
           let put = w.put.ensures in
           let is = ap (chunk_of z) w.of-framed.ensures.number ∙ chunk_is g at in
-          let read = subst (λ (n : ℕ). IsLaneOf told z n c.args.span x lane) is w.read_lane-lane.ensures.lane in
+          let read = subst (λ (n : ℕ). IsLaneOf told z n c.args.span x lane) is w.read_lane.ensures.lane in
           record {
-            same = w.berth-is ∙ (w.read_lane-lane.ensures.same ∙ (w.nulls_of-nulls.ensures.same ∙ before.same));
+            same = w.berth-is ∙ (w.read_lane.ensures.same ∙ (w.nulls_of-nulls.ensures.same ∙ before.same));
             count = ap (λ (v : BlockView). v.count) w.block-is ∙ (put.count ∙ before.count);
             width = ap (λ (v : BlockView). v.width) w.block-is ∙ (put.width ∙ before.width);
             read = subst (λ (v : BlockView). HasReadSlots told z chunk first columns slots (k + 1) v) (sym w.block-is)

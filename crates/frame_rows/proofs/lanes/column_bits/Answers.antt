@@ -1,20 +1,22 @@
-use Rattle.std.proofs.Common.{◌+◌, ◌^◌, ◌==◌, ◌∙◌, if◌then◌else◌, ℕ, Bool, get_or, refl, arith, sym, ap}
+use Rattle.std.proofs.Common.{length, get_or, arith, ◌==◌}
 use Rattle.std.specs.Int.{bit_at}
-use Rattle.piece_format.specs.Words.{bits}
-use Rattle.piece_format.proofs.Bits.{bits-lt, bits-more}
+use Rattle.frame_rows.proofs.Pushed.{bits-all, bits-end, bits-few, bits-pushed}
 use Rattle.frame_rows.proofs.lanes.column_bits.Goals as goal
 
 pub loop-i-init : goal.loop-i-init
-unfolding bits
-loop-i-init c = refl
+loop-i-init c = record {
+  within = omega arith;
+  bits = bits-end (λ j. bit_at (get_or c.args.masks.now j 0) c.args.column == 1) (length c.args.masks.now);
+}
 
-pub with_bit-word-requires-clause-word : goal.with_bit-word-requires-clause-word
-with_bit-word-requires-clause-word c = omega (arith, c.loop-i.invariant, bits-lt (λ j. bit_at (get_or c.args.masks.now j 0) c.args.column == 1) c.loop-i.i)
+pub pushed-word-requires : goal.pushed-word-requires
+pushed-word-requires c = bits-few (λ j. bit_at (get_or c.args.masks.now j 0) c.args.column == 1) c.loop-i.i (length c.args.masks.now) c.loop-i.word c.requires.few c.loop-i-test.true c.loop-i.invariant.bits
 
 pub loop-i-preserved : goal.loop-i-preserved
-loop-i-preserved c =
-    let p : ℕ → Bool = λ j. bit_at (get_or c.args.masks.now j 0) c.args.column == 1 in
-    c.with_bit-word.ensures
-    ∙ ap (λ n. n + (if c.is_set.result then 2 ^ c.loop-i.i else 0)) c.loop-i.invariant
-    ∙ ap (λ t. bits p c.loop-i.i + (if t then 2 ^ c.loop-i.i else 0)) c.is_set.ensures
-    ∙ sym (bits-more p c.loop-i.i)
+loop-i-preserved c = record {
+  within = omega (arith, c.loop-i.invariant.within);
+  bits = bits-pushed (λ j. bit_at (get_or c.args.masks.now j 0) c.args.column == 1) c.loop-i.i (length c.args.masks.now) c.loop-i.word c.pushed-word.result c.is_set.result c.loop-i-test.true c.loop-i.invariant.within c.loop-i.invariant.bits c.is_set.ensures c.pushed-word.ensures;
+}
+
+pub returns : goal.returns
+returns c = bits-all (λ j. bit_at (get_or c.args.masks.now j 0) c.args.column == 1) c.loop-i.i (length c.args.masks.now) c.loop-i.word c.loop-i-test.false c.loop-i.invariant.bits
