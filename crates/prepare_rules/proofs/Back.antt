@@ -9,7 +9,8 @@ use Rattle.csv.specs.Reading.{default_config, records}
 use Rattle.csv.specs.Writing.{read_back}
 use Rattle.csv.specs.declared.parser.State.TheVariants as st
 use Rattle.csv.proofs.RoundTrip.{read-write}
-use Rattle.prepare_rules.proofs.Left.{left-more, left-none}
+use Rattle.prepare_text.proofs.Csv.{left-more, left-none}
+use Rattle.prepare_text.specs.Walk.{Lined}
 use Rattle.prepare_rules.specs.Columns.{is_few, lost_name, pick_at, picks_among, picks_from, picks_named, picks_of, renamed, written_places}
 use Rattle.prepare_rules.specs.Made.{field_made, is_taken}
 use Rattle.prepare_rules.specs.Outcome.{ReadsBack, below, counted_names, kept, prepared, rows_text, under, under_picks}
@@ -59,33 +60,33 @@ named : (o : Option ℕ) (r : Result (List Pick) Cause) (picks : List Pick) → 
 named None r picks e = e
 named (Some word) r picks e = cc e
 
-below-filled : (rules : Rules) (names : ℕ) (picks : List Pick) (at : ℕ) (rows : List Record) → 0 < length picks → Filled (below rules names picks at rows).rows
+below-filled : (rules : Rules) (names : ℕ) (picks : List Pick) (at : ℕ) (rows : List Lined) → 0 < length picks → Filled (below rules names picks at rows).rows
 unfolding Filled
 below-filled rules names picks at [] lt = tt
-below-filled rules names picks at (r ∷ rows) lt = elim (cases_Bool (is_taken rules names (length r))) [
-  | inl so ↦ rw so (omega (arith, lt, length-map picks (λ (p : Pick). field_made rules p.is_number (slice_index_or r p.place []))), below-filled rules names picks (at + 1) rows lt)
+below-filled rules names picks at (r ∷ rows) lt = elim (cases_Bool (is_taken rules names (length r.fields))) [
+  | inl so ↦ rw so (omega (arith, lt, length-map picks (λ (p : Pick). field_made rules p.is_number (slice_index_or r.fields p.place []))), below-filled rules names picks (at + 1) rows lt)
   | inr not ↦ rw not tt
 ]
 
-under-filled : (rules : Rules) (names : Record) (at : ℕ) (rows : List Record) (r : Result (List Pick) Cause) → ((picks : List Pick) → r ≡ Ok picks → 0 < length picks)
-    → Filled (under_picks rules names at rows r).rows
+under-filled : (rules : Rules) (names : Record) (line at : ℕ) (rows : List Lined) (r : Result (List Pick) Cause) → ((picks : List Pick) → r ≡ Ok picks → 0 < length picks)
+    → Filled (under_picks rules names line at rows r).rows
 unfolding Filled
-under-filled rules names at rows (Err c) some = tt
-under-filled rules names at rows (Ok picks) some =
+under-filled rules names line at rows (Err c) some = tt
+under-filled rules names line at rows (Ok picks) some =
     let lt = some picks refl in
     (omega (arith, lt, length-map picks (λ (p : Pick). renamed rules.renames.now (slice_index_or names p.place []))), below-filled rules (length names) picks at rows lt)
 
-all-under : (rules : Rules) (names : Record) (at : ℕ) (rows : List Record) → Filled (under rules names at rows).rows
-all-under rules names at rows = under-filled rules names at rows (picks_of rules names) (λ picks e.
+all-under : (rules : Rules) (names : Record) (line at : ℕ) (rows : List Lined) → Filled (under rules names line at rows).rows
+all-under rules names line at rows = under-filled rules names line at rows (picks_of rules names) (λ picks e.
     let r = written_places rules.columns.now names in
     from rules names r picks (named (lost_name names 0 rules.renames.now) (picks_from rules names r) picks e))
 
-kept-filled : (rules : Rules) (rows : List Record) → Filled (kept rules rows).rows
+kept-filled : (rules : Rules) (rows : List Lined) → Filled (kept rules rows).rows
 unfolding Filled
 kept-filled rules [] = tt
 kept-filled rules (first ∷ rows) = elim (cases_Bool rules.has_names) [
-  | inl so ↦ rw so (all-under rules first (rules.skip + 2) rows)
-  | inr not ↦ rw not (all-under rules (counted_names (length first)) (rules.skip + 1) (first ∷ rows))
+  | inl so ↦ rw so (all-under rules first.fields first.line (rules.skip + 2) rows)
+  | inr not ↦ rw not (all-under rules (counted_names (length first.fields)) first.line (rules.skip + 1) (first ∷ rows))
 ]
 
 pub reads-back : ReadsBack

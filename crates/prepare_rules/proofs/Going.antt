@@ -1,13 +1,15 @@
 -- Records that are read, made and written one behind the other come to what the rules make of all.
-use Rattle.std.proofs.Common.{◌≡◌, ◌+◌, ◌≤◌, ◌-◌, ℕ, zero, suc, true, false, Option, Some, None, List, [], ◌∷◌, ◌++◌, length, drop, refl, sym, ap, ◌∙◌, arith, append-nil, append_assoc}
+use Rattle.std.proofs.Common.{◌≡◌, ◌+◌, ◌≤◌, ℕ, zero, suc, true, false, Option, Some, None, List, [], ◌∷◌, ◌++◌, length, drop, refl, sym, ap, ◌∙◌, arith, append-nil, append_assoc}
 use Rattle.std.proofs.lemmas.List.{drop-drop}
-use Rattle.std.specs.Io.KnownBytes.{Appends}
+use Rattle.std.specs.Io.KnownBytes.{Appends, Keeps}
 use Rattle.std.specs.Prelude.{IfOk, Result, Ok, Err, option_map}
 use Rattle.csv.specs.Writing.{default_writer, row_text}
 use Rattle.prepare_rules.specs.Columns.{names_written}
 use Rattle.prepare_rules.specs.Made.{IsMade, row_made}
-use Rattle.prepare_rules.specs.Outcome.{Becomes, Begins, Outcome, below, counted_names, from_first, prepared, rows_text, under}
-use Rattle.prepare_rules.specs.Records.{IsLeft, IsOver, Record, Takes}
+use Rattle.prepare_rules.specs.Outcome.{Becomes, Begins, IsPrepared, Outcome, below, counted_names, from_first, marks_of, prepared, rows_text, under}
+use Rattle.prepare_rules.specs.Records.{IsLeft, Record}
+use Rattle.prepare_text.specs.Source.{IsOver, Stays, Takes}
+use Rattle.prepare_text.specs.Walk.{Lined, text_records}
 use Rattle.prepare_rules.specs.declared.cause.Cause.{Cause}
 use Rattle.prepare_rules.specs.declared.cause.Refusal.{Refusal}
 use Rattle.prepare_rules.specs.declared.cause.Cause.TheVariants as cause
@@ -18,33 +20,33 @@ use Rattle.prepare_rules.specs.declared.rules.Rules.{Rules}
 
 -- ---- records that are left out
 
-drop-next : (k : ℕ) (rows : List Record) (f : Record) (rest : List Record) → drop k rows ≡ f ∷ rest → drop (k + 1) rows ≡ rest
+drop-next : (k : ℕ) (rows : List Lined) (f : Lined) (rest : List Lined) → drop k rows ≡ f ∷ rest → drop (k + 1) rows ≡ rest
 drop-next k rows f rest e = sym (drop-drop 1 k rows) ∙ ap (drop 1) e
 
-pub left-next : (k : ℕ) (start now new : Option (List Record)) (f : Record) → IsLeft (option_map (drop k) start) now → Takes now f new
+pub left-next : (k : ℕ) (start now new : Option (List Lined)) (f : Lined) → IsLeft (option_map (drop k) start) now → Takes now f new
     → IsLeft (option_map (drop (k + 1)) start) new
 left-next k None now new f is t = tt
 left-next k (Some rows) None new f is t = absurd is
 left-next k (Some rows) (Some here) None f is t = absurd t
 left-next k (Some rows) (Some here) (Some rest) f is t = sym (drop-next k rows f rest (sym is ∙ t))
 
-pub left-takes : (old now new : Option (List Record)) (f : Record) → IsLeft old now → Takes now f new → Takes old f new
+pub left-takes : (old now new : Option (List Lined)) (f : Lined) → IsLeft old now → Takes now f new → Takes old f new
 left-takes None now new f is t = tt
 left-takes (Some rows) None new f is t = absurd is
 left-takes (Some rows) (Some here) None f is t = absurd t
 left-takes (Some rows) (Some here) (Some rest) f is t = sym is ∙ t
 
-drop-nil : (n : ℕ) → drop {A = Record} n [] ≡ []
+drop-nil : (n : ℕ) → drop {A = Lined} n [] ≡ []
 drop-nil zero = refl
 drop-nil (suc n) = refl
 
-drop-more-none : (k n : ℕ) (rows : List Record) → k ≤ n → drop k rows ≡ [] → drop n rows ≡ []
+drop-more-none : (k n : ℕ) (rows : List Lined) → k ≤ n → drop k rows ≡ [] → drop n rows ≡ []
 drop-more-none zero n rows le e = rw e (drop-nil n)
 drop-more-none (suc k) n [] le e = drop-nil n
 drop-more-none (suc k) zero (r ∷ rows) le e = absurd (omega arith)
 drop-more-none (suc k) (suc n) (r ∷ rows) le e = drop-more-none k n rows (omega arith) e
 
-pub left-over : (k n : ℕ) (start now : Option (List Record)) → k ≤ n → IsLeft (option_map (drop k) start) now → IsOver now → IsOver (option_map (drop n) start)
+pub left-over : (k n : ℕ) (start now : Option (List Lined)) → k ≤ n → IsLeft (option_map (drop k) start) now → IsOver now → IsOver (option_map (drop n) start)
 left-over k n None now le is over = tt
 left-over k n (Some rows) None le is over = absurd is
 left-over k n (Some rows) (Some here) le is over = drop-more-none k n rows le (sym is ∙ over)
@@ -57,6 +59,12 @@ grows (Some t) None new xs ys a b = absurd a
 grows (Some t) (Some u) None xs ys a b = absurd b
 grows (Some t) (Some u) (Some v) xs ys a b = rw (b, a) (append_assoc t xs ys)
 
+ends-so : (old mid new : Option (List ℕ)) (xs : List ℕ) → Appends old mid xs → Keeps mid new → Appends old new xs
+ends-so None mid new xs a k = tt
+ends-so (Some t) None new xs a k = absurd a
+ends-so (Some t) (Some u) None xs a k = absurd k
+ends-so (Some t) (Some u) (Some v) xs a k = k ∙ a
+
 pub stays : (text : Option (List ℕ)) → Appends text text []
 stays None = tt
 stays (Some t) = sym (append-nil t)
@@ -64,8 +72,8 @@ stays (Some t) = sym (append-nil t)
 -- ---- what records come to
 
 -- one record is read, made and written
-pub below-next : (rules : Rules) (names : ℕ) (picks : List Pick) (at : ℕ) (old now : Option (List Record)) (f row : Record) (refusal : Option Refusal) (text mid new : Option (List ℕ))
-    → Takes old f now → row_made rules names picks f ≡ Ok row → Appends text mid (row_text default_writer row)
+pub below-next : (rules : Rules) (names : ℕ) (picks : List Pick) (at : ℕ) (old now : Option (List Lined)) (f : Lined) (row : Record) (refusal : Option Refusal) (text mid new : Option (List ℕ))
+    → Takes old f now → row_made rules names picks f.fields ≡ Ok row → Appends text mid (row_text default_writer row)
     → Becomes (below rules names picks (at + 1)) now refusal mid new → Becomes (below rules names picks at) old refusal text new
 unfolding rows_text
 below-next rules names picks at None now f row refusal text mid new t e a b = tt
@@ -74,15 +82,15 @@ below-next rules names picks at (Some rows) (Some rest) f row refusal text mid n
     rw (t, e) (b.0, grows text mid new (row_text default_writer row) (rows_text (below rules names picks (at + 1) rest).rows) a b.1)
 
 -- one record is read and refused
-pub below-refused : (rules : Rules) (names : ℕ) (picks : List Pick) (at : ℕ) (old now : Option (List Record)) (f : Record) (c : Cause) (text : Option (List ℕ))
-    → Takes old f now → row_made rules names picks f ≡ Err c → Becomes (below rules names picks at) old (Some (record { number = at; cause = c })) text text
+pub below-refused : (rules : Rules) (names : ℕ) (picks : List Pick) (at : ℕ) (old now : Option (List Lined)) (f : Lined) (c : Cause) (text : Option (List ℕ))
+    → Takes old f now → row_made rules names picks f.fields ≡ Err c → Becomes (below rules names picks at) old (Some (record { number = at; line = Some f.line; cause = c })) text text
 unfolding rows_text
 below-refused rules names picks at None now f c text t e = tt
 below-refused rules names picks at (Some rows) None f c text t e = absurd t
 below-refused rules names picks at (Some rows) (Some rest) f c text t e = rw (t, e) (refl, stays text)
 
 -- there is no more record
-pub below-over : (rules : Rules) (names : ℕ) (picks : List Pick) (at : ℕ) (old : Option (List Record)) (text : Option (List ℕ))
+pub below-over : (rules : Rules) (names : ℕ) (picks : List Pick) (at : ℕ) (old : Option (List Lined)) (text : Option (List ℕ))
     → IsOver old → Becomes (below rules names picks at) old None text text
 unfolding rows_text
 below-over rules names picks at None text over = tt
@@ -98,12 +106,12 @@ refused-is (Ok row) c made is = cc is.0
 refused-is (Err d) c made is = ap Err (cc is)
 
 -- the names are written, and then the records below them
-pub under-ok : (rules : Rules) (names : Record) (at : ℕ) (plan : Plan) (rows : Option (List Record)) (refusal : Option Refusal) (old mid new : Option (List ℕ))
+pub under-ok : (rules : Rules) (names : Record) (line at : ℕ) (plan : Plan) (rows : Option (List Lined)) (refusal : Option Refusal) (old mid new : Option (List ℕ))
     → Begins rules names (Ok plan) old mid → Becomes (below rules plan.names plan.picks.items at) rows refusal mid new
-    → Becomes (under rules names at) rows refusal old new
+    → Becomes (under rules names line at) rows refusal old new
 unfolding rows_text
-under-ok rules names at plan None refusal old mid new is b = tt
-under-ok rules names at plan (Some rows) refusal old mid new is b =
+under-ok rules names line at plan None refusal old mid new is b = tt
+under-ok rules names line at plan (Some rows) refusal old mid new is b =
     let h = rw is.1 at b in
     rw is.0 (
       h.0,
@@ -112,40 +120,40 @@ under-ok rules names at plan (Some rows) refusal old mid new is b =
     )
 
 -- no columns are found
-pub under-err : (rules : Rules) (names : Record) (at : ℕ) (c : Cause) (rows : Option (List Record)) (old new : Option (List ℕ))
-    → Begins rules names (Err c) old new → Becomes (under rules names at) rows (Some (record { number = rules.skip + 1; cause = c })) old new
+pub under-err : (rules : Rules) (names : Record) (line at : ℕ) (c : Cause) (rows : Option (List Lined)) (old new : Option (List ℕ))
+    → Begins rules names (Err c) old new → Becomes (under rules names line at) rows (Some (record { number = rules.skip + 1; line = Some line; cause = c })) old new
 unfolding rows_text
-under-err rules names at c None old new is = tt
-under-err rules names at c (Some rows) old new is = rw (is.0, is.1) (refl, stays old)
+under-err rules names line at c None old new is = tt
+under-err rules names line at c (Some rows) old new is = rw (is.0, is.1) (refl, stays old)
 
 -- a first record that is kept, before those that are left
-abbrev pub with_first : Record → Option (List Record) → Option (List Record)
-with_first first rows = option_map (λ (rs : List Record). first ∷ rs) rows
+abbrev pub with_first : Lined → Option (List Lined) → Option (List Lined)
+with_first first rows = option_map (λ (rs : List Lined). first ∷ rs) rows
 
-pub first-takes : (first : Record) (rows : Option (List Record)) → Takes (with_first first rows) first rows
+pub first-takes : (first : Lined) (rows : Option (List Lined)) → Takes (with_first first rows) first rows
 first-takes first None = tt
 first-takes first (Some rows) = refl
 
-pub from-under : (rules : Rules) (first : Record) (rows : Option (List Record)) (refusal : Option Refusal) (old new : Option (List ℕ))
-    → Becomes (under rules (counted_names (length first)) (rules.skip + 1)) (with_first first rows) refusal old new → Becomes (from_first rules first) rows refusal old new
+pub from-under : (rules : Rules) (first : Lined) (rows : Option (List Lined)) (refusal : Option Refusal) (old new : Option (List ℕ))
+    → Becomes (under rules (counted_names (length first.fields)) first.line (rules.skip + 1)) (with_first first rows) refusal old new → Becomes (from_first rules first) rows refusal old new
 from-under rules first None refusal old new b = tt
 from-under rules first (Some rows) refusal old new b = b
 
 -- the records that aren't left out
-pub none-kept : (rules : Rules) (rows : Option (List Record)) (text : Option (List ℕ)) → IsOver (option_map (drop rules.skip) rows)
-    → Becomes (prepared rules) rows (Some (record { number = rules.skip + 1; cause = cause.NoHeader })) text text
+pub none-kept : (rules : Rules) (rows : Option (List Lined)) (text : Option (List ℕ)) → IsOver (option_map (drop rules.skip) rows)
+    → Becomes (prepared rules) rows (Some (record { number = rules.skip + 1; line = None; cause = cause.NoHeader })) text text
 unfolding rows_text
 none-kept rules None text over = tt
 none-kept rules (Some rows) text over = rw over (refl, stays text)
 
-pub kept-under : (rules : Rules) (first : Record) (rows left : Option (List Record)) (refusal : Option Refusal) (old new : Option (List ℕ))
+pub kept-under : (rules : Rules) (first : Lined) (rows left : Option (List Lined)) (refusal : Option Refusal) (old new : Option (List ℕ))
     → Takes (option_map (drop rules.skip) rows) first left → rules.has_names ≡ true
-    → Becomes (under rules first (rules.skip + 2)) left refusal old new → Becomes (prepared rules) rows refusal old new
+    → Becomes (under rules first.fields first.line (rules.skip + 2)) left refusal old new → Becomes (prepared rules) rows refusal old new
 kept-under rules first None left refusal old new t has b = tt
 kept-under rules first (Some rows) None refusal old new t has b = absurd t
 kept-under rules first (Some rows) (Some left) refusal old new t has b = rw (t, has) b
 
-pub kept-from : (rules : Rules) (first : Record) (rows left : Option (List Record)) (refusal : Option Refusal) (old new : Option (List ℕ))
+pub kept-from : (rules : Rules) (first : Lined) (rows left : Option (List Lined)) (refusal : Option Refusal) (old new : Option (List ℕ))
     → Takes (option_map (drop rules.skip) rows) first left → rules.has_names ≡ false
     → Becomes (from_first rules first) left refusal old new → Becomes (prepared rules) rows refusal old new
 kept-from rules first None left refusal old new t has b = tt
@@ -153,8 +161,16 @@ kept-from rules first (Some rows) None refusal old new t has b = absurd t
 kept-from rules first (Some rows) (Some left) refusal old new t has b = rw (t, has) b
 
 -- what comes of a call comes of its caller
-pub then-ok : (ideal whole : List Record → Outcome) (rows all : Option (List Record)) (mid old new : Option (List ℕ)) (r : Result (Option Refusal) Failure)
+pub then-ok : (ideal whole : List Lined → Outcome) (rows all : Option (List Lined)) (mid old new : Option (List ℕ)) (r : Result (Option Refusal) Failure)
     → ((refusal : Option Refusal) → Becomes ideal rows refusal mid new → Becomes whole all refusal old new)
     → IfOk r (λ refusal. Becomes ideal rows refusal mid new) → IfOk r (λ refusal. Becomes whole all refusal old new)
 then-ok ideal whole rows all mid old new (Ok refusal) f h = f refusal h
 then-ok ideal whole rows all mid old new (Err e) f h = h
+
+-- the records of a text come of the text
+pub text_ok : (rules : Rules) (known : Option (List ℕ)) (rows : Option (List Lined)) (refusal : Option Refusal) (old mid new : Option (List ℕ))
+    → Stays (option_map (text_records (marks_of rules)) known) rows → Becomes (prepared rules) rows refusal old mid → Keeps mid new
+    → IsPrepared rules known refusal old new
+text_ok rules None rows refusal old mid new s b k = tt
+text_ok rules (Some text) None refusal old mid new s b k = absurd s
+text_ok rules (Some text) (Some rows) refusal old mid new s b k = rw (sym s) (b.0, ends-so old mid new (rows_text (prepared rules rows).rows) b.1 k)

@@ -4,7 +4,7 @@ use Rattle.std.proofs.lemmas.Bool.{cases_Bool, eqb-true}
 use Rattle.std.specs.Prelude.{◌==◌, if◌then◌else◌}
 use Rattle.std.specs.Char.{is_ascii_digit}
 use Rattle.csv.specs.Machine.{is_byte}
-use Rattle.prepare_rules.specs.Numbers.{KeepsWorth, Worth, after_byte, behind, digits_in, is_below, mark_byte, plain, spells, spells_from, worth}
+use Rattle.prepare_rules.specs.Numbers.{KeepsWorth, Worth, after_byte, behind, digits_in, is_below, mark_byte, plain, spells, spells_from}
 use Rattle.prepare_rules.specs.declared.number.Place.{Place}
 use Rattle.prepare_rules.specs.declared.number.Place.TheVariants as place
 use Rattle.prepare_rules.specs.declared.rules.Mark.{Mark}

@@ -6,7 +6,9 @@ use Rattle.csv.specs.Writing.{default_writer, fields_written, has_written, row_t
 use Rattle.csv.specs.declared.writer.Writer.{Writer}
 use Rattle.prepare_rules.specs.Columns.{from_on, names_written, picks_of}
 use Rattle.prepare_rules.specs.Made.{row_made}
-use Rattle.prepare_rules.specs.Records.{Record, format, text_records}
+use Rattle.prepare_rules.specs.Records.{Record}
+use Rattle.prepare_text.specs.Walk.{Lined, text_records}
+use Rattle.prepare_text.specs.declared.place.Marks.{Marks}
 use Rattle.prepare_rules.specs.declared.cause.Cause.{Cause}
 use Rattle.prepare_rules.specs.declared.cause.Cause.TheVariants as cause
 use Rattle.prepare_rules.specs.declared.cause.Refusal.{Refusal}
@@ -22,46 +24,46 @@ pub record Outcome : Type 0 where
 abbrev pub all_done : Outcome
 all_done = record { rows = []; refusal = None }
 
--- this record is refused
-abbrev pub refused : ℕ → Cause → Outcome
-refused at c = record { rows = []; refusal = Some (record { number = at; cause = c }) }
+-- this record is refused, which begins on this line, if it is there
+abbrev pub refused : ℕ → Option ℕ → Cause → Outcome
+refused at line c = record { rows = []; refusal = Some (record { number = at; line = line; cause = c }) }
 
 -- this record is written, and then the rest
 abbrev pub with_row : Record → Outcome → Outcome
 with_row row rest = record { rows = row ∷ rest.rows; refusal = rest.refusal }
 
-abbrev pub made_first : ℕ → Result Record Cause → Outcome → Outcome
-made_first at (Err c) rest = refused at c
-made_first at (Ok row) rest = with_row row rest
+abbrev pub made_first : ℕ → ℕ → Result Record Cause → Outcome → Outcome
+made_first at line (Err c) rest = refused at (Some line) c
+made_first at line (Ok row) rest = with_row row rest
 
 -- the records below the names, of which the first has this number
-abbrev pub below : Rules → ℕ → List Pick → ℕ → List Record → Outcome
+abbrev pub below : Rules → ℕ → List Pick → ℕ → List Lined → Outcome
 below rules names picks at [] = all_done
-below rules names picks at (r ∷ rows) = made_first at (row_made rules names picks r) (below rules names picks (at + 1) rows)
+below rules names picks at (r ∷ rows) = made_first at r.line (row_made rules names picks r.fields) (below rules names picks (at + 1) rows)
 
--- the names that are written, and the records below them
-abbrev pub under_picks : Rules → Record → ℕ → List Record → Result (List Pick) Cause → Outcome
-under_picks rules names at rows (Err c) = refused (rules.skip + 1) c
-under_picks rules names at rows (Ok picks) = with_row (names_written rules names picks) (below rules (length names) picks at rows)
+-- the names that are written, and the records below them; the names were found on this line
+abbrev pub under_picks : Rules → Record → ℕ → ℕ → List Lined → Result (List Pick) Cause → Outcome
+under_picks rules names line at rows (Err c) = refused (rules.skip + 1) (Some line) c
+under_picks rules names line at rows (Ok picks) = with_row (names_written rules names picks) (below rules (length names) picks at rows)
 
-abbrev pub under : Rules → Record → ℕ → List Record → Outcome
-under rules names at rows = under_picks rules names at rows (picks_of rules names)
+abbrev pub under : Rules → Record → ℕ → ℕ → List Lined → Outcome
+under rules names line at rows = under_picks rules names line at rows (picks_of rules names)
 
 -- so many names: c1, c2, ..
 abbrev pub counted_names : ℕ → Record
 counted_names n = map (λ k. codes "c" ++ decimal k) (from_on 1 n)
 
 -- this record and those behind it, below names by their numbers
-abbrev pub from_first : Rules → Record → List Record → Outcome
-from_first rules first rows = under rules (counted_names (length first)) (rules.skip + 1) (first ∷ rows)
+abbrev pub from_first : Rules → Lined → List Lined → Outcome
+from_first rules first rows = under rules (counted_names (length first.fields)) first.line (rules.skip + 1) (first ∷ rows)
 
 -- the records that aren't left out
-abbrev pub kept : Rules → List Record → Outcome
-kept rules [] = refused (rules.skip + 1) cause.NoHeader
-kept rules (first ∷ rows) = if rules.has_names then under rules first (rules.skip + 2) rows else from_first rules first rows
+abbrev pub kept : Rules → List Lined → Outcome
+kept rules [] = refused (rules.skip + 1) None cause.NoHeader
+kept rules (first ∷ rows) = if rules.has_names then under rules first.fields first.line (rules.skip + 2) rows else from_first rules first rows
 
 -- WHAT BECOMES OF ALL RECORDS
-abbrev pub prepared : Rules → List Record → Outcome
+abbrev pub prepared : Rules → List Lined → Outcome
 prepared rules rows = kept rules (drop rules.skip rows)
 
 -- the text of records, as coop_cli reads them
@@ -70,7 +72,7 @@ rows_text [] = []
 rows_text (row ∷ rows) = row_text default_writer row ++ rows_text rows
 
 -- known records came to this: what was written is their text, and this one was refused
-abbrev pub Becomes : (List Record → Outcome) → Option (List Record) → Option Refusal → Option (List ℕ) → Option (List ℕ) → Type 0
+abbrev pub Becomes : (List Lined → Outcome) → Option (List Lined) → Option Refusal → Option (List ℕ) → Option (List ℕ) → Type 0
 Becomes ideal None refusal old new = ⊤
 Becomes ideal (Some rows) refusal old new = (refusal ≡ (ideal rows).refusal) × Appends old new (rows_text (ideal rows).rows)
 
@@ -86,11 +88,14 @@ Begins rules names (Ok plan) old new = (picks_of rules names ≡ Ok plan.picks.i
     × Appends old new (row_text default_writer (names_written rules names plan.picks.items))
 Begins rules names (Err c) old new = (picks_of rules names ≡ Err c) × (new ≡ old)
 
+abbrev pub marks_of : Rules → Marks
+marks_of rules = record { delimiter = rules.delimiter; quote = rules.quote }
+
 -- the text of an export, where it is known, became this
 abbrev pub IsPrepared : Rules → Option (List ℕ) → Option Refusal → Option (List ℕ) → Option (List ℕ) → Type 0
 IsPrepared rules None refusal old new = ⊤
-IsPrepared rules (Some text) refusal old new = Becomes (prepared rules) (Some (text_records (format rules.delimiter rules.quote) text)) refusal old new
+IsPrepared rules (Some text) refusal old new = Becomes (prepared rules) (Some (text_records (marks_of rules) text)) refusal old new
 
 -- the records that are written are those of the text that is written
 abbrev pub ReadsBack : Type 0
-ReadsBack = (rules : Rules) (rows : List Record) → records default_config (rows_text (prepared rules rows).rows) ≡ (prepared rules rows).rows
+ReadsBack = (rules : Rules) (rows : List Lined) → records default_config (rows_text (prepared rules rows).rows) ≡ (prepared rules rows).rows

@@ -10,7 +10,6 @@ mod laws;
 mod names;
 mod number;
 mod preparing;
-mod records;
 mod row;
 mod rules;
 mod trimming;

@@ -2,58 +2,78 @@
 ghost use Rattle.std.specs.Prelude.{◌≡◌, ◌<◌, ◌+◌, ◌^◌, IfOk, Ok, drop, false, option_map, true};
 ghost use Rattle.csv.specs.Records.{fields_of};
 ghost use Rattle.csv.specs.Writing.{text_written};
-ghost use Rattle.prepare_rules.specs.Outcome.{Becomes, Begins, IsPrepared, IsWriting, below, from_first, prepared, under};
-ghost use Rattle.prepare_rules.specs.Records.{IsOver, Takes, TakesEach, records_left};
+ghost use Rattle.prepare_rules.specs.Outcome.{Becomes, Begins, IsPrepared, IsWriting};
+ghost use Rattle.prepare_rules.specs.Outcome.{below, from_first, marks_of, prepared, under};
+ghost use Rattle.prepare_text.specs.Source.{IsOver, Stays, Takes, begun, left, record_of};
+ghost use Rattle.prepare_text.specs.Walk.{text_records};
 
 use crate::cause::{Cause, Refusal};
 use crate::columns::{Plan, picks_of};
 use crate::failure::Failure;
 use crate::names::{counted_names, make_names};
-use crate::records::{next_record, reader_of};
 use crate::row::make_row;
 use crate::rules::Rules;
 use crate::writing::{finish, put};
-use csv::{ByteRecord, Reader, Writer, WriterBuilder};
+use csv::{ByteRecord, Writer, WriterBuilder};
+use prepare_text::{Marks, Source};
 use std::alloc::Global;
 use std::io::{Read, Write};
 
 /// The most records below the names.
 const MOST_RECORDS: u64 = 1 << 62;
 
-/// Reads the records of an export and writes what the rules make of them, one by one, to the output, which is given back
-/// with the first record that is refused, if there is one. Memory is bounded by the longest record and the rules.
+/// Reads the records of an export and writes what the rules make of them, one by one, to the output, which is given
+/// back with the first record that is refused, if there is one. Memory is bounded by the longest record and the rules.
 ///
 /// # Errors
 ///
 /// What breaks it off whatever the rules say; the output is dropped then, and how much of it was written is not known.
+#[tactic(auto, using(crate::proofs::Going::text_ok))]
 pub fn prepare<R: Read + Drop, W: Write + Drop>(
     alloc: Global,
     rules: &Rules<'_>,
     input: R,
     output: W,
 ) -> Result<(W, Option<Refusal>), Failure>
-    ensures { IfOk result (λ p. IsPrepared rules.now (R.remaining input) p.1 (W.contents output) (W.contents p.0)) }
+    ensures { IfOk result (λ p. IsPrepared rules.now (R.remaining input) p.1
+        (W.contents output) (W.contents p.0)) }
 {
-    let mut reader = reader_of(alloc, rules.delimiter, rules.quote, input);
+    let mut source = source_of(alloc, rules, input)?;
     let mut writer = WriterBuilder::new().from_writer(output);
-    let refusal = copy(alloc, rules, &mut reader, &mut writer)?;
+    let refusal = copy(alloc, rules, &mut source, &mut writer)?;
     Ok((finish(writer)?, refusal))
+}
+
+// The records of the export.
+fn source_of<R: Read + Drop>(
+    alloc: Global,
+    rules: &Rules<'_>,
+    input: R,
+) -> Result<Source<R>, Failure>
+    ensures { IfOk result (λ source. Stays (option_map (text_records (marks_of rules.now)) (R.remaining input))
+        (left R.remaining source)) }
+{
+    let marks = Marks {
+        delimiter: rules.delimiter,
+        quote: rules.quote,
+    };
+    Ok(Source::new(alloc, marks, input)?)
 }
 
 // Copies all records of a reader.
 fn copy<R: Read, W: Write + Drop>(
     alloc: Global,
     rules: &Rules<'_>,
-    reader: &mut Reader<R>,
+    reader: &mut Source<R>,
     writer: &mut Writer<W>,
 ) -> Result<Option<Refusal>, Failure>
-    requires each { TakesEach reader.old }
-    requires writing { IsWriting writer.old }
-    ensures { IfOk result (λ refusal. Becomes (prepared rules.now) (records_left R.remaining reader.old) refusal (text_written W.contents writer.old) (text_written W.contents writer.new)) }
+    requires { IsWriting writer.old }
+    ensures { IfOk result (λ refusal. Becomes (prepared rules.now) (left R.remaining reader.old)
+        refusal (text_written W.contents writer.old) (text_written W.contents writer.new)) }
 {
     let mut row = ByteRecord::new(alloc);
     if !first_kept(rules.skip, reader, &mut row)? {
-        return Ok(Some(refused(rules.skip, Cause::NoHeader)));
+        return Ok(Some(refused(rules.skip, None, Cause::NoHeader)));
     }
     if rules.has_names {
         return copy_under(alloc, rules, &row, reader, writer);
@@ -61,16 +81,28 @@ fn copy<R: Read, W: Write + Drop>(
     copy_from(alloc, rules, &row, reader, writer)
 }
 
+// Puts the next record into `row`, and says whether there was one.
+fn next_record<R: Read>(reader: &mut Source<R>, row: &mut ByteRecord) -> Result<bool, Failure>
+    ensures found { result ≡ Ok true → Takes (left R.remaining reader.old)
+        (record_of (begun reader.new) (fields_of row.new)) (left R.remaining reader.new) }
+    ensures ended { result ≡ Ok false → IsOver (left R.remaining reader.old) }
+{
+    match reader.next(row) {
+        Ok(true) => return Ok(true),
+        Ok(false) => return Ok(false),
+        Err(fault) => return Err(Failure::from(fault)),
+    }
+}
+
 // Puts the first record that isn't left out into `row`, and says whether there is one.
 fn first_kept<R: Read>(
     skip: u32,
-    reader: &mut Reader<R>,
+    reader: &mut Source<R>,
     row: &mut ByteRecord,
 ) -> Result<bool, Failure>
-    requires { TakesEach reader.old }
-    ensures each { result ≡ Ok true → TakesEach reader.new }
-    ensures found { result ≡ Ok true → Takes (option_map (drop skip) (records_left R.remaining reader.old)) (fields_of row.new) (records_left R.remaining reader.new) }
-    ensures ended { result ≡ Ok false → IsOver (option_map (drop skip) (records_left R.remaining reader.old)) }
+    ensures found { result ≡ Ok true → Takes (option_map (drop skip) (left R.remaining reader.old))
+        (record_of (begun reader.new) (fields_of row.new)) (left R.remaining reader.new) }
+    ensures ended { result ≡ Ok false → IsOver (option_map (drop skip) (left R.remaining reader.old)) }
 {
     for _done in 0..skip {
         if !next_record(reader, row)? {
@@ -81,11 +113,12 @@ fn first_kept<R: Read>(
 }
 
 // The refusal of the first record that isn't left out.
-fn refused(skip: u32, cause: Cause) -> Refusal
-    ensures { result ≡ record { number = skip + 1; cause = cause } }
+fn refused(skip: u32, line: Option<u64>, cause: Cause) -> Refusal
+    ensures { result ≡ record { number = skip + 1; line = line; cause = cause } }
 {
     Refusal {
         number: skip as u64 + 1,
+        line,
         cause,
     }
 }
@@ -95,19 +128,20 @@ fn copy_under<R: Read, W: Write + Drop>(
     alloc: Global,
     rules: &Rules<'_>,
     names: &ByteRecord,
-    reader: &mut Reader<R>,
+    reader: &mut Source<R>,
     writer: &mut Writer<W>,
 ) -> Result<Option<Refusal>, Failure>
-    requires each { TakesEach reader.old }
-    requires writing { IsWriting writer.old }
-    ensures { IfOk result (λ refusal. Becomes (under rules.now (fields_of names.now) (rules.now.skip + 2)) (records_left R.remaining reader.old) refusal (text_written W.contents writer.old) (text_written W.contents writer.new)) }
+    requires { IsWriting writer.old }
+    ensures { IfOk result (λ refusal. Becomes
+        (under rules.now (fields_of names.now) (begun reader.old) (rules.now.skip + 2)) (left R.remaining reader.old)
+        refusal (text_written W.contents writer.old) (text_written W.contents writer.new)) }
 {
     match begin(alloc, rules, names, writer)? {
         Ok(plan) => {
             let first = rules.skip as u64 + 2;
             return copy_below(alloc, rules, &plan, first, reader, writer);
         }
-        Err(cause) => return Ok(Some(refused(rules.skip, cause))),
+        Err(cause) => return Ok(Some(refused(rules.skip, Some(reader.line()), cause))),
     }
 }
 
@@ -116,22 +150,24 @@ fn copy_from<R: Read, W: Write + Drop>(
     alloc: Global,
     rules: &Rules<'_>,
     row: &ByteRecord,
-    reader: &mut Reader<R>,
+    reader: &mut Source<R>,
     writer: &mut Writer<W>,
 ) -> Result<Option<Refusal>, Failure>
-    requires each { TakesEach reader.old }
-    requires writing { IsWriting writer.old }
-    ensures { IfOk result (λ refusal. Becomes (from_first rules.now (fields_of row.now)) (records_left R.remaining reader.old) refusal (text_written W.contents writer.old) (text_written W.contents writer.new)) }
+    requires { IsWriting writer.old }
+    ensures { IfOk result (λ refusal. Becomes
+        (from_first rules.now (record_of (begun reader.old) (fields_of row.now))) (left R.remaining reader.old)
+        refusal (text_written W.contents writer.old) (text_written W.contents writer.new)) }
 {
+    let line = reader.line();
     let names = counted_names(alloc, row.len())?;
     let plan = match begin(alloc, rules, &names, writer)? {
         Ok(plan) => plan,
-        Err(cause) => return Ok(Some(refused(rules.skip, cause))),
+        Err(cause) => return Ok(Some(refused(rules.skip, Some(line), cause))),
     };
     let mut text = Vec::new(alloc);
     let mut made = ByteRecord::new(alloc);
     if let Some(cause) = make_row(rules, &plan, row, &mut text, &mut made)? {
-        return Ok(Some(refused(rules.skip, cause)));
+        return Ok(Some(refused(rules.skip, Some(line), cause)));
     }
     put(writer, &made)?;
     let first = rules.skip as u64 + 2;
@@ -147,7 +183,8 @@ fn begin<W: Write + Drop>(
 ) -> Result<Result<Plan, Cause>, Failure>
     requires { IsWriting writer.old }
     ensures writing { IfOk result (λ begun. IsWriting writer.new) }
-    ensures begun { IfOk result (λ begun. Begins rules.now (fields_of names.now) begun (text_written W.contents writer.old) (text_written W.contents writer.new)) }
+    ensures begun { IfOk result (λ begun. Begins rules.now (fields_of names.now) begun
+        (text_written W.contents writer.old) (text_written W.contents writer.new)) }
 {
     let picks = match picks_of(alloc, rules, names)? {
         Ok(picks) => picks,
@@ -168,13 +205,14 @@ fn copy_below<R: Read, W: Write + Drop>(
     rules: &Rules<'_>,
     plan: &Plan,
     first: u64,
-    reader: &mut Reader<R>,
+    reader: &mut Source<R>,
     writer: &mut Writer<W>,
 ) -> Result<Option<Refusal>, Failure>
     requires low { first < 2 ^ 63 }
-    requires each { TakesEach reader.old }
     requires writing { IsWriting writer.old }
-    ensures { IfOk result (λ refusal. Becomes (below rules.now plan.now.names plan.now.picks.items first) (records_left R.remaining reader.old) refusal (text_written W.contents writer.old) (text_written W.contents writer.new)) }
+    ensures { IfOk result (λ refusal. Becomes
+        (below rules.now plan.now.names plan.now.picks.items first) (left R.remaining reader.old)
+        refusal (text_written W.contents writer.old) (text_written W.contents writer.new)) }
 {
     let mut row = ByteRecord::new(alloc);
     let mut text = Vec::new(alloc);
@@ -186,6 +224,7 @@ fn copy_below<R: Read, W: Write + Drop>(
         if let Some(cause) = make_row(rules, plan, &row, &mut text, &mut made)? {
             return Ok(Some(Refusal {
                 number: first + done,
+                line: Some(reader.line()),
                 cause,
             }));
         }

@@ -30,24 +30,24 @@ fn prepared(
 
 fn becomes(alloc: Global, rules: &Rules<'_>, export: &[u8], text: &[u8]) -> bool {
     match prepared(alloc, rules, export) {
-        Ok((made, refusal)) => made.as_slice() == text && refusal.is_none(),
+        Ok((made, refused)) => made.as_slice() == text && refused.is_none(),
         Err(_) => false,
     }
 }
 
+// A refusal of the record of this number that begins on this line.
+fn at(number: u64, line: u64, cause: Cause) -> Refusal {
+    Refusal {
+        number,
+        line: Some(line),
+        cause,
+    }
+}
+
 // Whether this text is written, and then this record refused.
-fn ends(
-    alloc: Global,
-    rules: &Rules<'_>,
-    export: &[u8],
-    text: &[u8],
-    number: u64,
-    cause: Cause,
-) -> bool {
+fn ends(alloc: Global, rules: &Rules<'_>, export: &[u8], text: &[u8], refusal: Refusal) -> bool {
     match prepared(alloc, rules, export) {
-        Ok((made, refusal)) => {
-            made.as_slice() == text && refusal == Some(Refusal { number, cause })
-        }
+        Ok((made, refused)) => made.as_slice() == text && refused == Some(refusal),
         Err(_) => false,
     }
 }
@@ -139,15 +139,28 @@ fn short_records(rt: HostRuntime) {
         fields: 1,
         names: 3,
     };
-    assert!(rt; ends(rt.alloc(), &pads, export, b"a,b,c\n1,2,3\n4,,\n", 4, four));
-    assert!(rt; ends(rt.alloc(), &PLAIN, export, b"a,b,c\n1,2,3\n", 3, one));
+    assert!(rt;
+        ends(
+            rt.alloc(),
+            &pads,
+            export,
+            b"a,b,c\n1,2,3\n4,,\n",
+            at(4, 4, four)
+        )
+    );
+    assert!(rt; ends(rt.alloc(), &PLAIN, export, b"a,b,c\n1,2,3\n", at(3, 3, one)));
 }
 
 #[test]
 fn nothing_to_write(rt: HostRuntime) {
     let alloc = rt.alloc();
     let skips = Rules { skip: 3, ..PLAIN };
-    assert!(rt; ends(alloc, &skips, b"a\nb\nc\n", b"", 4, Cause::NoHeader));
+    let none = Refusal {
+        number: 4,
+        line: None,
+        cause: Cause::NoHeader,
+    };
+    assert!(rt; ends(alloc, &skips, b"a\nb\nc\n", b"", none));
     let lacks = Rules {
         columns: &[Column::Named("a"), Column::Placed(2)],
         ..PLAIN
@@ -158,8 +171,7 @@ fn nothing_to_write(rt: HostRuntime) {
             &lacks,
             b"a\n1\n",
             b"",
-            1,
-            Cause::NoColumn { word: 1 }
+            at(1, 1, Cause::NoColumn { word: 1 })
         )
     );
     let numbers = Rules {
@@ -172,8 +184,7 @@ fn nothing_to_write(rt: HostRuntime) {
             &numbers,
             b"a\n1\n",
             b"",
-            1,
-            Cause::NoNumbers { word: 0 }
+            at(1, 1, Cause::NoNumbers { word: 0 })
         )
     );
     let renames = Rules {
@@ -186,10 +197,37 @@ fn nothing_to_write(rt: HostRuntime) {
             &renames,
             b"a\n1\n",
             b"",
-            1,
-            Cause::NoName { word: 0 }
+            at(1, 1, Cause::NoName { word: 0 })
         )
     );
     let wide = b"1,2,3,4,5,6,7,8,9,10,11,12,13,14,15,16,17\n";
-    assert!(rt; ends(alloc, &PLAIN, wide, b"", 1, Cause::Columns { columns: 17 }));
+    assert!(rt;
+        ends(
+            alloc,
+            &PLAIN,
+            wide,
+            b"",
+            at(1, 1, Cause::Columns { columns: 17 })
+        )
+    );
+}
+
+#[test]
+fn the_line_of_a_record(rt: HostRuntime) {
+    let two = Cause::Fields {
+        fields: 2,
+        names: 1,
+    };
+    let alloc = rt.alloc();
+    assert!(rt;
+        ends(
+            alloc,
+            &PLAIN,
+            b"a\r\n\r\n\"x\ny\"\n1,2\n",
+            b"a\n\"x\ny\"\n",
+            at(3, 5, two)
+        )
+    );
+    assert!(rt; ends(alloc, &PLAIN, b"a\r\r1,2", b"a\n", at(2, 3, two)));
+    assert!(rt; ends(alloc, &PLAIN, b"a\n\"1\n2\n\",2\n3", b"a\n", at(2, 2, two)));
 }

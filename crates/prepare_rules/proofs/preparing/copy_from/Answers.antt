@@ -4,50 +4,53 @@ use Rattle.csv.specs.Writing.{text_written}
 use Rattle.prepare_rules.proofs.Going.{below-next, below-refused, first-takes, from-under, made-is, refused-is, then-ok, under-err, under-ok, with_first}
 use Rattle.prepare_rules.specs.Made.{row_made}
 use Rattle.prepare_rules.specs.Outcome.{below, counted_names, from_first}
-use Rattle.prepare_rules.specs.Records.{records_left}
+use Rattle.prepare_text.specs.Source.{begun, left, record_of}
 use Rattle.prepare_rules.proofs.preparing.copy_from.Goals as goal
 
 pub returns-in-Err : goal.returns-in-Err
 returns-in-Err g c =
     let rules = c.args.rules.now in
-    let first = fields_of c.args.row.now in
-    let rows = records_left g.R.Read.remaining c.args.reader.now in
+    let line = begun c.args.reader.now in
+    let first = record_of line (fields_of c.args.row.now) in
+    let rows = left g.R.Read.remaining c.args.reader.now in
     let old = text_written g.W.Write.contents c.args.writer.now in
     let new = text_written g.W.Write.contents c.begin.new.writer in
-    rw c.refused.ensures (from-under rules first rows (Some (record { number = rules.skip + 1; cause = c.in-Err.cause })) old new
-    (under-err rules (counted_names (length first)) (rules.skip + 1) c.in-Err.cause (with_first first rows) old new
+    rw (c.refused.ensures, c.line-line.ensures) (from-under rules first rows (Some (record { number = rules.skip + 1; line = Some line; cause = c.in-Err.cause })) old new
+    (under-err rules (counted_names (length first.fields)) line (rules.skip + 1) c.in-Err.cause (with_first first rows) old new
     (rw (c.in-Err.is, c.in_ok-names.ensures, c.len.ensures) at c.in_ok-plan.ensures.begun)))
 
 pub returns-in-Some : goal.returns-in-Some
 returns-in-Some g c =
     let rules = c.args.rules.now in
-    let first = fields_of c.args.row.now in
+    let line = begun c.args.reader.now in
+    let first = record_of line (fields_of c.args.row.now) in
     let plan = c.in-Ok.plan in
-    let rows = records_left g.R.Read.remaining c.args.reader.now in
+    let rows = left g.R.Read.remaining c.args.reader.now in
     let old = text_written g.W.Write.contents c.args.writer.now in
     let new = text_written g.W.Write.contents c.begin.new.writer in
-    let is = refused-is (row_made rules plan.names plan.picks.items first) c.in-Some.cause (fields_of c.make_row.new.made) (rw c.in-Some.is at c.in_ok-cause.ensures) in
-    rw c.refused-in-Some.ensures (from-under rules first rows (Some (record { number = rules.skip + 1; cause = c.in-Some.cause })) old new
-    (under-ok rules (counted_names (length first)) (rules.skip + 1) plan (with_first first rows) _ old new new
+    let is = refused-is (row_made rules plan.names plan.picks.items first.fields) c.in-Some.cause (fields_of c.make_row.new.made) (rw c.in-Some.is at c.in_ok-cause.ensures) in
+    rw (c.refused-in-Some.ensures, c.line-line.ensures) (from-under rules first rows (Some (record { number = rules.skip + 1; line = Some line; cause = c.in-Some.cause })) old new
+    (under-ok rules (counted_names (length first.fields)) line (rules.skip + 1) plan (with_first first rows) _ old new new
     (rw (c.in-Ok.is, c.in_ok-names.ensures, c.len.ensures) at c.in_ok-plan.ensures.begun)
     (below-refused rules plan.names plan.picks.items (rules.skip + 1) (with_first first rows) rows first c.in-Some.cause new (first-takes first rows) is)))
 
 pub returns : goal.returns
 returns g c =
     let rules = c.args.rules.now in
-    let first = fields_of c.args.row.now in
+    let line = begun c.args.reader.now in
+    let first = record_of line (fields_of c.args.row.now) in
     let plan = c.in-Ok.plan in
-    let rows = records_left g.R.Read.remaining c.args.reader.now in
+    let rows = left g.R.Read.remaining c.args.reader.now in
     let old = text_written g.W.Write.contents c.args.writer.now in
     let begun = text_written g.W.Write.contents c.begin.new.writer in
     let mid = text_written g.W.Write.contents c.put.new.writer in
     let new = text_written g.W.Write.contents c.copy_below.new.writer in
     let made = fields_of c.make_row.new.made in
-    let is = made-is (row_made rules plan.names plan.picks.items first) made (rw c.in_default.is at c.in_ok-cause.ensures) in
+    let is = made-is (row_made rules plan.names plan.picks.items first.fields) made (rw c.in_default.is at c.in_ok-cause.ensures) in
     let e : (rules.skip + 1) + 1 ≡ rules.skip + 2 = omega arith in
     then-ok (below rules plan.names plan.picks.items (rules.skip + 2)) (from_first rules first) rows rows mid old new c.copy_below.result
     (λ refusal h. from-under rules first rows refusal old new
-    (under-ok rules (counted_names (length first)) (rules.skip + 1) plan (with_first first rows) refusal old begun new
+    (under-ok rules (counted_names (length first.fields)) line (rules.skip + 1) plan (with_first first rows) refusal old begun new
     (rw (c.in-Ok.is, c.in_ok-names.ensures, c.len.ensures) at c.in_ok-plan.ensures.begun)
     (below-next rules plan.names plan.picks.items (rules.skip + 1) (with_first first rows) rows first made refusal begun mid new (first-takes first rows) is
     c.in_ok-put.ensures.text (rw e h)))) c.copy_below.ensures

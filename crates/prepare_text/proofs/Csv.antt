@@ -1,14 +1,14 @@
--- What a read of a record does to the records that a reader has left.
-use Rattle.std.proofs.Common.{◌≡◌, ◌+◌, ◌<◌, ◌≤◌, ℕ, zero, suc, true, false, List, [], ◌∷◌, length, Option, Some, None, refl, sym, ap, ◌∙◌, arith, inl, inr, add-one}
-use Rattle.std.specs.Prelude.{option_map, if◌then◌else◌}
+-- Records one behind the other, by csv's own definitions.
+use Rattle.std.proofs.Common.{◌≡◌, ◌+◌, ◌<◌, ◌≤◌, ℕ, zero, suc, true, false, List, [], ◌∷◌, ◌++◌, length, map, Option, Some, None, refl, sym, ap, ◌∙◌, arith, inl, inr, add-one}
 use Rattle.std.proofs.lemmas.Bool.{cases_Bool}
 use Rattle.csv.specs.Machine.{Read, next_record, step, is_end, ends_at_end, fields_after, field_after}
-use Rattle.csv.specs.Reading.{records_from, records_next, NextIs, ReadsNext, ReadRecord, pending_of, source_of}
+use Rattle.csv.specs.Reading.{records_from, records_next, strip_bom}
+use Rattle.csv.specs.declared.parser.Action.{Action}
+use Rattle.csv.specs.declared.parser.Action.TheVariants as action
 use Rattle.csv.specs.declared.parser.Config.{Config}
 use Rattle.csv.specs.declared.parser.State.{State}
 use Rattle.csv.specs.declared.parser.State.TheVariants as st
-use Rattle.csv.specs.declared.reader.Reader.{Reader}
-use Rattle.prepare_rules.specs.Records.{IsOver, Takes, TakesEach, records_at, records_left}
+use Rattle.prepare_text.specs.Walk.{AreCsvs, Lined, Walk, at_begin, format, lined, onward, records_at, walked}
 
 -- what is left after a record is no longer than what it was read from
 next-no_longer : (cfg : Config) (s : State) (f : List (List ℕ)) (p : List ℕ) (xs : List ℕ) (q : Read) → next_record cfg s f p xs ≡ Some q → length q.2 ≤ length xs
@@ -81,58 +81,37 @@ pub left-none : (cfg : Config) (s : State) (xs : List ℕ) → next_record cfg s
 unfolding records_from
 left-none cfg s xs e = rw (add-one, e) refl
 
-next-some : (o : Option Read) (f : List (List ℕ)) (s : State) (z : List ℕ) → NextIs o true f s z → (q : Read) × (o ≡ Some q) × (f ≡ q.0) × (s ≡ q.1) × (z ≡ q.2)
-next-some None f s z n = cc n
-next-some (Some q) f s z n = (q, refl, n.1, n.2, n.3)
+by-next : (cfg : Config) (s : State) (xs : List ℕ) (o : Option Read) → ends_at_end s ≡ false → next_record cfg s [] [] xs ≡ o
+    → records_at cfg s xs ≡ records_next (records_at cfg) o
+by-next cfg s xs None start e = left-none cfg s xs e
+by-next cfg s xs (Some q) start e = left-more cfg s xs q start e
 
-next-none : (o : Option Read) (f : List (List ℕ)) (s : State) (z : List ℕ) → NextIs o false f s z → o ≡ None
-next-none None f s z n = refl
-next-none (Some q) f s z n = cc n.0
+-- between two records, what is read next decides
+at-next : (cfg : Config) (s : State) (xs : List ℕ) → ends_at_end s ≡ false → records_at cfg s xs ≡ records_next (records_at cfg) (next_record cfg s [] [] xs)
+at-next cfg s xs start = by-next cfg s xs (next_record cfg s [] [] xs) start refl
 
--- the same, by the names that a read gives its parts
-renamed : (cfg : Config) (l : List (List (List ℕ))) (q : Read) (f : List (List ℕ)) (s : State) (z : List ℕ) → f ≡ q.0 → s ≡ q.1 → z ≡ q.2
-    → l ≡ q.0 ∷ records_at cfg q.1 q.2 → l ≡ f ∷ records_at cfg s z
-renamed cfg l q f s z ef es ez h = rw (ef, es, ez) h
+end-clears : (a : Action) (c : ℕ) (p : List ℕ) → is_end a ≡ true → field_after a c p ≡ []
+end-clears action.EndRecord c p e = refl
+end-clears action.Skip c p e = cc e
+end-clears action.Copy c p e = cc e
+end-clears action.EndField c p e = cc e
 
-takes-known : (cfg : Config) (s s2 : State) (known after : Option (List ℕ)) (f : List (List ℕ)) → ends_at_end s ≡ false → ReadsNext cfg s known after true f s2
-    → Takes (option_map (records_at cfg s) known) f (if ends_at_end s2 then None else option_map (records_at cfg s2) after)
-takes-known cfg s s2 None after f start r = tt
-takes-known cfg s s2 (Some xs) None f start r = absurd r
-takes-known cfg s s2 (Some xs) (Some z) f start r =
-    let (q, e, ef, es, ez) = next-some (next_record cfg s [] [] xs) f s2 z r in
-    rw (ap ends_at_end es ∙ next-start cfg s [] [] xs q e) (renamed cfg (records_at cfg s xs) q f s2 z ef es ez (left-more cfg s xs q start e))
+-- ---- the records of a walk are those of csv
 
-over-known : (cfg : Config) (s s2 : State) (known after : Option (List ℕ)) (f : List (List ℕ)) → ReadsNext cfg s known after false f s2
-    → IsOver (option_map (records_at cfg s) known)
-over-known cfg s s2 None after f r = tt
-over-known cfg s s2 (Some xs) None f r = absurd r
-over-known cfg s s2 (Some xs) (Some z) f r = left-none cfg s xs (next-none (next_record cfg s [] [] xs) f s2 z r)
-
-takes : (cfg : Config) (s s2 : State) (known after : Option (List ℕ)) (f : List (List ℕ)) → ReadsNext cfg s known after true f s2
-    → Takes (if ends_at_end s then None else option_map (records_at cfg s) known) f (if ends_at_end s2 then None else option_map (records_at cfg s2) after)
-takes cfg s s2 known after f r = elim (cases_Bool (ends_at_end s)) [
-  | inl so ↦ rw so tt
-  | inr not ↦ rw not (takes-known cfg s s2 known after f not r)
+fields-next : (cfg : Config) (w : Walk) (xs : List ℕ) → map (λ (r : Lined). r.fields) (lined cfg w xs) ≡ records_next (records_at cfg) (next_record cfg w.state w.fields w.field xs)
+unfolding lined next_record
+fields-next cfg w [] = elim (cases_Bool (ends_at_end w.state)) [
+  | inl so ↦ rw so (ap (λ (l : List (List (List ℕ))). (w.fields ++ (w.field ∷ [])) ∷ l) (sym (left-none cfg st.StartRecord [] refl)))
+  | inr not ↦ rw not refl
+]
+fields-next cfg w (b ∷ xs) = elim (cases_Bool (is_end (step cfg w.state b).1)) [
+  | inl so ↦
+      let done = step cfg w.state b in
+      let here = fields-next cfg (onward (walked cfg w b)) xs ∙ ap (λ (p : List ℕ). records_next (records_at cfg) (next_record cfg done.0 [] p xs)) (end-clears done.1 b w.field so)
+      ∙ sym (at-next cfg done.0 xs (step-end cfg w.state b so)) in
+      rw so (ap (λ (l : List (List (List ℕ))). fields_after done.1 w.fields w.field ∷ l) here)
+  | inr not ↦ rw not (fields-next cfg (walked cfg w b) xs)
 ]
 
-over : (cfg : Config) (s s2 : State) (known after : Option (List ℕ)) (f : List (List ℕ)) → ReadsNext cfg s known after false f s2
-    → IsOver (if ends_at_end s then None else option_map (records_at cfg s) known)
-over cfg s s2 known after f r = elim (cases_Bool (ends_at_end s)) [
-  | inl so ↦ rw so tt
-  | inr not ↦ rw not (over-known cfg s s2 known after f r)
-]
-
--- a reader that found a record takes the next one as it comes, and has lost this one
-pub took : {R : Type 0} (rem : R → Option (List ℕ)) (a b : Reader R) (f : List (List ℕ)) → TakesEach a → ReadRecord rem a b true f
-    → b.first ≡ true → b.flexible ≡ a.flexible → b.failed ≡ a.failed
-    → TakesEach b × Takes (records_left rem a) f (records_left rem b)
-took rem a b f is r first flexible failed =
-    let going : b.failed ≡ false = failed ∙ is.going in
-    let source : source_of rem b ≡ pending_of (rem b.rdr) b = rw r.1 refl in (
-      record { untrimmed = r.3 ∙ is.untrimmed; flexible = flexible ∙ is.flexible; ready = inl first; going = going },
-      rw (source, r.2) (takes a.config a.state b.state (source_of rem a) (pending_of (rem b.rdr) b) f r.0),
-    )
-
-pub ended : {R : Type 0} (rem : R → Option (List ℕ)) (a b : Reader R) (f : List (List ℕ)) → ReadRecord rem a b false f
-    → IsOver (records_left rem a)
-ended rem a b f r = over a.config a.state b.state (source_of rem a) (pending_of (rem b.rdr) b) f r.0
+pub are-csvs : AreCsvs
+are-csvs marks text = fields-next (format marks) at_begin (strip_bom text) ∙ sym (at-next (format marks) st.StartRecord (strip_bom text) refl)
