@@ -1,0 +1,5 @@
+pub mod AsMany
+pub mod GoingOn
+pub mod Knowing
+pub mod Stepping
+pub mod Unmarked
