@@ -1,16 +1,16 @@
 -- As many records begin as csv reads.
-use Rattle.std.proofs.Common.{◌≡◌, ◌+◌, ◌<◌, ◌≤◌, ℕ, zero, suc, Bool, true, false, List, length, Option, Some, None, refl, sym, ap, ◌∙◌, arith, inl, inr, add-one}
-use Rattle.std.specs.Prelude.{[], ◌∷◌, map, if◌then◌else◌}
+use Rattle.std.proofs.Common.{◌≡◌, ◌+◌, ◌<◌, ℕ, zero, suc, Bool, true, false, List, length, Option, Some, None, refl, sym, ap, ◌∙◌, arith, inl, inr}
+use Rattle.std.specs.Prelude.{[], ◌∷◌, map}
 use Rattle.std.proofs.lemmas.Bool.{cases_Bool}
 use Rattle.csv.specs.Machine.{Read, next_record, step, is_end, ends_at_end, fields_after, field_after}
 use Rattle.csv.specs.Reading.{strip_bom}
 use Rattle.csv.specs.declared.parser.Config.{Config}
 use Rattle.csv.specs.declared.parser.State.{State}
 use Rattle.csv.specs.declared.parser.State.TheVariants as st
-use Rattle.prepare_rules.proofs.Left.{left-more, left-none, next-shorter, next-start}
-use Rattle.prepare_rules.specs.Records.{Record, records_at, text_records}
+use Rattle.prepare_look.proofs.Left.{left-more, left-none, next-shorter, next-start}
+use Rattle.prepare_look.specs.Records.{Record, records_at, text_records}
 use Rattle.prepare_look.specs.Lines.{ended, is_return, one_if}
-use Rattle.prepare_look.specs.Rows.{HaveTheirLines, Row, lines_of, rows_of, with_lines}
+use Rattle.prepare_look.specs.Rows.{HaveTheirLines, Row, lines_of, with_lines}
 use Rattle.prepare_look.specs.Walk.{begins, begins_from, format_of}
 use Rattle.prepare_look.specs.declared.place.Marks.{Marks}
 

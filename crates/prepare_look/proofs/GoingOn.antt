@@ -1,5 +1,5 @@
 -- A walk that goes on by one byte.
-use Rattle.std.proofs.Common.{◌≡◌, ◌+◌, ◌<◌, ◌≤◌, ℕ, true, false, List, length, get_or, refl, sym, ◌∙◌, Option, Some, None}
+use Rattle.std.proofs.Common.{◌≡◌, ◌+◌, ◌<◌, ◌≤◌, ℕ, true, false, List, length, get_or, Some, None}
 use Rattle.std.specs.Prelude.{[], ◌∷◌, if◌then◌else◌}
 use Rattle.prepare_look.proofs.Stepping.{begins-done, begins-on, open-done, open-on}
 use Rattle.prepare_look.specs.Spots.{IsAfter, lines_left, mark_after, open_left}

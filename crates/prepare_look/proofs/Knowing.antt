@@ -1,7 +1,7 @@
 -- Records that are known stay known.
-use Rattle.std.proofs.Common.{◌≡◌, ℕ, List, Option, Some, None, refl}
+use Rattle.std.proofs.Common.{◌≡◌, List, Option, Some, None, refl}
 use Rattle.std.specs.Prelude.{[], ◌∷◌, IsSome}
-use Rattle.prepare_rules.specs.Records.{IsOver, Record, Takes}
+use Rattle.prepare_look.specs.Records.{IsOver, Record, Takes}
 use Rattle.prepare_look.specs.Reading.{known}
 
 pub takes-known : (o n : Option (List Record)) (f : Record) → IsSome o → Takes o f n → IsSome n × (known o ≡ f ∷ known n)

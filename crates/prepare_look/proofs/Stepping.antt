@@ -1,5 +1,5 @@
 -- Definitions by recursion over bytes, where a loop stands in the middle of them.
-use Rattle.std.proofs.Common.{◌≡◌, ◌+◌, ◌<◌, ◌≤◌, ℕ, Bool, List, length, drop, get_or, refl, add-one, drop-cons, drop_of_length-le, Option, Some, None}
+use Rattle.std.proofs.Common.{◌≡◌, ◌+◌, ◌<◌, ◌≤◌, ℕ, Bool, List, length, drop, get_or, refl, add-one, drop-cons, drop_of_length-le, Some, None}
 use Rattle.std.specs.Prelude.{[], ◌∷◌, ◌&&◌, if◌then◌else◌}
 use Rattle.csv.specs.Machine.{step}
 use Rattle.csv.specs.declared.parser.Config.{Config}

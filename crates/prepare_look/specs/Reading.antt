@@ -1,8 +1,8 @@
 -- csv's reader over a text in memory.
-use Rattle.std.specs.Prelude.{◌≡◌, ℕ, List, [], Option, Some, None, IsSome}
+use Rattle.std.specs.Prelude.{ℕ, List, [], Option, Some, None, IsSome}
 use Rattle.std.specs.Borrow.{Bor}
 use Rattle.csv.specs.declared.reader.Reader.{Reader}
-use Rattle.prepare_rules.specs.Records.{Record, TakesEach, records_left}
+use Rattle.prepare_look.specs.Records.{Record, TakesEach, records_left}
 
 -- the records that are left, where they are known
 abbrev pub known : Option (List Record) → List Record

@@ -9,7 +9,7 @@ use Rattle.prepare_look.specs.Spots.{lines_left}
 use Rattle.prepare_look.specs.Walk.{begins_from, format_of}
 use Rattle.prepare_look.specs.declared.place.Marks.{Marks}
 use Rattle.prepare_look.specs.declared.spot.Spot.{Spot}
-use Rattle.prepare_rules.specs.Records.{Record, text_records}
+use Rattle.prepare_look.specs.Records.{Record, text_records}
 
 -- a record and the line on which it begins, counted from 1
 pub record Row : Type 0 where

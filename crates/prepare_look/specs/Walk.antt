@@ -8,7 +8,7 @@ use Rattle.prepare_look.specs.Lines.{ended, is_return}
 use Rattle.prepare_look.specs.declared.place.Marks.{Marks}
 use Rattle.prepare_look.specs.declared.place.Place.{Place}
 use Rattle.prepare_look.specs.declared.place.Place.TheVariants as place
-use Rattle.prepare_rules.specs.Records.{format}
+use Rattle.prepare_look.specs.Records.{format}
 
 abbrev pub format_of : Marks → Config
 format_of m = format m.delimiter m.quote

@@ -2,13 +2,13 @@
 ghost use Rattle.std.specs.Prelude.{◌≡◌, ◌≤◌, ◌∷◌, [], Ok, true, false, length, slice_index};
 ghost use Rattle.csv.specs.Reading.{is_bom, strip_bom};
 ghost use Rattle.csv.specs.Records.{fields_of};
-ghost use Rattle.prepare_rules.specs.Records.{text_records};
+ghost use Rattle.prepare_look.specs.Records.{text_records};
 ghost use Rattle.prepare_look.specs.Reading.{IsReading, text_left};
 ghost use Rattle.prepare_look.specs.Walk.{format_of};
 
+use crate::failure::Failure;
 use crate::place::Marks;
 use csv::{ByteRecord, Reader, ReaderBuilder};
-use prepare_rules::Failure;
 use std::alloc::Global;
 
 /// A reader of the records of a text, of any length; one leading byte order mark is no part of it.

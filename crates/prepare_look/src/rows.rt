@@ -4,11 +4,11 @@ ghost use Rattle.csv.specs.Records.{fields_of};
 ghost use Rattle.prepare_look.specs.Rows.{IsGoing, Row, rows_left, rows_of};
 ghost use Rattle.prepare_look.specs.Reading.{text_left};
 
+use crate::failure::Failure;
 use crate::place::Marks;
 use crate::reading::{next_record, reader_of, without_mark};
 use crate::spot::{Spot, next_begin};
 use csv::{ByteRecord, Reader};
-use prepare_rules::Failure;
 use std::alloc::Global;
 use std::marker::Model;
 
@@ -51,6 +51,7 @@ impl<'a> Rows<'a> {
         ensures found { (line : ℕ) → result ≡ Ok (Some line)
             → self.old ≡ record { line = line; fields = fields_of row.new } ∷ self.new }
         ensures ended { result ≡ Ok None → self.old ≡ [] }
+        ensures over { result ≡ Ok None → self.new ≡ [] }
     {
         if self.stopped {
             return Ok(None);

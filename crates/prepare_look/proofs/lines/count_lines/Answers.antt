@@ -1,4 +1,4 @@
-use Rattle.std.proofs.Common.{◌≡◌, ◌<◌, ◌≤◌, ℕ, length, get_or, arith}
+use Rattle.std.proofs.Common.{◌<◌, length, arith}
 use Rattle.prepare_look.proofs.Stepping.{count-done, count-more, ends-done, ends-more, pairs-done, pairs-more}
 use Rattle.prepare_look.specs.Lines.{is_feed, is_return}
 use Rattle.prepare_look.proofs.lines.count_lines.Goals as goal

@@ -1,4 +1,4 @@
-use Rattle.std.proofs.Common.{◌≡◌, ◌<◌, ◌≤◌, ◌∙◌, sym, refl, arith, length}
+use Rattle.std.proofs.Common.{◌<◌, ◌∙◌, sym, arith, length}
 use Rattle.prepare_look.proofs.GoingOn.{open-end, open-go_on}
 use Rattle.prepare_look.proofs.open.open_quote.Goals as goal
 

@@ -1,6 +1,6 @@
 use Rattle.csv.specs.Records.{fields_of}
-use Rattle.prepare_rules.proofs.Left.{took, ended}
-use Rattle.prepare_rules.specs.Records.{records_left}
+use Rattle.prepare_look.proofs.Left.{took, ended}
+use Rattle.prepare_look.specs.Records.{records_left}
 use Rattle.prepare_look.proofs.Knowing.{over-known, takes-known}
 use Rattle.prepare_look.specs.Reading.{bytes_of}
 use Rattle.prepare_look.proofs.reading.next_record.Goals as goal

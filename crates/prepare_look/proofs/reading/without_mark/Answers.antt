@@ -1,4 +1,4 @@
-use Rattle.std.proofs.Common.{◌≡◌, ◌-◌, ◌∙◌, sym, refl, arith, length, drop, take_all, length-drop}
+use Rattle.std.proofs.Common.{◌-◌, ◌∙◌, sym, arith, length, drop, take_all, length-drop}
 use Rattle.prepare_look.proofs.Unmarked.{strip-long, strip-short}
 use Rattle.prepare_look.proofs.reading.without_mark.Goals as goal
 

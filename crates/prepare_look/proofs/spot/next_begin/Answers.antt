@@ -1,4 +1,4 @@
-use Rattle.std.proofs.Common.{◌≡◌, ◌<◌, ◌≤◌, ◌∙◌, sym, refl, arith, length}
+use Rattle.std.proofs.Common.{◌<◌, ◌∙◌, sym, arith, length}
 use Rattle.prepare_look.proofs.GoingOn.{lines-begin, lines-end, lines-go_on}
 use Rattle.prepare_look.proofs.spot.next_begin.Goals as goal
 
