@@ -1,0 +1,10 @@
+pub mod Adding
+pub mod AsMany
+pub mod Cells
+pub mod Fields
+pub mod Folding
+pub mod GoingOn
+pub mod Knowing
+pub mod Left
+pub mod Stepping
+pub mod Unmarked

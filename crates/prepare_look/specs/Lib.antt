@@ -1,0 +1,13 @@
+pub mod Exponents
+pub mod Kinds
+pub mod Lines
+pub mod Missing
+pub mod Reading
+pub mod Records
+pub mod Rows
+pub mod Seeing
+pub mod Shapes
+pub mod Spots
+pub mod Surveys
+pub mod Traits
+pub mod Walk
