@@ -42,9 +42,9 @@ table_places = place (codes "TABLE") ∷ place (codes "BATCH") ∷ []
 abbrev pub output_place : List Rule
 output_place = place (codes "OUTPUT") ∷ []
 
--- a subcommand
+-- a subcommand, which tells the version too
 abbrev pub sub : Text → List Rule → Shape
-sub name rules = record (new_shape name) { rules = rules }
+sub name rules = record (new_shape name) { rules = rules; has_version = true }
 
 abbrev pub explain : Shape
 explain = sub (codes "explain") (cut_rules ++ table_places)

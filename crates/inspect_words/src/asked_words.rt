@@ -10,10 +10,11 @@ ghost use Rattle.inspect_words.specs.Command.{inspect};
 
 use crate::asked::Asked;
 use crate::command::command;
-use crate::refused::{Culprit, Refused};
+use crate::culprit::{Culprit, bare_in, value_in};
+use crate::refused::Refused;
 use clap::ArgMatches;
 use clap::error::ErrorKind;
-use command_words::{Call, Refused as RunRefused, Table, options_of};
+use command_words::{Call, Refused as RunRefused, options_of};
 use std::alloc::Global;
 
 /// What the words after the program's name ask for.
@@ -92,7 +93,7 @@ fn explained<'a>(
 {
     match options_of(alloc, Call::Run, words) {
         Ok(run) => Ok(Asked::Explain { run }),
-        Err(RunRefused::Usage) => Err(Refused::Run(culprit_in(found))),
+        Err(RunRefused::Usage) => Err(Refused::Run(culprit_in(found, words))),
         Err(RunRefused::Memory) => Err(Refused::Memory),
     }
 }
@@ -111,7 +112,9 @@ fn judged<'a>(
     };
     match options_of(alloc, Call::RunBoxed, before) {
         Ok(run) => Ok(Asked::Judge { run, output }),
-        Err(RunRefused::Usage) => Err(Refused::Run(culprit_in(found))),
+        Err(RunRefused::Usage) => Err(Refused::Run(Some(culprit_in(found, before).unwrap_or(
+            Culprit::Last { word: output },
+        )))),
         Err(RunRefused::Memory) => Err(Refused::Memory),
     }
 }
@@ -127,35 +130,10 @@ fn drawn<'a>(found: &ArgMatches<'a>) -> Result<Asked<'a>, Refused<'a>>
     }
 }
 
-// A value by which coop_cli refuses the words of the run, where it is a name that it doesn't know.
-fn culprit_in<'a>(found: &ArgMatches<'a>) -> Option<Culprit<'a>> {
-    if let Some(value) = found.get_str("layout")
-        && !matches!(value, "row" | "column")
-    {
-        return Some(Culprit {
-            name: "--layout",
-            value,
-        });
+// The word for which coop_cli refuses the words of a run, behind the name of the subcommand, that clap takes.
+fn culprit_in<'a>(found: &ArgMatches<'a>, words: &'a [String]) -> Option<Culprit<'a>> {
+    if let Some(culprit) = bare_in(words, 2) {
+        return Some(culprit);
     }
-    if let Some(value) = found.get_str("policy")
-        && !is_policy(value)
-    {
-        return Some(Culprit {
-            name: "--policy",
-            value,
-        });
-    }
-    if let Some(value) = found.get_str("TABLE")
-        && Table::named(value).is_none()
-    {
-        return Some(Culprit {
-            name: "TABLE",
-            value,
-        });
-    }
-    None
-}
-
-fn is_policy(name: &str) -> bool {
-    matches!(name, "relevance" | "elevator" | "normal" | "attach")
+    value_in(found)
 }

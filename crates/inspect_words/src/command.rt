@@ -4,6 +4,7 @@ ghost use Rattle.clap.specs.Simple.{App, app_of};
 ghost use Rattle.inspect_words.specs.Command.{IsCommand, cut_rules, draw, explain, inspect, judge, output_place, side_rules, table_places, with_rules, work_rules};
 
 use crate::places::{flag, number, option, place};
+use crate::version::VERSION;
 use clap::Command;
 use command_words::{MOST_FRAMES, MOST_PARTS, MOST_WORKERS};
 use std::alloc::{AllocError, Global};
@@ -17,12 +18,13 @@ pub(crate) fn command<'a>(alloc: Global) -> Result<Command<'a>, AllocError>
     let second = judge(alloc)?;
     let third = draw(alloc)?;
     let subcommands = vec![in alloc; first, second, third]?;
-    Command::new(alloc, "coop_inspect")
+    let named = Command::new(alloc, "coop_inspect").bin_name("coop_inspect")?;
+    named
         .no_binary_name(true)
         .disable_help_subcommand(true)
         .arg_required_else_help(true)
         .subcommand_required(true)
-        .version("2026-11-28")
+        .version(VERSION)
         .about("Explains a batch of coop_cli, judges the output of a run, or draws it")
         .subcommands(subcommands)
 }
@@ -31,7 +33,7 @@ pub(crate) fn command<'a>(alloc: Global) -> Result<Command<'a>, AllocError>
 fn explain<'a>(alloc: Global) -> Result<Command<'a>, AllocError>
     ensures { IfOk result (λ c. (a : App) × IsCommand a c × (a.top ≡ explain)) }
 {
-    let start = Command::new(alloc, "explain").about(
+    let start = Command::new(alloc, "explain").version(VERSION).about(
         "Tells what a table holds and what becomes of each statement of a batch",
     );
     let cut = with_cut(alloc, start)?;
@@ -42,7 +44,7 @@ fn explain<'a>(alloc: Global) -> Result<Command<'a>, AllocError>
 fn judge<'a>(alloc: Global) -> Result<Command<'a>, AllocError>
     ensures { IfOk result (λ c. (a : App) × IsCommand a c × (a.top ≡ judge)) }
 {
-    let start = Command::new(alloc, "judge").about(
+    let start = Command::new(alloc, "judge").version(VERSION).about(
         "Tells whether OUTPUT is what a legal run of coop_cli with these words and --trace prints",
     );
     let work = with_work(alloc, start)?;
@@ -56,7 +58,7 @@ fn judge<'a>(alloc: Global) -> Result<Command<'a>, AllocError>
 fn draw<'a>(alloc: Global) -> Result<Command<'a>, AllocError>
     ensures { IfOk result (λ c. (a : App) × IsCommand a c × (a.top ≡ draw)) }
 {
-    let start = Command::new(alloc, "draw").about(
+    let start = Command::new(alloc, "draw").version(VERSION).about(
         "Draws the trace at the end of OUTPUT as an SVG picture on standard output",
     );
     with_output(alloc, start)

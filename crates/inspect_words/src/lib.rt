@@ -12,10 +12,13 @@
 mod asked;
 mod asked_words;
 mod command;
+mod culprit;
 mod places;
 mod refused;
+mod version;
 
 pub use asked::Asked;
 pub use asked_words::asked_of;
 pub use command_words::Request;
-pub use refused::{Culprit, Refused};
+pub use culprit::Culprit;
+pub use refused::Refused;

@@ -3,25 +3,18 @@ ghost use Rattle.std.specs.Prelude.{◌≡◌};
 ghost use Rattle.inspect_words.specs.Refusals.{is_fault, is_shown, status_of};
 ghost use Rattle.inspect_words.specs.declared.refused.Refused.TheVariants as refused;
 
+use crate::culprit::Culprit;
 use clap::Error;
 use clap::error::ErrorKind;
 use std::alloc::AllocError;
 use std::fmt;
-
-/// A value that `coop_cli` refuses.
-#[derive(Clone, Copy, Debug, PartialEq, Eq)]
-pub struct Culprit<'a> {
-    /// The option or the place, as it stands in the manual.
-    pub name: &'static str,
-    pub value: &'a str,
-}
 
 /// Why the words give nothing to do.
 #[derive(Debug, Drop)]
 pub enum Refused<'a> {
     /// They ask for help or the version, or something is wrong with them: clap says it.
     Said(Error),
-    /// `coop_cli` would refuse the words of the run; where the value that is to blame is known, it is here.
+    /// `coop_cli` would refuse the words of the run, for this word.
     Run(Option<Culprit<'a>>),
     /// Out of memory.
     Memory,
@@ -78,15 +71,8 @@ impl fmt::Display for Refused<'_> {
     fn fmt<W: fmt::Write>(&self, f: &mut fmt::Formatter<W>) -> fmt::Result {
         match self {
             Refused::Said(error) => write!(f, "{error}"),
-            Refused::Run(Some(Culprit { name, value })) => {
-                writeln!(f, "error: coop_cli takes no '{value}' for {name}")
-            }
-            Refused::Run(None) => {
-                writeln!(
-                    f,
-                    "error: coop_cli doesn't take the words before OUTPUT, which stands last"
-                )
-            }
+            Refused::Run(Some(culprit)) => writeln!(f, "error: {culprit}"),
+            Refused::Run(None) => writeln!(f, "error: coop_cli doesn't take these words"),
             Refused::Memory => Ok(()),
         }
     }

@@ -52,8 +52,14 @@ const GIVEN: &[(&str, Asked<'static>)] = &[
 
 // Words that are refused, the status, and a piece of the text, in which the word stands.
 const REFUSED: &[(&str, u8, &str)] = &[
-    ("--version", 0, "coop_inspect 2026-11-28"),
+    ("--version", 0, "coop_inspect 2026-12-01"),
+    ("judge|--version", 0, "2026-12-01"),
+    ("explain|-V", 0, "2026-12-01"),
+    ("draw|--version", 0, "2026-12-01"),
     ("judge|--help", 0, "--threads <N>"),
+    ("explain|--help", 0, "Usage: coop_inspect explain "),
+    ("judge|--help", 0, "Usage: coop_inspect judge "),
+    ("draw|--help", 0, "Usage: coop_inspect draw <OUTPUT>"),
     ("explode|a|b", 2, "'explode'"),
     ("explain|--threads|2|a|b", 2, "'--threads'"),
     ("explain|a", 2, "<BATCH>"),
@@ -63,6 +69,20 @@ const REFUSED: &[(&str, u8, &str)] = &[
     ("judge|--compare|a|b|out", 2, "'--compare'"),
     ("explain|gen:x|b", 2, "'gen:x'"),
     ("draw", 2, "<OUTPUT>"),
+    ("explain|--rows|+2|a|b", 2, "'+2' for --rows"),
+    ("judge|--threads|+2|a|b|out", 2, "'+2' for --threads"),
+    (
+        "judge|--frames|00000000016|a|b|out",
+        2,
+        "'00000000016' for --frames",
+    ),
+    ("judge|--parts|+1|a|b|out", 2, "'+1' for --parts"),
+    ("judge|--scratch=|a|b|out", 2, "'' for --scratch"),
+    ("judge|a||out", 2, "word 3 is ''"),
+    ("explain|a|-", 2, "word 3 is '-'"),
+    ("explain|--layout|-|a|b", 2, "word 3 is '-'"),
+    ("judge|a|b|out|--summary", 2, "and '--summary' stands there"),
+    ("judge|a|b|out|--threads|2", 2, "and '2' stands there"),
 ];
 
 #[test]

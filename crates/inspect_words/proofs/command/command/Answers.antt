@@ -4,6 +4,7 @@ use Rattle.clap.specs.Built.{AddsInTurn, AddsSubcommand}
 use Rattle.clap.specs.Simple.{Shape, app_of, new_app, on_top}
 use Rattle.clap.specs.declared.builder.command.Command.{Command}
 use Rattle.clap.specs.declared.builder.command.Command.TheOpen.{Command-F}
+use Rattle.clap.specs.declared.builder.command.Command.TheViews.{out-Command}
 use Rattle.inspect_words.specs.Command.{IsCommand}
 use Rattle.inspect_words.proofs.Growing.{about, join, set, version}
 use Rattle.inspect_words.proofs.command.command.Goals as goal
@@ -11,8 +12,9 @@ use Rattle.inspect_words.proofs.command.command.Goals as goal
 pub returns : goal.returns
 returns c =
     let new : IsCommand (new_app (codes "coop_inspect")) c.new.result = record { app = c.new.ensures.app; local = c.new.ensures.local } in
+    let called = set _ _ (λ (f : Command-F Command). record f { bin_name = (out-Command c.in_ok-named.named).bin_name }) (λ a. a) _ (λ _. refl) (λ _. refl) c.in_ok-named.ensures.0 new in
     let no_name = set _ _ (λ (f : Command-F Command). record f { no_binary_name = true }) (on_top (λ (s : Shape). record s { no_binary_name = true })) _ (λ _. refl) (λ _. refl)
-    c.no_binary_name.ensures new in
+    c.no_binary_name.ensures called in
     let no_help = set _ _ (λ (f : Command-F Command). record f { disable_help_subcommand = true }) (on_top (λ (s : Shape). record s { disable_help_subcommand = true })) _ (λ _. refl) (λ _. refl)
     c.disable_help_subcommand.ensures no_name in
     let else_help = set _ _ (λ (f : Command-F Command). record f { arg_required_else_help = true }) (on_top (λ (s : Shape). record s { arg_required_else_help = true })) _ (λ _. refl) (λ _. refl)
