@@ -1,0 +1,72 @@
+// How a preparation ended.
+ghost use Rattle.coop_prepare.specs.Endings.{IsBroken, IsEnded};
+
+use crate::reply::Reply;
+use prepare_rules::{Cause, Column, Failure, Refusal};
+use prepare_words::Writing;
+use std::alloc::{AllocError, Global};
+
+/// What is said where all records were read, or one was refused.
+pub(crate) fn ended(alloc: Global, writing: &Writing<'_>, refusal: Option<Refusal>) -> Reply
+    ensures { IsEnded refusal result }
+{
+    match refusal {
+        Some(refusal) => Reply::told(alloc, 3, refused(alloc, writing, &refusal)),
+        None => Reply {
+            text: Vec::new(alloc),
+            status: 0,
+            is_fault: true,
+        },
+    }
+}
+
+/// What is said where the preparation was broken off.
+pub(crate) fn broken(alloc: Global, file: &str, failure: Failure) -> Reply
+    ensures { IsBroken failure result }
+{
+    match failure {
+        Failure::Input => Reply::told(
+            alloc,
+            4,
+            format!(in alloc; "stopped 4: {file} can't be read\n"),
+        ),
+        Failure::Output => Reply::fault(alloc, 6, b"stopped 6: standard output takes no more\n"),
+        Failure::TooLong => Reply::fault(alloc, 9, b"stopped 9: too many records\n"),
+        Failure::Memory => Reply::fault(alloc, 7, b"stopped 7: memory\n"),
+    }
+}
+
+// The line of a refusal.
+fn refused(alloc: Global, writing: &Writing<'_>, refusal: &Refusal) -> Result<String, AllocError> {
+    let Refusal { number, cause } = *refusal;
+    match cause {
+        Cause::NoColumn { word } => lacking(alloc, "--columns", writing.columns.as_slice(), word),
+        Cause::NoNumbers { word } => lacking(alloc, "--numbers", writing.numbers.as_slice(), word),
+        Cause::NoName { word } => {
+            let name = match writing.renames.get(word) {
+                Some(rename) => rename.from,
+                None => "",
+            };
+            format!(in alloc; "stopped 3: there is no column '{name}' for --rename\n")
+        }
+        cause => format!(in alloc; "stopped 3: record {number}: {cause}\n"),
+    }
+}
+
+// The line of a column that isn't there.
+fn lacking(
+    alloc: Global,
+    option: &str,
+    columns: &[Column<'_>],
+    word: usize,
+) -> Result<String, AllocError> {
+    match columns.get(word) {
+        Some(Column::Named(name)) => {
+            format!(in alloc; "stopped 3: there is no column '{name}' for {option}\n")
+        }
+        Some(Column::Placed(place)) => {
+            format!(in alloc; "stopped 3: there is no column {place} for {option}\n")
+        }
+        None => format!(in alloc; "stopped 3: there is no such column for {option}\n"),
+    }
+}

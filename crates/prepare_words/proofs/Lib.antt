@@ -1,0 +1,6 @@
+mod Asking
+mod Cuts
+mod Digits
+mod Growing
+mod Outcomes
+mod Steps

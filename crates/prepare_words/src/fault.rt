@@ -1,0 +1,107 @@
+// What is wrong with the value of an option.
+ghost use Rattle.std.specs.Prelude.{◌≡◌};
+ghost use Rattle.prepare_words.specs.declared.fault.Fault.TheVariants as fault;
+
+use std::alloc::{AllocError, AllocFailed};
+use std::fmt;
+
+/// An option whose value is judged here.
+#[derive(Clone, Copy, Debug, PartialEq, Eq)]
+pub enum Word {
+    Delimiter,
+    Quote,
+    Skip,
+    Columns,
+    Rename,
+    Numbers,
+    Missing,
+    DecimalComma,
+    Thousands,
+    Ragged,
+    File,
+}
+
+impl Word {
+    // The option as it stands in the manual.
+    fn name(self) -> &'static str {
+        match self {
+            Word::Delimiter => "--delimiter",
+            Word::Quote => "--quote",
+            Word::Skip => "--skip",
+            Word::Columns => "--columns",
+            Word::Rename => "--rename",
+            Word::Numbers => "--numbers",
+            Word::Missing => "--missing",
+            Word::DecimalComma => "--decimal-comma",
+            Word::Thousands => "--thousands",
+            Word::Ragged => "--ragged",
+            Word::File => "FILE",
+        }
+    }
+
+    // What its values are.
+    fn values(self) -> &'static str {
+        match self {
+            Word::Delimiter => "a byte, or tab",
+            Word::Quote => "a byte that isn't the delimiter",
+            Word::Skip => "a number of records",
+            Word::Columns | Word::Numbers => {
+                "names, places from 1 and ranges such as 4-9, parted by commas, 16 columns at most"
+            }
+            Word::Rename => "OLD=NEW, where NEW isn't empty",
+            Word::Thousands => "a byte that isn't a digit, the decimal mark or a minus",
+            Word::Ragged => "refuse or pad",
+            Word::File => "the name of a file",
+            Word::Missing | Word::DecimalComma => "any",
+        }
+    }
+}
+
+/// Why the words of a subcommand give nothing.
+#[derive(Clone, Copy, Debug, PartialEq, Eq)]
+pub enum Fault<'a> {
+    /// No such value can stand behind the option.
+    Value { word: Word, value: &'a str },
+    /// The option acts in the columns of `--numbers`, which isn't there.
+    Alone { word: Word },
+    /// Out of memory.
+    Memory,
+}
+
+impl From<AllocError> for Fault<'_> {
+    ghost from_gives = { λ _ e. e ≡ fault.Memory };
+
+    fn from(_: AllocError) -> Self {
+        Fault::Memory
+    }
+}
+
+impl<T: Drop> From<AllocFailed<T>> for Fault<'_> {
+    ghost from_gives = { λ _ e. e ≡ fault.Memory };
+
+    fn from(_: AllocFailed<T>) -> Self {
+        Fault::Memory
+    }
+}
+
+impl fmt::Display for Fault<'_> {
+    fn fmt<W: fmt::Write>(&self, f: &mut fmt::Formatter<W>) -> fmt::Result {
+        match self {
+            Fault::Value { word, value } => {
+                let (name, values) = (word.name(), word.values());
+                writeln!(
+                    f,
+                    "error: invalid value '{value}' for '{name}': it takes {values}"
+                )
+            }
+            Fault::Alone { word } => {
+                let name = word.name();
+                writeln!(
+                    f,
+                    "error: '{name}' acts in the columns of '--numbers', which isn't there"
+                )
+            }
+            Fault::Memory => Ok(()),
+        }
+    }
+}

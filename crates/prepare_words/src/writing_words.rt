@@ -1,0 +1,107 @@
+// The words of `write`.
+ghost use Rattle.std.specs.Prelude.{◌≡◌, IfOk, option_map};
+ghost use Rattle.clap.specs.Matches.{found_of};
+ghost use Rattle.clap.specs.Walk.{rows_of};
+ghost use Rattle.prepare_words.specs.Reading.{Gives};
+ghost use Rattle.prepare_words.specs.Asked.{file_of, lone_word, mark_of, writing_of};
+ghost use Rattle.prepare_words.specs.Views.{texts_given, texts_of, writing_view};
+
+use crate::bytes::{byte_or, parts_of, quote_of};
+use crate::columns::columns_given;
+use crate::fault::{Fault, Word};
+use crate::found::{is_set, is_there, value_in, values_in};
+use crate::numbers::{pads_of, skip_of};
+use crate::renames::renames_given;
+use crate::writing::Writing;
+use clap::ArgMatches;
+use prepare_rules::Mark;
+use std::alloc::{AllocError, Global};
+
+/// What the words of `write` ask for.
+#[tactic(auto, unfolding(crate::specs::Asked::writing_of))]
+pub(crate) fn writing_of<'a>(
+    alloc: Global,
+    found: &ArgMatches<'a>,
+) -> Result<Writing<'a>, Fault<'a>>
+    ensures { Gives (λ w. (writing_view w)) result (writing_of (rows_of (found_of found.now))) }
+{
+    let file = file_of(value_in(found, "FILE"))?;
+    let delimiter = byte_or(Word::Delimiter, value_in(found, "delimiter"), b',')?;
+    let quote = quote_of(delimiter, value_in(found, "quote"))?;
+    let skip = skip_of(value_in(found, "skip"))?;
+    let pads = pads_of(value_in(found, "ragged"))?;
+    let mark = mark_of(is_set(found, "decimal-comma"));
+    let parts = parts_of(mark, value_in(found, "thousands"))?;
+    if let Some(word) = lone_word(found) {
+        return Err(Fault::Alone { word });
+    }
+    let columns = columns_given(alloc, Word::Columns, values_in(found, "columns"))?;
+    let renames = renames_given(alloc, values_in(found, "rename"))?;
+    let numbers = columns_given(alloc, Word::Numbers, values_in(found, "numbers"))?;
+    let missing = marks_given(alloc, values_in(found, "missing"))?;
+    Ok(Writing {
+        file,
+        delimiter,
+        quote,
+        skip,
+        has_names: !is_set(found, "no-header"),
+        columns,
+        renames,
+        numbers,
+        missing,
+        mark,
+        parts,
+        trims: is_set(found, "trim"),
+        pads,
+    })
+}
+
+fn file_of<'a>(text: Option<&'a str>) -> Result<&'a str, Fault<'a>>
+    ensures { Gives (λ s. s.now) result (file_of (option_map (λ s. s.now) text.entry)) }
+{
+    match text {
+        Some(file) => Ok(file),
+        None => Err(Fault::Value {
+            word: Word::File,
+            value: "",
+        }),
+    }
+}
+
+// The marks for missing values.
+fn marks_given<'a>(alloc: Global, values: Option<&[&'a str]>) -> Result<Vec<&'a str>, AllocError>
+    ensures { IfOk result (λ v. texts_of v.items ≡ texts_given values.entry) }
+{
+    match values {
+        Some(values) => Ok(Vec::from_slice(alloc, values)?),
+        None => Ok(Vec::new(alloc)),
+    }
+}
+
+fn mark_of(is_comma: bool) -> Mark
+    ensures { result ≡ mark_of is_comma }
+{
+    if is_comma {
+        return Mark::Comma;
+    }
+    Mark::Point
+}
+
+// The first rule on numbers or missing values that acts nowhere.
+fn lone_word(found: &ArgMatches<'_>) -> Option<Word>
+    ensures { result ≡ lone_word (rows_of (found_of found.now)) }
+{
+    if is_there(found, "numbers") {
+        return None;
+    }
+    if is_there(found, "missing") {
+        return Some(Word::Missing);
+    }
+    if is_set(found, "decimal-comma") {
+        return Some(Word::DecimalComma);
+    }
+    if is_there(found, "thousands") {
+        return Some(Word::Thousands);
+    }
+    None
+}
