@@ -38,8 +38,8 @@ pub(crate) fn broken(alloc: Global, file: &str, failure: Failure) -> Reply
 
 // The line of a refusal.
 fn refused(alloc: Global, writing: &Writing<'_>, refusal: &Refusal) -> Result<String, AllocError> {
-    let Refusal { number, cause } = *refusal;
-    match cause {
+    let number = refusal.number;
+    match refusal.cause {
         Cause::NoColumn { word } => lacking(alloc, "--columns", writing.columns.as_slice(), word),
         Cause::NoNumbers { word } => lacking(alloc, "--numbers", writing.numbers.as_slice(), word),
         Cause::NoName { word } => {
