@@ -49,7 +49,10 @@ fn refused(alloc: Global, writing: &Writing<'_>, refusal: &Refusal) -> Result<St
             };
             format!(in alloc; "stopped 3: there is no column '{name}' for --rename\n")
         }
-        cause => format!(in alloc; "stopped 3: record {number}: {cause}\n"),
+        cause => match refusal.line {
+            Some(line) => format!(in alloc; "stopped 3: record {number}, line {line}: {cause}\n"),
+            None => format!(in alloc; "stopped 3: record {number}: {cause}\n"),
+        },
     }
 }
 
