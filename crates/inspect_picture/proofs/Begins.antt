@@ -20,12 +20,12 @@ begins w q c a i (Filled v g p ∷ es) = begins w q c a (suc i) es
 begins w q c a i (Failed v r p vhy ∷ es) = begins w q c a (suc i) es
 begins w q c a i (Deliver v r d ∷ es) = at (v == w) (begins w q c a (suc i) es)
   where
-    at : (t : Bool) → begin_of (delivery_of w q c a (suc i) es) ≡ delivered a q c → begin_of (if t then delivery q c a i else delivery_of w q c a (suc i) es) ≡ delivered a q c
+    at : (t : Bool) → begin_of (delivery_of w q c a (suc i) es) ≡ delivered a q c → begin_of (if t then delivery w q c a i else delivery_of w q c a (suc i) es) ≡ delivered a q c
     at true again = refl
     at false again = again
 begins w q c a i (Release v r d ∷ es) = at (v == w) (begins w q c a (suc i) es)
   where
-    at : (t : Bool) → begin_of (delivery_of w q c a (suc i) es) ≡ delivered a q c → begin_of (if t then delivery q c a i else delivery_of w q c a (suc i) es) ≡ delivered a q c
+    at : (t : Bool) → begin_of (delivery_of w q c a (suc i) es) ≡ delivered a q c → begin_of (if t then delivery w q c a i else delivery_of w q c a (suc i) es) ≡ delivered a q c
     at true again = refl
     at false again = again
 begins w q c a i (Stop v r ∷ es) = begins w q c a (suc i) es

@@ -4,3 +4,5 @@ mod Guided
 mod Sizes
 mod Stays
 mod Steps
+mod Drawn
+mod Rowed

@@ -3,7 +3,8 @@ use Rattle.std.specs.Prelude.{◌≡◌, ◌==◌, ◌/◌, ◌<◌, ◌≤◌, 
 use Rattle.scan_story.specs.declared.entry.Entry.{Entry}
 use Rattle.scan_story.specs.declared.entry.Entry.TheVariants.{Plan, Fill}
 
--- where a chunk has so many pieces, each piece that is read is one of the chunk that was last planned, first of this one
+-- where a chunk has so many pieces, each piece that is read is one of the chunk that was last planned, first of this
+-- one
 abbrev pub fills_agree : ℕ → ℕ → List Entry → Bool
 fills_agree groups c [] = true
 fills_agree groups c (Plan w q d ∷ es) = fills_agree groups d es

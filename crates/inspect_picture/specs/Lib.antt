@@ -5,6 +5,8 @@ pub mod Over
 pub mod Given
 pub mod Titles
 pub mod Scales
+pub mod Extents
+pub mod Stretches
 pub mod Svg
 pub mod Trace
 pub mod Groups

@@ -1,7 +1,7 @@
 -- The next entry that passes a test, by its number.
 use Rattle.std.specs.Prelude.{◌==◌, false, ℕ, suc, Bool, List, [], ◌∷◌, Option, None, Some, if◌then◌else◌}
 use Rattle.scan_story.specs.declared.entry.Entry.{Entry}
-use Rattle.scan_story.specs.declared.entry.Entry.TheVariants.{Evict, Fill, Filled, Deliver, Release}
+use Rattle.scan_story.specs.declared.entry.Entry.TheVariants.{Evict, Fill, Filled, Failed, Deliver, Release, Stop, End}
 
 -- the number of the first of the entries that passes, where the first of all has number i
 abbrev pub next : (Entry → Bool) → ℕ → List Entry → Option ℕ
@@ -24,3 +24,14 @@ abbrev pub turns : ℕ → Entry → Bool
 turns w (Deliver v q c) = v == w
 turns w (Release v q c) = v == w
 turns w _ = false
+
+-- the query ends or is given up
+abbrev pub ends : ℕ → Entry → Bool
+ends q (Stop v r) = r == q
+ends q (End v r) = r == q
+ends q _ = false
+
+-- the load of the piece fails
+abbrev pub fails : ℕ → Entry → Bool
+fails p (Failed v q r why) = r == p
+fails p _ = false

@@ -1,6 +1,8 @@
 /// One chunk in the hands of a query, from its delivery on.
 #[derive(Clone, Copy, Debug, PartialEq, Eq)]
 pub struct Delivery {
+    /// The worker, from 0.
+    pub worker: u32,
     /// The query, from 1.
     pub query: u32,
     /// The chunk, from 0.

@@ -1,7 +1,10 @@
 // What tells of which time and which lane something is.
 ghost use Rattle.std.specs.Prelude.{◌≡◌, ◌<◌, ◌^◌, Some};
-ghost use Rattle.inspect_picture.specs.Svg.{along_text, frame_guide, frame_text, guide_text, guides_at, guides_text, query_guide, query_text, step_from, step_of, steps, time_guide, time_text, upright_text};
+ghost use Rattle.inspect_picture.specs.Svg.{along_text, frame_guide, frame_text, guide_text, guides_at, guides_text};
+ghost use Rattle.inspect_picture.specs.Svg.{round_number, shown, step_from, step_of, steps, time_guide, time_text};
+ghost use Rattle.inspect_picture.specs.Svg.{upright_text, worker_guide, worker_text};
 
+use crate::lanes::{LANES_TOP, first_in};
 use crate::scale::Scale;
 use std::fmt;
 
@@ -16,8 +19,8 @@ pub(crate) enum Guide {
         high: u64,
         number: u64,
     },
-    // The number of a query, and a line along its lane.
-    QueryLane {
+    // The number of a worker, and a line along its lane.
+    WorkerLane {
         y: u64,
         number: u64,
     },
@@ -39,7 +42,7 @@ impl fmt::Display for Along {
     fn fmt<W: fmt::Write>(&self, f: &mut fmt::Formatter<W>) -> fmt::Result {
         write!(
             f,
-            "<path stroke='#e0e0e0' stroke-width='6' d='M800 0H14800'/>"
+            "<path stroke='#e0e0e0' stroke-width='6' d='M1000 0H8700'/>"
         )
     }
 }
@@ -80,27 +83,27 @@ impl fmt::Display for TimeLine {
         let (x, end, line, number) = (self.x, self.end, self.line, self.number);
         write!(
             f,
-            "<g transform='translate({x} {end})'>{line}<text y='150' text-anchor='middle'>{number}</text></g>\n"
+            "<g transform='translate({x} {end})'>{line}<text y='160' text-anchor='middle'>{number}</text></g>\n"
         )
     }
 }
 
-// What stands at the lane of a query.
+// What stands at the lane of a worker.
 #[derive(Clone, Copy)]
-struct QueryLine {
+struct WorkerLine {
     y: u64,
     number: u64,
 }
 
-impl fmt::Display for QueryLine {
-    ghost output = { λ q. Some (query_text q.y q.number) };
+impl fmt::Display for WorkerLine {
+    ghost output = { λ q. Some (worker_text q.y q.number) };
 
-    #[tactic(auto, unfolding(crate::specs::Svg::query_text))]
+    #[tactic(auto, unfolding(crate::specs::Svg::worker_text))]
     fn fmt<W: fmt::Write>(&self, f: &mut fmt::Formatter<W>) -> fmt::Result {
         let (y, number, line) = (self.y, self.number, Along);
         write!(
             f,
-            "<g transform='translate(0 {y})'>{line}<text x='760' y='95' text-anchor='end'>query {number}</text></g>\n"
+            "<g transform='translate(0 {y})'>{line}<text x='960' y='170' text-anchor='end'>worker {number}</text></g>\n"
         )
     }
 }
@@ -120,7 +123,7 @@ impl fmt::Display for FrameLine {
         let (y, number, line) = (self.y, self.number, Along);
         write!(
             f,
-            "<g transform='translate(0 {y})'>{line}<text x='760' y='95' text-anchor='end'>frame {number}</text></g>\n"
+            "<g transform='translate(0 {y})'>{line}<text x='960' y='115' text-anchor='end'>frame {number}</text></g>\n"
         )
     }
 }
@@ -145,9 +148,9 @@ impl fmt::Display for Guide {
                 };
                 write!(f, "{time}")
             }
-            Guide::QueryLane { y, number } => {
-                let query = QueryLine { y, number };
-                write!(f, "{query}")
+            Guide::WorkerLane { y, number } => {
+                let worker = WorkerLine { y, number };
+                write!(f, "{worker}")
             }
             Guide::FrameLane { y, number } => {
                 let frame = FrameLine { y, number };
@@ -189,70 +192,89 @@ impl Scale {
     fn time_guide(&self, number: u64) -> Guide
         ensures { result ≡ time_guide self.now number }
     {
-        if number > self.entries as u64 {
+        if number < self.first as u64 || number >= self.last as u64 {
             return Guide::Blank;
         }
         Guide::Time {
-            x: self.x_at(number),
+            x: self.x_at(number as u32),
             end: self.lanes_end(),
-            high: self.lanes_end() - 1000,
+            high: self.lanes_end() - LANES_TOP,
             number,
         }
     }
 
-    // The guide of the query behind this one.
-    fn query_guide(&self, number: u64) -> Guide
-        ensures { result ≡ query_guide self.now number }
+    // The guide of the lane of workers.
+    fn worker_guide(&self, lane: u64) -> Guide
+        requires { lane < 32 }
+        ensures { result ≡ worker_guide self.now lane }
     {
-        if number >= self.last_query as u64 {
+        if lane >= self.worker_lanes() {
             return Guide::Blank;
         }
-        Guide::QueryLane {
-            y: self.query_y(number + 1),
-            number: number + 1,
+        Guide::WorkerLane {
+            y: LANES_TOP + lane * 300,
+            number: first_in(16, self.worker_count(), lane),
         }
     }
 
-    // The guide of the frame.
-    fn frame_guide(&self, number: u64) -> Guide
-        ensures { result ≡ frame_guide self.now number }
+    // The guide of the lane of frames.
+    fn frame_guide(&self, lane: u64) -> Guide
+        requires { lane < 32 }
+        ensures { result ≡ frame_guide self.now lane }
     {
-        if number >= self.frame_count() {
+        if lane >= self.frame_lanes() {
             return Guide::Blank;
         }
         Guide::FrameLane {
-            y: self.frame_y(number),
-            number,
+            y: self.frame_y(lane),
+            number: first_in(32, self.frame_count(), lane),
         }
+    }
+
+    // How many entries are shown.
+    pub(crate) fn shown(&self) -> u32
+        ensures { result ≡ shown self.now }
+    {
+        self.last.saturating_sub(self.first)
     }
 }
 
-// The guides that stand at one place of the picture: of a time, of a query and of a frame.
+// The guides that stand at one place of the picture: of a time, of a worker and of a frame.
 #[derive(Clone, Copy)]
 pub(crate) struct Guides {
     time: Guide,
-    query: Guide,
+    worker: Guide,
     frame: Guide,
 }
 
 impl fmt::Display for Guides {
-    ghost output = { λ g. Some (guides_text g.time g.query g.frame) };
+    ghost output = { λ g. Some (guides_text g.time g.worker g.frame) };
 
     fn fmt<W: fmt::Write>(&self, f: &mut fmt::Formatter<W>) -> fmt::Result {
-        let (time, query, frame) = (self.time, self.query, self.frame);
-        write!(f, "{time}{query}{frame}")
+        let (time, worker, frame) = (self.time, self.worker, self.frame);
+        write!(f, "{time}{worker}{frame}")
     }
+}
+
+// The number of the time that is told so many steps behind the first round one.
+fn round_number(first: u32, step: u64, place: u64) -> u64
+    requires step { step < 2 ^ 32 }
+    requires place { place < 32 }
+    ensures value { result ≡ round_number first step place }
+{
+    (first as u64 / step.max(1) + place) * step
 }
 
 // The guides with this number, from 0.
 pub(crate) fn guides_at(scale: &Scale, number: u32) -> Guides
-    requires number { number < 16 }
-    ensures { guides_text result.time result.query result.frame ≡ guides_at scale.now number }
+    requires number { number < 32 }
+    ensures { guides_text result.time result.worker result.frame ≡ guides_at scale.now number }
 {
-    let number = number as u64;
+    let place = number as u64;
+    let step = step_of(scale.shown() as u64);
     Guides {
-        time: scale.time_guide(number * step_of(scale.entries as u64)),
-        query: scale.query_guide(number * step_of(scale.last_query as u64)),
-        frame: scale.frame_guide(number * step_of(scale.frame_count())),
+        time: scale.time_guide(round_number(scale.first, step, place)),
+        worker: scale.worker_guide(place),
+        frame: scale.frame_guide(place),
     }
 }

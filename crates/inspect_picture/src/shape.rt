@@ -1,170 +1,257 @@
-// The element of a mark, and the number that stands on it.
+// The element of marks that are drawn as one, and the number that stands on it.
 ghost use Rattle.std.specs.Prelude.{◌≡◌, ◌≤◌, Some};
-ghost use Rattle.inspect_picture.specs.Svg.{element_text, ink_of, inside, label_text, number_in, number_on, rect_of, shape_text};
+ghost use Rattle.inspect_picture.specs.Svg.{drawn_ink, element_text, inside, label_in, label_of, label_text};
+ghost use Rattle.inspect_picture.specs.Svg.{number_text, query_text, rect_of, shape_text, strip_of, told_text};
 
 use crate::ink::Ink;
+use crate::lanes::LANES_TOP;
 use crate::mark::Mark;
 use crate::rect::Rect;
 use crate::scale::Scale;
+use crate::stretch::Stretch;
 use std::fmt;
 
-// Where a mark lies.
-fn rect_of(scale: &Scale, mark: Mark) -> Rect
-    ensures { result ≡ rect_of scale.now mark }
+// The height at which something lies, and how high it is.
+#[derive(Clone, Copy, Debug, PartialEq, Eq)]
+pub(crate) struct Strip {
+    pub(crate) y: u64,
+    pub(crate) height: u64,
+}
+
+// The strip of a mark in its lane.
+fn strip_of(scale: &Scale, mark: Mark) -> Strip
+    ensures { result ≡ strip_of scale.now mark }
 {
     match mark {
-        Mark::Begin { query, entry } | Mark::Over { query, entry } => Rect {
-            x: scale.x_at(entry as u64),
-            y: scale.query_y(query as u64),
-            width: 10,
-            height: scale.query_height(),
+        Mark::Alive(life) => Strip {
+            y: LANES_TOP + scale.worker_lane(life.worker) * 300,
+            height: 270,
         },
-        Mark::Load { query, entry, .. } => Rect {
-            x: scale.x_at(entry as u64),
-            y: scale.query_y(query as u64),
-            width: 24,
-            height: scale.query_height() / 3,
+        Mark::Load { worker, .. } => Strip {
+            y: LANES_TOP + scale.worker_lane(worker) * 300,
+            height: 100,
         },
-        Mark::Given(delivery) => Rect {
-            x: scale.x_at(delivery.first as u64),
-            y: scale.query_y(delivery.query as u64) + scale.query_height() / 3,
-            width: scale.width_of(delivery.first, delivery.last),
-            height: scale.query_height() - scale.query_height() / 3,
-        },
-        Mark::Eviction { entry, .. } => Rect {
-            x: scale.x_at(entry as u64),
-            y: scale.evictions_top(),
-            width: 14,
+        Mark::Given(delivery) => Strip {
+            y: LANES_TOP + scale.worker_lane(delivery.worker) * 300 + 130,
             height: 140,
         },
-        Mark::Stay(bar) => Rect {
-            x: scale.x_at(bar.first as u64),
-            y: scale.frame_y(bar.frame as u64),
-            width: scale.width_of(bar.first, bar.last),
-            height: scale.frame_height(),
+        Mark::Stay(bar) => Strip {
+            y: scale.frame_y(scale.frame_lane(bar.frame)),
+            height: 140,
         },
-        Mark::Fault { entry, .. } => Rect {
-            x: scale.x_at(entry as u64),
-            y: 1000,
-            width: 16,
-            height: scale.lanes_end() - 1000,
+        Mark::Read(reading) => Strip {
+            y: scale.frame_y(scale.frame_lane(reading.frame)) + 50,
+            height: 40,
+        },
+        Mark::Eviction { .. } => Strip {
+            y: scale.evictions_top(),
+            height: 140,
+        },
+        Mark::Fault { .. } => Strip {
+            y: LANES_TOP,
+            height: scale.lanes_end() - LANES_TOP,
         },
     }
 }
 
-// The colour of a mark.
-fn ink_of(scale: &Scale, mark: Mark) -> Ink
-    requires groups { 1 ≤ scale.now.groups }
-    ensures { result ≡ ink_of scale.now mark }
+// Where marks that are drawn as one lie.
+fn rect_of(scale: &Scale, stretch: Stretch) -> Rect
+    ensures { result ≡ rect_of scale.now stretch }
 {
-    match mark {
-        Mark::Begin { .. } | Mark::Over { .. } => Ink::Dark,
-        Mark::Load { chunk, .. } | Mark::Eviction { chunk, .. } => Ink::Hue(scale.hue_of(chunk)),
-        Mark::Given(delivery) => Ink::Hue(scale.hue_of(delivery.chunk)),
-        Mark::Stay(bar) => Ink::Hue(scale.hue_of(bar.piece / scale.groups)),
-        Mark::Fault { .. } => Ink::Red,
+    let strip = strip_of(scale, stretch.mark);
+    Rect {
+        x: stretch.from,
+        y: strip.y,
+        width: stretch.to.saturating_sub(stretch.from),
+        height: strip.height,
     }
 }
 
-// What stands in the element of a mark: its title, where it has one.
+// The colour in which they are drawn: red where one of them is a failure.
+fn drawn_ink(stretch: Stretch) -> Ink
+    ensures { result ≡ drawn_ink stretch }
+{
+    if stretch.failed {
+        Ink::Red
+    } else {
+        stretch.ink
+    }
+}
+
+// What tells of marks that are drawn as one.
+#[derive(Clone, Copy)]
+struct Told {
+    stretch: Stretch,
+}
+
+impl fmt::Display for Told {
+    ghost output = { λ t. Some (told_text t.stretch) };
+
+    fn fmt<W: fmt::Write>(&self, f: &mut fmt::Formatter<W>) -> fmt::Result {
+        let (mark, count, last) = (self.stretch.mark, self.stretch.count, self.stretch.last);
+        match count == 1 {
+            true => write!(f, "{mark}"),
+            false => write!(f, "{count} marks up to entry {last}, first: {mark}"),
+        }
+    }
+}
+
+// What stands in their element: the title, where there is one.
 #[derive(Clone, Copy)]
 struct Inside {
     titled: bool,
-    mark: Mark,
+    told: Told,
 }
 
 impl fmt::Display for Inside {
-    ghost output = { λ i. Some (inside i.titled i.mark) };
+    ghost output = { λ i. Some (inside i.titled i.told.stretch) };
 
     fn fmt<W: fmt::Write>(&self, f: &mut fmt::Formatter<W>) -> fmt::Result {
-        let mark = self.mark;
+        let told = self.told;
         match self.titled {
-            true => write!(f, "<title>{mark}</title>"),
+            true => write!(f, "<title>{told}</title>"),
             false => Ok(()),
         }
     }
 }
 
-// The element of a mark.
+// The element.
 #[derive(Clone, Copy)]
 pub(crate) struct Shape {
     rect: Rect,
     ink: Ink,
     titled: bool,
-    mark: Mark,
+    stretch: Stretch,
 }
 
 impl fmt::Display for Shape {
-    ghost output = { λ s. Some (element_text s.rect s.ink s.titled s.mark) };
+    ghost output = { λ s. Some (element_text s.rect s.ink s.titled s.stretch) };
 
     fn fmt<W: fmt::Write>(&self, f: &mut fmt::Formatter<W>) -> fmt::Result {
         let (rect, ink) = (self.rect, self.ink);
         let inside = Inside {
             titled: self.titled,
-            mark: self.mark,
+            told: Told {
+                stretch: self.stretch,
+            },
         };
         write!(f, "<rect {rect} fill='{ink}'>{inside}</rect>\n")
     }
 }
 
-// The number on a mark.
+// What is to stand on a mark.
+#[derive(Clone, Copy, Debug, PartialEq, Eq)]
+pub(crate) enum Label {
+    Blank,
+    // The number of a piece or a chunk.
+    Number { x: u64, y: u64, number: u32 },
+    // The number of a query.
+    Query { x: u64, y: u64, number: u32 },
+}
+
 #[derive(Clone, Copy)]
-pub(crate) struct Label {
-    rect: Rect,
+struct NumberText {
+    x: u64,
+    y: u64,
     number: u32,
 }
 
+impl fmt::Display for NumberText {
+    ghost output = { λ t. Some (number_text t.x t.y t.number) };
+
+    #[tactic(auto, unfolding(crate::specs::Svg::number_text))]
+    fn fmt<W: fmt::Write>(&self, f: &mut fmt::Formatter<W>) -> fmt::Result {
+        let (x, y, number) = (self.x, self.y, self.number);
+        write!(
+            f,
+            "<text x='{x}' y='{y}' dx='30' dy='115' fill='#fff'>{number}</text>\n"
+        )
+    }
+}
+
+#[derive(Clone, Copy)]
+struct QueryText {
+    x: u64,
+    y: u64,
+    number: u32,
+}
+
+impl fmt::Display for QueryText {
+    ghost output = { λ t. Some (query_text t.x t.y t.number) };
+
+    #[tactic(auto, unfolding(crate::specs::Svg::query_text))]
+    fn fmt<W: fmt::Write>(&self, f: &mut fmt::Formatter<W>) -> fmt::Result {
+        let (x, y, number) = (self.x, self.y, self.number);
+        write!(
+            f,
+            "<text x='{x}' y='{y}' dx='30' dy='100' fill='#303030'>query {number}</text>\n"
+        )
+    }
+}
+
 impl fmt::Display for Label {
-    ghost output = { λ l. Some (number_in l.rect l.number) };
+    ghost output = { λ l. Some (label_in l) };
 
     fn fmt<W: fmt::Write>(&self, f: &mut fmt::Formatter<W>) -> fmt::Result {
-        let Rect {
-            x,
-            y,
-            width,
-            height,
-        } = self.rect;
-        let number = self.number;
-        match width >= 300 && height >= 100 {
-            true => {
-                write!(f, "<text x='{x}' y='{y}' dx='30' dy='88' fill='#fff'>")?;
-                write!(f, "{number}</text>\n")
+        match *self {
+            Label::Blank => Ok(()),
+            Label::Number { x, y, number } => {
+                let text = NumberText { x, y, number };
+                write!(f, "{text}")
             }
-            false => Ok(()),
+            Label::Query { x, y, number } => {
+                let text = QueryText { x, y, number };
+                write!(f, "{text}")
+            }
         }
     }
 }
 
-// The number that is to stand on a mark.
-fn number_on(mark: Mark) -> u32
-    ensures { result ≡ number_on mark }
+// What is to stand on one mark that has room for it.
+fn label_on(mark: Mark, rect: Rect) -> Label
+    ensures { result ≡ label_of mark rect }
 {
+    let (x, y) = (rect.x, rect.y);
     match mark {
-        Mark::Stay(bar) => bar.piece,
-        Mark::Given(delivery) => delivery.chunk,
-        _ => 0,
+        Mark::Stay(bar) => Label::Number {
+            x,
+            y,
+            number: bar.piece,
+        },
+        Mark::Given(delivery) => Label::Number {
+            x,
+            y,
+            number: delivery.chunk,
+        },
+        Mark::Alive(life) => Label::Query {
+            x,
+            y,
+            number: life.query,
+        },
+        _ => Label::Blank,
     }
 }
 
-// What the mark is drawn as.
-pub(crate) fn shape_of(scale: &Scale, mark: Mark) -> Shape
-    requires groups { 1 ≤ scale.now.groups }
-    ensures { element_text result.rect result.ink result.titled result.mark ≡ shape_text scale.now mark }
+// What marks that are drawn as one are drawn as.
+pub(crate) fn shape_of(scale: &Scale, titled: bool, stretch: Stretch) -> Shape
+    ensures { element_text result.rect result.ink result.titled result.stretch ≡ shape_text scale.now titled stretch }
 {
     Shape {
-        rect: rect_of(scale, mark),
-        ink: ink_of(scale, mark),
-        titled: scale.entries <= 40000,
-        mark,
+        rect: rect_of(scale, stretch),
+        ink: drawn_ink(stretch),
+        titled,
+        stretch,
     }
 }
 
-// The number that stands on the mark, where there is room for it.
-pub(crate) fn label_of(scale: &Scale, mark: Mark) -> Label
-    ensures { number_in result.rect result.number ≡ label_text scale.now mark }
+// What stands on it, where it is one mark and there is room.
+pub(crate) fn label_of(scale: &Scale, stretch: Stretch) -> Label
+    ensures { label_in result ≡ label_text scale.now stretch }
 {
-    Label {
-        rect: rect_of(scale, mark),
-        number: number_on(mark),
+    let rect = rect_of(scale, stretch);
+    if stretch.count == 1 && rect.width >= 500 {
+        label_on(stretch.mark, rect)
+    } else {
+        Label::Blank
     }
 }

@@ -73,8 +73,8 @@ fn each_stay_has_a_bar(rt: HostRuntime) {
     assert!(rt; groups == 2 && bars.as_slice() == want.as_slice());
     let marks = marks_of(rt.alloc(), &entries, groups).expect(&rt, "memory");
     assert!(rt;
-        marks.len() == 10
-            && marks[9]
+        marks.len() == 14
+            && marks[13]
                 == Mark::Fault {
                     query: 1,
                     piece: 3,
@@ -86,6 +86,8 @@ fn each_stay_has_a_bar(rt: HostRuntime) {
 // A text, and the line that is refused, or 0 where there is no trace.
 const REFUSED: &[(&str, u64)] = &[
     ("query 1\n3\n", 0),
+    ("query 1\n'a\nregister 0 1\nb'\n", 0),
+    ("query 1\n'a\nregister 0 1\nb'\nregister 0 1\nplan 0 1\n", 6),
     ("query 1\n3\nregister 0 1\nplan 0 1\n", 4),
     ("register 0 1\nend 0 1", 2),
     (" register 0 1\nregister 0 01\n", 2),

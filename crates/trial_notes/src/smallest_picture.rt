@@ -1,30 +1,33 @@
 // The picture of one query over one chunk, worked out by hand from the rules.
 pub(crate) const SMALLEST_PICTURE: &str =
-    "<svg xmlns='http://www.w3.org/2000/svg' viewBox='0 0 15000 1960' width='1500' font-family='sans-serif' font-size='100'>
+    "<svg xmlns='http://www.w3.org/2000/svg' viewBox='0 0 9000 2940' width='900' font-family='sans-serif' font-size='120'>
 <rect width='100%' height='100%' fill='#fff'/>
-<text x='800' y='280' font-size='180'>7 entries, 1 reads, 1 deliveries</text>
-<linearGradient id='hues'><stop stop-color='hsl(0,65%,52%)'/><stop offset='.2' stop-color='hsl(60,65%,52%)'/><stop offset='.4' stop-color='hsl(120,65%,52%)'/><stop offset='.6' stop-color='hsl(180,65%,52%)'/><stop offset='.8' stop-color='hsl(240,65%,52%)'/><stop offset='1' stop-color='hsl(300,65%,52%)'/></linearGradient>
-<text x='800' y='520'>Colour: from chunk 0</text><rect x='1900' y='430' width='1200' height='110' fill='url(#hues)'/><text x='3180' y='520'>to chunk 0</text>
-<text x='4500' y='520'>Lane of a query: above, its loads; below, the chunks in its hands; dark, where it begins and is over</text>
-<text x='4500' y='680'>Lane of a frame: the stays of pieces. Red: a load failed. Time: the number of the entry</text>
-<text x='760' y='1260' dy='95' text-anchor='end'>evictions</text>
-<text x='800' y='880' fill='#a00000'></text>
-<g transform='translate(800 1660)'><path stroke='#e0e0e0' stroke-width='6' d='M0 0V-660'/><text y='150' text-anchor='middle'>0</text></g>
-<g transform='translate(0 1000)'><path stroke='#e0e0e0' stroke-width='6' d='M800 0H14800'/><text x='760' y='95' text-anchor='end'>query 1</text></g>
-<g transform='translate(0 1520)'><path stroke='#e0e0e0' stroke-width='6' d='M800 0H14800'/><text x='760' y='95' text-anchor='end'>frame 0</text></g>
-<g transform='translate(2550 1660)'><path stroke='#e0e0e0' stroke-width='6' d='M0 0V-660'/><text y='150' text-anchor='middle'>1</text></g>
-<g transform='translate(4300 1660)'><path stroke='#e0e0e0' stroke-width='6' d='M0 0V-660'/><text y='150' text-anchor='middle'>2</text></g>
-<g transform='translate(6050 1660)'><path stroke='#e0e0e0' stroke-width='6' d='M0 0V-660'/><text y='150' text-anchor='middle'>3</text></g>
-<g transform='translate(7800 1660)'><path stroke='#e0e0e0' stroke-width='6' d='M0 0V-660'/><text y='150' text-anchor='middle'>4</text></g>
-<g transform='translate(9550 1660)'><path stroke='#e0e0e0' stroke-width='6' d='M0 0V-660'/><text y='150' text-anchor='middle'>5</text></g>
-<g transform='translate(11300 1660)'><path stroke='#e0e0e0' stroke-width='6' d='M0 0V-660'/><text y='150' text-anchor='middle'>6</text></g>
-<g transform='translate(13050 1660)'><path stroke='#e0e0e0' stroke-width='6' d='M0 0V-660'/><text y='150' text-anchor='middle'>7</text></g>
-<rect x='2550' y='1000' width='10' height='175' fill='#303030'><title>query 1 begins, entry 1</title></rect>
-<rect x='4300' y='1000' width='24' height='58' fill='hsl(0,65%,52%)'><title>load of chunk 0 for query 1, entry 2</title></rect>
-<rect x='7800' y='1520' width='7000' height='122' fill='hsl(0,65%,52%)'><title>piece 0 in frame 0, entries 4 to 8, there at the end</title></rect>
-<rect x='9550' y='1058' width='1750' height='117' fill='hsl(0,65%,52%)'><title>chunk 0 for query 1, entries 5 to 6</title></rect>
-<rect x='13050' y='1000' width='10' height='175' fill='#303030'><title>query 1 is over, entry 7</title></rect>
-<text x='7800' y='1520' dx='30' dy='88' fill='#fff'>0</text>
-<text x='9550' y='1058' dx='30' dy='88' fill='#fff'>0</text>
+<text x='1000' y='280' font-size='180'>7 entries, 1 reads, 1 deliveries</text>
+<linearGradient id='hues'><stop stop-color='hsl(40,60%,50%)'/><stop offset='.25' stop-color='hsl(100,60%,50%)'/><stop offset='.5' stop-color='hsl(160,60%,50%)'/><stop offset='.75' stop-color='hsl(220,60%,50%)'/><stop offset='1' stop-color='hsl(280,60%,50%)'/></linearGradient>
+<text x='1000' y='520'>Colour: from chunk 0</text><rect x='2420' y='410' width='1000' height='130' fill='url(#hues)'/><text x='3480' y='520'>to chunk 0. A query is given a chunk of rows; a frame holds a piece of one.</text>
+<text x='1000' y='710'>Lane of a worker: its queries, pale where they wait; above, loads that are planned; below, the chunks in its hands.</text>
+<text x='1000' y='900'>Lane of a frame: a dark line while a piece is read (Fill to Filled), a bar while it stays. Red, and nothing else is: a load failed.</text>
+<text x='960' y='2060' dy='115' text-anchor='end'>evictions</text>
+<text x='1000' y='1090' fill='#5a6478'></text>
+<g transform='translate(1000 2480)'><path stroke='#e0e0e0' stroke-width='6' d='M0 0V-780'/><text y='160' text-anchor='middle'>0</text></g>
+<g transform='translate(0 1700)'><path stroke='#e0e0e0' stroke-width='6' d='M1000 0H8700'/><text x='960' y='170' text-anchor='end'>worker 0</text></g>
+<g transform='translate(0 2320)'><path stroke='#e0e0e0' stroke-width='6' d='M1000 0H8700'/><text x='960' y='115' text-anchor='end'>frame 0</text></g>
+<g transform='translate(1962 2480)'><path stroke='#e0e0e0' stroke-width='6' d='M0 0V-780'/><text y='160' text-anchor='middle'>1</text></g>
+<g transform='translate(2925 2480)'><path stroke='#e0e0e0' stroke-width='6' d='M0 0V-780'/><text y='160' text-anchor='middle'>2</text></g>
+<g transform='translate(3887 2480)'><path stroke='#e0e0e0' stroke-width='6' d='M0 0V-780'/><text y='160' text-anchor='middle'>3</text></g>
+<g transform='translate(4850 2480)'><path stroke='#e0e0e0' stroke-width='6' d='M0 0V-780'/><text y='160' text-anchor='middle'>4</text></g>
+<g transform='translate(5812 2480)'><path stroke='#e0e0e0' stroke-width='6' d='M0 0V-780'/><text y='160' text-anchor='middle'>5</text></g>
+<g transform='translate(6775 2480)'><path stroke='#e0e0e0' stroke-width='6' d='M0 0V-780'/><text y='160' text-anchor='middle'>6</text></g>
+<g transform='translate(7737 2480)'><path stroke='#e0e0e0' stroke-width='6' d='M0 0V-780'/><text y='160' text-anchor='middle'>7</text></g>
+<rect x='1962' y='1700' width='5775' height='270' fill='#e2e5ea'><title>query 1 on worker 0, entries 1 to 7</title></rect>
+<text x='1962' y='1700' dx='30' dy='100' fill='#303030'>query 1</text>
+<rect x='5812' y='1830' width='963' height='140' fill='hsl(40,60%,50%)'><title>chunk 0 for query 1, entries 5 to 6</title></rect>
+<text x='5812' y='1830' dx='30' dy='115' fill='#fff'>0</text>
+<rect x='2925' y='1700' width='30' height='100' fill='hsl(40,60%,50%)'><title>load of chunk 0 for query 1, entry 2</title></rect>
+<rect x='4850' y='2320' width='3850' height='140' fill='hsl(40,60%,50%)'><title>piece 0 in frame 0, entries 4 to 8, there at the end</title></rect>
+<text x='4850' y='2320' dx='30' dy='115' fill='#fff'>0</text>
+<rect x='3887' y='2370' width='963' height='40' fill='#4a5468'><title>piece 0 is read into frame 0, entries 3 to 4</title></rect>
+<text x='4850' y='2480' dy='340' text-anchor='middle'>number of the entry in the story</text>
+<text x='1000' y='1280' fill='#5a6478'>5 marks are drawn as 5: below 5 pixels, those that touch are one, grey where chunks differ.</text>
 </svg>
 ";

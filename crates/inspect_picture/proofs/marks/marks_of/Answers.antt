@@ -1,6 +1,5 @@
 use Rattle.std.proofs.Common.{◌≡◌, ◌∙◌, ◌+◌, ◌-◌, ◌∷◌, length, drop, sym, ap, subst, arith, length-drop}
-use Rattle.std.specs.Prelude.{nat_eq, reverse}
-use Rattle.std.specs.HashMap.{get}
+use Rattle.std.specs.Prelude.{reverse}
 use Rattle.inspect_picture.specs.Ahead.{IsAhead}
 use Rattle.inspect_picture.proofs.Back.{marked_back, none_left}
 use Rattle.inspect_picture.proofs.marks.marks_of.Goals as goal
@@ -20,12 +19,12 @@ loop-place-preserved c =
     let after = c.note.new.self in
     let e : p - 1 + 1 ≡ p = omega (arith, c.loop-place-test.true) in
     let split : drop (p - 1) es ≡ c.entry_at-entry.result ∷ drop p es = c.entry_at-entry.ensures ∙ ap (λ k. c.entry_at-entry.result ∷ drop k es) e in
-    let ahead : IsAhead (get nat_eq before.fills) (get nat_eq before.evictions) (get nat_eq before.turns) (p - 1 + 1 + 1) (drop p es) =
-    subst (λ k. IsAhead (get nat_eq before.fills) (get nat_eq before.evictions) (get nat_eq before.turns) (k + 1) (drop p es)) (sym e) c.loop-place.invariant.ahead in
+    let ahead : IsAhead before (p - 1 + 1 + 1) (drop p es) =
+    subst (λ k. IsAhead before (k + 1) (drop p es)) (sym e) c.loop-place.invariant.ahead in
     let end : length es + 1 ≡ p - 1 + 1 + 1 + length (drop p es) = rw (e, length-drop p es) (omega (arith, c.loop-place.invariant.inside)) in
     record {
       inside = omega (arith, c.loop-place.invariant.inside);
-      ahead = subst (λ xs. IsAhead (get nat_eq after.fills) (get nat_eq after.evictions) (get nat_eq after.turns) (p - 1 + 1) xs) (sym split)
+      ahead = subst (λ xs. IsAhead after (p - 1 + 1) xs) (sym split)
           (c.in_ok-note.ensures (drop p es) ahead);
       marked = ap reverse c.in_ok-put.ensures
           ∙ marked_back c.args.groups p c.entry_at-entry.result (drop p es) (drop (p - 1) es) c.loop-place.marks.items c.mark.result c.loop-place-test.true split
