@@ -1,5 +1,5 @@
 -- What is said to `judge`.
-use Rattle.std.specs.Prelude.{◌≡◌, ◌⊎◌, ℕ, List, Ok, Err, Result}
+use Rattle.std.specs.Prelude.{◌≡◌, ◌⊎◌, ℕ, Bool, List, Ok, Err, Result, is_some}
 use Rattle.coop_outside.specs.Held.{Held}
 use Rattle.command_words.specs.Options.{Request}
 use Rattle.run_inputs.specs.Ending.{IsRead}
@@ -23,27 +23,30 @@ abbrev pub IsVerdictTold : Verdict → Reply → Type 0
 IsVerdictTold v reply = IsTextTold v reply ⊎ IsMemory reply
 
 -- the verdict on a text is told, or memory ran out
-pub record IsOfVerdict (i : Inputs) (policy : PolicyName) (text : List ℕ) (reply : Reply) : Type 0 where
+pub record IsOfVerdict (i : Inputs) (policy : PolicyName) (scratch : Bool) (text : List ℕ) (reply : Reply)
+    : Type 0 where
   pub verdict : Verdict
-  pub is : IsVerdict i policy text verdict
+  pub is : IsVerdict i policy scratch text verdict
   pub told : IsVerdictTold verdict reply
 
-abbrev pub IsJudgementOf : Inputs → PolicyName → List ℕ → Reply → Type 0
-IsJudgementOf i policy text reply = IsOfVerdict i policy text reply ⊎ IsMemory reply
+abbrev pub IsJudgementOf : Inputs → PolicyName → Bool → List ℕ → Reply → Type 0
+IsJudgementOf i policy scratch text reply = IsOfVerdict i policy scratch text reply ⊎ IsMemory reply
 
 -- OUTPUT was read as some text, and what is said is of it
-pub record IsOfOutput (i : Inputs) (policy : PolicyName) (held : Held) (name : List ℕ) (reply : Reply) : Type 0 where
+pub record IsOfOutput (i : Inputs) (policy : PolicyName) (scratch : Bool) (held : Held) (name : List ℕ) (reply : Reply)
+    : Type 0 where
   pub text : List ℕ
   pub read : IsReadAs held name text
-  pub judged : IsJudgementOf i policy text reply
+  pub judged : IsJudgementOf i policy scratch text reply
 
 -- OUTPUT is judged, or it isn't read
-abbrev pub IsJudgedFrom : Inputs → PolicyName → Held → List ℕ → ℕ → ℕ → Reply → Type 0
-IsJudgedFrom i policy held name before now reply = IsOfOutput i policy held name reply ⊎ IsUnread held name before now reply
+abbrev pub IsJudgedFrom : Inputs → PolicyName → Bool → Held → List ℕ → ℕ → ℕ → Reply → Type 0
+IsJudgedFrom i policy scratch held name before now reply =
+    IsOfOutput i policy scratch held name reply ⊎ IsUnread held name before now reply
 
 -- the request gives a run something, or stops it: then OUTPUT isn't read
 abbrev pub IsJudgedBy : Request → Held → List ℕ → ℕ → ℕ → Reply → Result Inputs Stop → Type 0
-IsJudgedBy r held name before now reply (Ok i) = IsJudgedFrom i r.policy held name before now reply
+IsJudgedBy r held name before now reply (Ok i) = IsJudgedFrom i r.policy (is_some r.scratch) held name before now reply
 IsJudgedBy r held name before now reply (Err stop) = IsStop stop reply
 
 -- WHAT IS SAID to `judge`: first what the table and the batch give is read, then OUTPUT from a shelf that holds the same

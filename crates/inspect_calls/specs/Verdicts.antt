@@ -1,5 +1,7 @@
 -- The text of a verdict.
-use Rattle.std.specs.Prelude.{◌≡◌, ◌++◌, ℕ, List, codes, decimal}
+use Rattle.std.specs.Prelude.{◌≡◌, ◌++◌, ℕ, List, None, Some, codes, decimal}
+use Rattle.inspect_verdict.specs.declared.unfit.Unfit.{Unfit}
+use Rattle.inspect_verdict.specs.declared.unfit.Unfit.TheVariants as unfit
 use Rattle.inspect_verdict.specs.declared.verdict.Verdict.{Verdict}
 use Rattle.inspect_verdict.specs.declared.verdict.Verdict.TheVariants as verdict
 use Rattle.inspect_referee.specs.declared.counts.Counts.{Counts}
@@ -26,6 +28,18 @@ legal_text entries reads apart c =
 abbrev pub illegal_text : ℕ → Reason → List ℕ
 illegal_text line why = codes "not legal: line " ++ (decimal line ++ (codes " " ++ (reason_text why ++ codes "\n")))
 
+-- why an entry doesn't fit the words of the run
+abbrev pub unfit_words : Unfit → List ℕ
+unfit_words (unfit.OutOfOrder (Some query)) = codes "the worker registers query " ++ (decimal query ++ codes " next")
+unfit_words (unfit.OutOfOrder None) = codes "the worker has registered each of its queries"
+unfit_words unfit.InMemory = codes "without --scratch no read fails"
+unfit_words (unfit.CountFell count) = codes "the count of faults had come to " ++ (decimal count ++ codes " before")
+unfit_words unfit.NoSuchWord = codes "the piece has no such word"
+
+abbrev pub unfit_text : ℕ → Unfit → List ℕ
+unfit_text line why =
+    codes "not legal: line " ++ (decimal line ++ (codes " may not come: " ++ (unfit_words why ++ codes "\n")))
+
 -- the lines of a verdict
 abbrev pub IsVerdictText : Verdict → List ℕ → Type 0
 IsVerdictText (verdict.Legal entries reads apart counts) text = text ≡ legal_text entries reads apart counts
@@ -33,6 +47,7 @@ IsVerdictText (verdict.NotAnswered query) text = text ≡ codes "not legal: quer
 IsVerdictText verdict.NoSummary text = text ≡ codes "not legal: no summary stands behind the answers\n"
 IsVerdictText (verdict.NotStory line) text = text ≡ codes "not legal: line " ++ (decimal line ++ codes " is no entry\n")
 IsVerdictText (verdict.Illegal line place reason) text = text ≡ illegal_text line reason
+IsVerdictText (verdict.Unfit line place why) text = text ≡ unfit_text line why
 IsVerdictText verdict.NotWhole text = text ≡ codes "not legal: a query isn't over, or something is left open\n"
 IsVerdictText verdict.Differs text = text ≡ codes "not legal: the line of a stop, or the summary, isn't that of the story\n"
 

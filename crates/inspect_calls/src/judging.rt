@@ -1,8 +1,9 @@
 // What is said of the output of a run.
-ghost use Rattle.std.specs.Prelude.{◌≤◌, ◌^◌, length};
+ghost use Rattle.std.specs.Prelude.{◌≤◌, ◌^◌, IfOk, is_some, length};
 ghost use Rattle.command_words.specs.Limits.{IsWithinLimits};
 ghost use Rattle.command_words.specs.Views.{request_view};
 ghost use Rattle.run_ends.specs.Running.{CanRun};
+ghost use Rattle.inspect_verdict.specs.Verdict.{IsVerdict};
 ghost use Rattle.inspect_calls.specs.Judging.{IsJudgedFrom, IsJudgement, IsJudgementOf, IsVerdictTold};
 
 use crate::output::read_output;
@@ -12,10 +13,10 @@ use command_words::Request;
 use coop_outside::Shelf;
 use inspect_verdict::{Verdict, verdict_of};
 use run_inputs::{Inputs, inputs_of};
-use scan_story::PolicyName;
 use std::alloc::Global;
 use std::hash::RandomState;
 use std::thread::Threads;
+use table_core::Memory;
 
 /// What is said to `judge`: the verdict on the file of this name as the output of the run; or why there is none.
 pub(crate) fn judgement<F: Shelf, R: Threads + Sync>(
@@ -30,7 +31,7 @@ pub(crate) fn judgement<F: Shelf, R: Threads + Sync>(
     ensures { IsJudgement (request_view run.now) (F.held shelf.old) name.now (F.faults shelf.old) (F.faults shelf.new) result }
 {
     match inputs_of(rt, alloc, keys, run, shelf) {
-        Ok(inputs) => judged_from(alloc, &inputs, run.policy, name, shelf),
+        Ok(inputs) => judged_from(alloc, &inputs, run, name, shelf),
         Err(stop) => Reply::stop(alloc, stop),
     }
 }
@@ -39,26 +40,44 @@ pub(crate) fn judgement<F: Shelf, R: Threads + Sync>(
 fn judged_from<F: Shelf>(
     alloc: Global,
     inputs: &Inputs,
-    policy: PolicyName,
+    run: &Request<'_>,
     name: &str,
     shelf: &mut F,
 ) -> Reply
     requires can { CanRun inputs.now }
-    ensures { IsJudgedFrom inputs.now policy (F.held shelf.old) name.now (F.faults shelf.old) (F.faults shelf.new) result }
+    ensures { IsJudgedFrom inputs.now run.now.policy (is_some (request_view run.now).scratch) (F.held shelf.old) name.now
+        (F.faults shelf.old) (F.faults shelf.new) result }
 {
     match read_output(alloc, name, shelf) {
-        Ok(text) => judged(alloc, inputs, policy, text.as_slice()),
+        Ok(text) => judged(alloc, inputs, run, text.as_slice()),
         Err(reply) => reply,
     }
 }
 
-// The verdict on a text.
-fn judged(alloc: Global, inputs: &Inputs, policy: PolicyName, text: &[u8]) -> Reply
+// The verdict on a text, as the output of a run that keeps its pieces as the words say.
+fn verdict_for(
+    alloc: Global,
+    inputs: &Inputs,
+    run: &Request<'_>,
+    text: &[u8],
+) -> Result<Verdict, Memory>
     requires can { CanRun inputs.now }
     requires short { length text.now ≤ 2 ^ 28 }
-    ensures { IsJudgementOf inputs.now policy text.now result }
+    ensures { IfOk result (IsVerdict inputs.now run.now.policy (is_some (request_view run.now).scratch) text.now) }
 {
-    match verdict_of(alloc, inputs, policy, text) {
+    match run.scratch {
+        Some(_) => verdict_of(alloc, inputs, run.policy, true, text),
+        None => verdict_of(alloc, inputs, run.policy, false, text),
+    }
+}
+
+// The verdict on a text, told.
+fn judged(alloc: Global, inputs: &Inputs, run: &Request<'_>, text: &[u8]) -> Reply
+    requires can { CanRun inputs.now }
+    requires short { length text.now ≤ 2 ^ 28 }
+    ensures { IsJudgementOf inputs.now run.now.policy (is_some (request_view run.now).scratch) text.now result }
+{
+    match verdict_for(alloc, inputs, run, text) {
         Ok(verdict) => told(alloc, &verdict),
         Err(_) => Reply::memory(alloc),
     }

@@ -18,6 +18,7 @@ mod refusals;
 mod reply;
 mod statements;
 mod stderr_sink;
+mod unfits;
 mod verdicts;
 
 pub use calls::inspect;

@@ -1,11 +1,13 @@
 // The text of a verdict.
 ghost use Rattle.std.specs.Prelude.{◌≡◌, ◌++◌, IfOk, OnOk, decimal};
 ghost use Rattle.inspect_calls.specs.Verdicts.{IsVerdictText, counts_text, illegal_text, legal_text, verdict_status};
+ghost use Rattle.inspect_calls.specs.Verdicts.{unfit_text};
 
 use crate::lines::{numbered, push_number};
 use crate::reasons::ShownReason;
+use crate::unfits::ShownUnfit;
 use inspect_referee::{Counts, Reason};
-use inspect_verdict::Verdict;
+use inspect_verdict::{Unfit, Verdict};
 use std::alloc::{AllocError, Global};
 
 /// 0 where the output is that of a legal run, else 1.
@@ -46,6 +48,7 @@ pub(crate) fn text_of(alloc: Global, verdict: &Verdict) -> Result<Vec<u8>, Alloc
             b" is no entry\n",
         ),
         Verdict::Illegal { line, reason, .. } => illegal_text(alloc, *line, *reason),
+        Verdict::Unfit { line, why, .. } => unfit_text(alloc, *line, *why),
         Verdict::NotWhole => {
             Vec::from_slice(
                 alloc,
@@ -65,6 +68,17 @@ fn illegal_text(alloc: Global, line: u64, reason: Reason) -> Result<Vec<u8>, All
 {
     let why = ShownReason { reason };
     match format!(in alloc; "not legal: line {line} {why}\n") {
+        Ok(text) => Ok(text.into_bytes()),
+        Err(_) => Err(AllocError),
+    }
+}
+
+// The line of an entry that doesn't fit the words of the run.
+fn unfit_text(alloc: Global, line: u64, why: Unfit) -> Result<Vec<u8>, AllocError>
+    ensures { IfOk result (λ text. text.items ≡ unfit_text line why) }
+{
+    let why = ShownUnfit { why };
+    match format!(in alloc; "not legal: line {line} may not come: {why}\n") {
         Ok(text) => Ok(text.into_bytes()),
         Err(_) => Err(AllocError),
     }

@@ -15,4 +15,11 @@ pub mod Placed
 pub mod Traces
 pub mod Stopping
 pub mod Telling
+pub mod Turning
+pub mod Ordering
+pub mod Faulting
+pub mod Straying
+pub mod Dealt
 pub mod Sentence
+pub mod Backward
+pub mod Fronts

@@ -1,5 +1,5 @@
 -- What a run that is told makes of its text: the answers, and what is read.
-use Rattle.std.proofs.Common.{◌≡◌, ◌≤◌, ◌^◌, ◌++◌, ℕ, List, length, length-append, refl, ap, subst, arith}
+use Rattle.std.proofs.Common.{◌≡◌, ◌≤◌, ◌^◌, ◌++◌, ℕ, Bool, List, length, length-append, refl, ap, subst, arith}
 use Rattle.std.specs.Prelude.{Option, Some, Result, map}
 use Rattle.std.specs.List.{AllZip}
 use Rattle.table_core.specs.Value.{row_values}
@@ -28,7 +28,7 @@ use Rattle.inspect_verdict.proofs.Fitting.{query_fits}
 use Rattle.inspect_verdict.proofs.VerdictLines.{entries_few, summary_is}
 use Rattle.inspect_verdict.proofs.Stopping.{answers_are, losses_are, plain_or, with_losses}
 
-module _ (i : Inputs) (can : CanRun i) (name : PolicyName) (out : List ℕ) (short : length out ≤ 2 ^ 30) (plain : List Answer) (are : ArePlain i.loaded.table.rows (plans_of i.outcomes.items) plain) (story : List Entry) (run : IsRunTold i name out story) where
+module _ (i : Inputs) (can : CanRun i) (name : PolicyName) (scratch : Bool) (out : List ℕ) (short : length out ≤ 2 ^ 30) (plain : List Answer) (are : ArePlain i.loaded.table.rows (plans_of i.outcomes.items) plain) (story : List Entry) (run : IsRunTold i name scratch out story) where
   -- the answers of the run
   abbrev pub given : List Answer
   given = with_losses i.outcomes.items plain run.losses

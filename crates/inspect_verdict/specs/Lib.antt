@@ -5,6 +5,8 @@ pub mod StatementParts
 pub mod Plain
 pub mod Stops
 pub mod Reading
+pub mod Words
 pub mod Judged
 pub mod Told
 pub mod Verdict
+pub mod Back

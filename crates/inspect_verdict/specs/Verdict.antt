@@ -1,5 +1,5 @@
 -- THE VERDICT on an output.
-use Rattle.std.specs.Prelude.{◌≡◌, ◌≤◌, ◌++◌, ℕ, List, drop, length}
+use Rattle.std.specs.Prelude.{◌≡◌, ◌≤◌, ◌++◌, ℕ, Bool, List, drop, length}
 use Rattle.std.specs.List.{AllByRecursion}
 use Rattle.scan_story.specs.declared.entry.Entry.{Entry}
 use Rattle.scan_story.specs.declared.setting.PolicyName.{PolicyName}
@@ -13,22 +13,26 @@ use Rattle.inspect_verdict.specs.Ends.{BeginsAtLine}
 use Rattle.inspect_verdict.specs.Apart.{reads_apart}
 use Rattle.run_inputs.specs.declared.inputs.Inputs.{Inputs}
 use Rattle.inspect_referee.specs.Counts.{AreCounts}
-use Rattle.inspect_referee.specs.Ruling.{IsRefused}
 use Rattle.inspect_referee.specs.declared.counts.Counts.{Counts}
 use Rattle.inspect_referee.specs.declared.ruling.Reason.{Reason}
+use Rattle.run_ends.specs.Running.{shape_in}
+use Rattle.inspect_verdict.specs.Judged.{IsIllegal, IsStray}
+use Rattle.inspect_verdict.specs.Words.{AreAllRegistered}
+use Rattle.inspect_verdict.specs.declared.unfit.Unfit.{Unfit}
 use Rattle.inspect_verdict.specs.Reading.{IsTrace}
 use Rattle.inspect_verdict.specs.Told.{IsRunTold, run_setting}
 use Rattle.inspect_verdict.specs.declared.verdict.Verdict.{Verdict}
 use Rattle.inspect_verdict.specs.declared.verdict.Verdict.TheVariants as verdict
 
 -- no run is told by the text
-abbrev pub TellsNoRun : Inputs → PolicyName → List ℕ → Type 0
-TellsNoRun i name out = (story : List Entry) → IsRunTold i name out story → ⊥
+abbrev pub TellsNoRun : Inputs → PolicyName → Bool → List ℕ → Type 0
+TellsNoRun i name scratch out = (story : List Entry) → IsRunTold i name scratch out story → ⊥
 
 -- a run is told by the text, with so many entries, reads, and entries of each kind; separate scans would read so many pieces
-pub record TellsRun (i : Inputs) (name : PolicyName) (out : List ℕ) (entries reads_made apart : ℕ) (counts : Counts) : Type 0 where
+pub record TellsRun (i : Inputs) (name : PolicyName) (scratch : Bool) (out : List ℕ) (entries reads_made apart : ℕ)
+    (counts : Counts) : Type 0 where
   pub story : List Entry
-  pub told : IsRunTold i name out story
+  pub told : IsRunTold i name scratch out story
   pub entries_are : entries ≡ length story
   pub reads_are : reads_made ≡ reads (past story)
   pub apart_are : apart ≡ reads_apart (run_setting i name)
@@ -36,14 +40,27 @@ pub record TellsRun (i : Inputs) (name : PolicyName) (out : List ℕ) (entries r
   pub little : (run_setting i name).groups ≡ 1 → stopped_queries (run_setting i name) (past story) ≡ 0 → reads_made ≤ apart
   pub counts_are : AreCounts story counts
 
--- no run is told: the trace is a story whose entry at this place may not come, for this reason, and which goes on from
--- there at the line of this number
-pub record RefusesEntry (i : Inputs) (name : PolicyName) (out : List ℕ) (line place : ℕ) (reason : Reason) : Type 0 where
-  pub none : TellsNoRun i name out
+-- no run is told: the trace begins with a story whose entry at this place is the first that may not come, for this
+-- reason, and which goes on from there at the line of this number
+pub record RefusesEntry (i : Inputs) (name : PolicyName) (scratch : Bool) (out : List ℕ) (line place : ℕ)
+    (reason : Reason) : Type 0 where
+  pub none : TellsNoRun i name scratch out
   pub story : List Entry
-  pub trace : IsTrace i out (story_text story)
-  pub refused : IsRefused (run_setting i name) story place reason
-  pub at_line : BeginsAtLine out (story_text (drop place story)) line
+  pub rest : List ℕ
+  pub trace : IsTrace i out (story_text story ++ rest)
+  pub refused : IsIllegal (run_setting i name) (shape_in i) scratch story place reason
+  pub at_line : BeginsAtLine out (story_text (drop place story) ++ rest) line
+
+-- no run is told: the trace begins with a story whose entries before this place are legal, the one there doesn't fit the
+-- words, for this reason, and it goes on from there at the line of this number
+pub record RefusesUnfit (i : Inputs) (name : PolicyName) (scratch : Bool) (out : List ℕ) (line place : ℕ)
+    (reason : Unfit) : Type 0 where
+  pub none : TellsNoRun i name scratch out
+  pub story : List Entry
+  pub rest : List ℕ
+  pub trace : IsTrace i out (story_text story ++ rest)
+  pub stray : IsStray (run_setting i name) (shape_in i) scratch story place reason
+  pub at_line : BeginsAtLine out (story_text (drop place story) ++ rest) line
 
 -- the trace has the lines of some entries and then, from the line of this number on, what begins with no entry's line
 pub record HasNoEntryAt (i : Inputs) (out : List ℕ) (line : ℕ) : Type 0 where
@@ -55,25 +72,34 @@ pub record HasNoEntryAt (i : Inputs) (out : List ℕ) (line : ℕ) : Type 0 wher
   pub at_line : BeginsAtLine out rest line
 
 -- no run is told, since this line is no entry's
-pub record RefusesLine (i : Inputs) (name : PolicyName) (out : List ℕ) (line : ℕ) : Type 0 where
-  pub none : TellsNoRun i name out
+pub record RefusesLine (i : Inputs) (name : PolicyName) (scratch : Bool) (out : List ℕ) (line : ℕ) : Type 0 where
+  pub none : TellsNoRun i name scratch out
   pub bad : HasNoEntryAt i out line
 
--- no run is told: the trace is a story that is legal, but not whole
-pub record LeavesOpen (i : Inputs) (name : PolicyName) (out : List ℕ) : Type 0 where
-  pub none : TellsNoRun i name out
+-- no run is told: the trace is a story that is legal, but not whole, or in which a worker left out one of its scans
+pub record LeavesOpen (i : Inputs) (name : PolicyName) (scratch : Bool) (out : List ℕ) : Type 0 where
+  pub none : TellsNoRun i name scratch out
   pub story : List Entry
   pub trace : IsTrace i out (story_text story)
   pub legal : Legal (run_setting i name) (past story)
-  pub unfinished : IsWhole (run_setting i name) (past story) → ⊥
+  pub unfinished : IsWhole (run_setting i name) (past story)
+      → AreAllRegistered (run_setting i name) story i.options.workers → ⊥
 
 -- LEGAL exactly where the text tells a run
-abbrev pub IsVerdict : Inputs → PolicyName → List ℕ → Verdict → Type 0
-IsVerdict i name out (verdict.Legal entries reads_made apart counts) = TellsRun i name out entries reads_made apart counts
-IsVerdict i name out (verdict.Illegal line place reason) = RefusesEntry i name out line place reason
-IsVerdict i name out (verdict.NotStory line) = RefusesLine i name out line
-IsVerdict i name out verdict.NotWhole = LeavesOpen i name out
-IsVerdict i name out _ = TellsNoRun i name out
+abbrev pub IsVerdict : Inputs → PolicyName → Bool → List ℕ → Verdict → Type 0
+IsVerdict i name scratch out (verdict.Legal entries reads_made apart counts) =
+    TellsRun i name scratch out entries reads_made apart counts
+IsVerdict i name scratch out (verdict.Illegal line place reason) = RefusesEntry i name scratch out line place reason
+IsVerdict i name scratch out (verdict.Unfit line place reason) = RefusesUnfit i name scratch out line place reason
+IsVerdict i name scratch out (verdict.NotStory line) = RefusesLine i name scratch out line
+IsVerdict i name scratch out verdict.NotWhole = LeavesOpen i name scratch out
+IsVerdict i name scratch out _ = TellsNoRun i name scratch out
+
+-- the verdict on a text, where a front of it has this one: an entry that may not come there is earlier
+abbrev pub earlier_of : Verdict → Verdict → Verdict
+earlier_of v (verdict.Illegal line place reason) = verdict.Illegal line place reason
+earlier_of v (verdict.Unfit line place why) = verdict.Unfit line place why
+earlier_of v _ = v
 
 -- what stands in the way of reading a story
 abbrev pub IsOfReading : Inputs → List ℕ → Verdict → Type 0

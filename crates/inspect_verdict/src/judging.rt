@@ -1,18 +1,21 @@
 // The story of a run, judged.
-ghost use Rattle.std.specs.Prelude.{◌≡◌, IfOk};
-ghost use Rattle.run_ends.specs.Running.{CanRun};
+ghost use Rattle.std.specs.Prelude.{◌≡◌, IfOk, length};
+ghost use Rattle.run_ends.specs.Running.{CanRun, shape_in};
 ghost use Rattle.run_ends.specs.Tasks.{tasks_in};
 ghost use Rattle.inspect_verdict.specs.Judged as spec;
 ghost use Rattle.inspect_verdict.specs.Told.{run_setting};
 
 use crate::apart::reads_apart;
 use crate::terms::terms_of;
+use crate::unfit::Unfit;
+use crate::wording::{Fitting, fits_of};
 use batch_plan::Task;
 use inspect_referee::{Counts, Reason, Ruling, judge};
 use run_inputs::Inputs;
 use scan_story::{Entry, PolicyName};
 use std::alloc::Global;
 use table_core::Memory;
+use table_pieces::shape_of;
 
 /// What is said of the story of a run.
 #[derive(Clone, Copy, Debug, PartialEq, Eq)]
@@ -22,18 +25,35 @@ pub(crate) enum Judged {
     Legal { counts: Counts, apart: u64 },
     /// The entry at this place, from 0, is the first that may not come where it stands, for this reason.
     Illegal { place: usize, reason: Reason },
+    /// The entry at this place, from 0, is the first that doesn't fit the words of the run, for this reason.
+    Unfit { place: usize, why: Unfit },
     /// It is legal, but a query isn't over, or something is left open.
     NotWhole,
 }
 
-// What a ruling says of the story of a run for which separate scans would read so many pieces.
-fn judged_by(ruling: Ruling, apart: u64) -> Judged
-    ensures { result ≡ spec.judged_by ruling apart }
+// The entries before the one that the ruling refuses.
+fn legal_front(ruling: Ruling, story: &[Entry]) -> &[Entry]
+    requires { spec.StandsIn ruling (length story.now) }
+    ensures { result.now ≡ spec.legal_front ruling story.now }
 {
+    match ruling {
+        Ruling::Legal { .. } => story,
+        Ruling::Illegal { place, .. } => &story[..place],
+    }
+}
+
+// What a ruling, and what is said of the entries before the one that it refuses, say of the story of a run for which
+// separate scans would read so many pieces.
+fn judged_by(ruling: Ruling, fits: Fitting, apart: u64) -> Judged
+    ensures { result ≡ spec.judged_by ruling fits apart }
+{
+    if let Fitting::Unfit { place, why } = fits {
+        return Judged::Unfit { place, why };
+    }
     match ruling {
         Ruling::Illegal { place, reason } => Judged::Illegal { place, reason },
         Ruling::Legal { whole, counts } => {
-            if whole {
+            if whole && matches!(fits, Fitting::All) {
                 return Judged::Legal { counts, apart };
             }
             Judged::NotWhole
@@ -41,28 +61,26 @@ fn judged_by(ruling: Ruling, apart: u64) -> Judged
     }
 }
 
-/// Judges a story in the setting of a run under the policy of this name. The tasks are those of its statements. The
-/// error is out of memory.
+/// Judges a story in the setting of a run under the policy of this name, which keeps its pieces in a scratch file or in
+/// memory. The tasks are those of its statements. The error is out of memory.
 pub(crate) fn judge_run(
     alloc: Global,
     inputs: &Inputs,
     tasks: &[Task<'_>],
     policy: PolicyName,
+    scratch: bool,
     story: &[Entry],
 ) -> Result<Judged, Memory>
     requires can { CanRun inputs.now }
     requires tasks { tasks.now ≡ tasks_in 1 inputs.now.outcomes.items }
-    ensures { IfOk result (spec.IsJudged (run_setting inputs.now policy) story.now) }
+    ensures { IfOk result (spec.IsJudged (run_setting inputs.now policy) (shape_in inputs.now) scratch story.now) }
 {
     let loaded = &inputs.loaded;
-    let terms = terms_of(
-        alloc,
-        &loaded.table,
-        &loaded.dicts,
-        tasks,
-        &inputs.options,
-        policy,
-    )?;
+    let options = &inputs.options;
+    let (table, dicts) = (&loaded.table, &loaded.dicts);
+    let terms = terms_of(alloc, table, dicts, tasks, options, policy)?;
+    let shape = shape_of(alloc, table, dicts, options.layout, options.per)?;
     let ruling = judge(alloc, &terms, story)?;
-    Ok(judged_by(ruling, reads_apart(&terms)))
+    let fits = fits_of(alloc, &terms, &shape, scratch, legal_front(ruling, story))?;
+    Ok(judged_by(ruling, fits, reads_apart(&terms)))
 }

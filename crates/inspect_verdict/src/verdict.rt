@@ -1,12 +1,15 @@
 // The verdict on an output.
-ghost use Rattle.std.specs.Prelude.{◌≡◌, ◌≤◌, ◌^◌, IfOk, length};
+ghost use Rattle.std.specs.Prelude.{◌≡◌, ◌≤◌, ◌^◌, IfOk, length, take};
 ghost use Rattle.run_ends.specs.Running.{CanRun};
+ghost use Rattle.inspect_verdict.specs.Verdict as spec;
 ghost use Rattle.inspect_verdict.specs.Verdict.{IsVerdict};
 
 use crate::answers::answers_of;
 use crate::judging::{Judged, judge_run};
 use crate::output_reading::{Told, read_output};
+use crate::part::behind_line;
 use crate::stops::{answers_with, stops_of};
+use crate::unfit::Unfit;
 use crate::writing::is_output;
 use inspect_referee::{Counts, Reason};
 use run_ends::{Counts as Spent, tasks_of};
@@ -43,6 +46,13 @@ pub enum Verdict {
         place: usize,
         reason: Reason,
     },
+    /// The entry at this line of the output, from 1, and this place of the story, from 0, keeps the rules of stories, but
+    /// is none of a run with these words: it is the first, for this reason.
+    Unfit {
+        line: u64,
+        place: usize,
+        why: Unfit,
+    },
     /// The story is legal, but a query isn't over, so a chunk that it needs was not delivered exactly once, or something
     /// is left open.
     NotWhole,
@@ -50,21 +60,17 @@ pub enum Verdict {
     Differs,
 }
 
-/// Whether a text of at most 2^30 bytes is the output of a run of these inputs under the policy of this name, and of
-/// which length; or the first that stands in the way. The error is out of memory.
-///
-/// `Legal` comes exactly where it is one: some story in the setting of the run is legal, whole and undisturbed, and the
-/// text is the answers computed over the whole table, for each query that the story stopped its line, the summary where
-/// the inputs ask for one, and the story. The text ends with the trace, whether the inputs ask for it or not.
-pub fn verdict_of(
+// The verdict on a text, in which the first line that is no entry's is told before all entries.
+fn verdict_on(
     alloc: Global,
     inputs: &Inputs,
     policy: PolicyName,
+    scratch: bool,
     output: &[u8],
 ) -> Result<Verdict, Memory>
     requires can { CanRun inputs.now }
     requires short { length output.now ≤ 2 ^ 30 }
-    ensures verdict { IfOk result (IsVerdict inputs.now policy output.now) }
+    ensures verdict { IfOk result (IsVerdict inputs.now policy scratch output.now) }
 {
     let tasks = tasks_of(alloc, &inputs.outcomes)?;
     let plain = answers_of(alloc, &inputs.outcomes, &inputs.loaded.table)?;
@@ -76,7 +82,7 @@ pub fn verdict_of(
         Ok(told) => told,
         Err(verdict) => return Ok(verdict),
     };
-    let (counts, apart) = match judge_run(alloc, inputs, &tasks, policy, &story)? {
+    let (counts, apart) = match judge_run(alloc, inputs, &tasks, policy, scratch, &story)? {
         Judged::Legal { counts, apart } => (counts, apart),
         Judged::Illegal { place, reason } => {
             let line = first + place as u64;
@@ -84,6 +90,14 @@ pub fn verdict_of(
                 line,
                 place,
                 reason,
+            });
+        }
+        Judged::Unfit { place, why } => {
+            let at = first + place as u64;
+            return Ok(Verdict::Unfit {
+                line: at,
+                place,
+                why,
             });
         }
         Judged::NotWhole => return Ok(Verdict::NotWhole),
@@ -99,4 +113,67 @@ pub fn verdict_of(
         apart,
         counts,
     })
+}
+
+// The verdict on a text, where a front of it has this one: an entry that may not come there is earlier.
+fn earlier_of(verdict: Verdict, front: Verdict) -> Verdict
+    ensures { result ≡ spec.earlier_of verdict front }
+{
+    match front {
+        Verdict::Illegal { .. } => front,
+        Verdict::Unfit { .. } => front,
+        _ => verdict,
+    }
+}
+
+// Where the line of this number begins; the end of the text, where it has fewer.
+fn start_of_line(text: &[u8], line: u64) -> usize
+    ensures { result ≤ length text.now }
+{
+    let mut left = text;
+    for _ in 1..line {
+        left = behind_line(left).unwrap_or(b"");
+    }
+    text.len().saturating_sub(left.len())
+}
+
+// The first bytes of a text.
+fn front_of(text: &[u8], bytes: usize) -> &[u8]
+    requires { bytes ≤ length text.now }
+    ensures { result.now ≡ take bytes text.now }
+{
+    &text[..bytes]
+}
+
+/// Whether a text of at most 2^30 bytes is the output of a run of these inputs under the policy of this name, which keeps
+/// its pieces in a scratch file or, without `scratch`, in memory, and of which length; or the first that stands in the
+/// way: of several entries and lines of the trace the first. The error is out of memory.
+///
+/// `Legal` comes exactly where it is one: some story in the setting of the run is legal, whole and undisturbed, each
+/// worker registered its scans in the order of the batch, each read failed as it may, and the text is the answers
+/// computed over the whole table, for each query that the story stopped its line, the summary where the inputs ask for
+/// one, and the story. The text ends with the trace, whether the inputs ask for it or not.
+pub fn verdict_of(
+    alloc: Global,
+    inputs: &Inputs,
+    policy: PolicyName,
+    scratch: bool,
+    output: &[u8],
+) -> Result<Verdict, Memory>
+    requires can { CanRun inputs.now }
+    requires short { length output.now ≤ 2 ^ 30 }
+    ensures verdict { IfOk result (IsVerdict inputs.now policy scratch output.now) }
+{
+    let verdict = verdict_on(alloc, inputs, policy, scratch, output)?;
+    let Verdict::NotStory { line } = verdict else {
+        return Ok(verdict);
+    };
+    let front = verdict_on(
+        alloc,
+        inputs,
+        policy,
+        scratch,
+        front_of(output, start_of_line(output, line)),
+    )?;
+    Ok(earlier_of(verdict, front))
 }

@@ -4,7 +4,10 @@ use coop_outside::{Bytes, MemShelf, MemSink};
 use inspect_calls::inspect;
 use std::alloc::Global;
 use std::hash::RandomState;
+use std::process::Abort;
+use std::random::RandomSource;
 use std::test::Fail;
+use std::thread::Threads;
 
 // Files by their names.
 const FILES: &[(&str, &[u8])] = &[
@@ -34,6 +37,11 @@ const FILES: &[(&str, &[u8])] = &[
     (
         "wrong",
         b"query 1\n4\nregister 0 1\nplan 0 1 0\nfill 0 0 0\n",
+    ),
+    // A line that may not come, and a later one that is no entry.
+    (
+        "hidden",
+        b"query 1\n3\nregister 0 1\nplan 0 1 0\nfill 0 4 0\nfilled 0 0",
     ),
     ("bytes", b"query 1\n3\nregister 0 1\nplan 0 1 \xff\n"),
     ("answers", b"query 1\n3\n"),
@@ -74,6 +82,12 @@ const SAID: &[(&str, u8, &str, &str)] = &[
         "judge|--threads|1|table|batch|bytes",
         1,
         "not legal: line 4 is no entry\n",
+        "",
+    ),
+    (
+        "judge|--threads|1|table|batch|hidden",
+        1,
+        "not legal: line 5 may not come: there is no such frame\n",
         "",
     ),
     (
@@ -159,9 +173,9 @@ fn words_of(alloc: Global, line: &str) -> Result<Vec<String>, Fail> {
     Ok(words)
 }
 
-fn shelf_of(alloc: Global) -> Result<MemShelf, Fail> {
+fn shelf_of(alloc: Global, texts: &[(&str, &[u8])]) -> Result<MemShelf, Fail> {
     let mut files = Vec::new(alloc);
-    for (name, text) in FILES {
+    for (name, text) in texts {
         let bytes = Bytes::new(Vec::from_slice(alloc, *text)?);
         files.push((String::from_str(alloc, *name)?, bytes))?;
     }
@@ -183,19 +197,23 @@ fn sink(alloc: Global) -> MemSink {
     }
 }
 
-#[test]
-fn each_call_says_just_its_text(rt: HostRuntime) -> Result<(), Fail> {
-    let alloc = rt.alloc();
-    for (line, status, text, fault) in SAID {
+/// Fails where a call of these words over these files says another text, or ends with another status.
+pub(crate) fn each_says<R: Abort + RandomSource + Threads + Sync>(
+    rt: &R,
+    alloc: Global,
+    texts: &[(&str, &[u8])],
+    said: &[(&str, u8, &str, &str)],
+) -> Result<(), Fail> {
+    for (line, status, text, fault) in said {
         let (mut out, mut err) = (sink(alloc), sink(alloc));
         let words = words_of(alloc, *line)?;
-        let keys = RandomState::new(&rt)?;
+        let keys = RandomState::new(rt)?;
         let ended = inspect(
-            &rt,
+            rt,
             alloc,
             keys,
             &words,
-            &mut shelf_of(alloc)?,
+            &mut shelf_of(alloc, texts)?,
             &mut out,
             &mut err,
         );
@@ -204,4 +222,9 @@ fn each_call_says_just_its_text(rt: HostRuntime) -> Result<(), Fail> {
         assert!(rt; err.taken.as_slice() == fault.as_bytes(), "{line}");
     }
     Ok(())
+}
+
+#[test]
+fn each_call_says_just_its_text(rt: HostRuntime) -> Result<(), Fail> {
+    each_says(&rt, rt.alloc(), FILES, SAID)
 }

@@ -22,3 +22,5 @@ mod profiles;
 mod smallest_picture;
 #[cfg(test)]
 mod verdicts;
+#[cfg(test)]
+mod words;

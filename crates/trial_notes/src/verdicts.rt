@@ -68,7 +68,7 @@ fn verdict_on<R: Abort + RandomSource + Threads + Sync>(
     let Ok(inputs) = inputs_of(rt, alloc, keys, &request, &mut shelf) else {
         panic!(rt; "stopped")
     };
-    let Ok(verdict) = verdict_of(alloc, &inputs, PolicyName::Relevance, output) else {
+    let Ok(verdict) = verdict_of(alloc, &inputs, PolicyName::Relevance, false, output) else {
         panic!(rt; "out of memory")
     };
     Ok(verdict)
