@@ -148,7 +148,7 @@ fn write_picture(
 /// The picture of a story, where a chunk has `groups` pieces, as the text of an SVG.
 ///
 /// Each mark of a story, as a stay of a piece in a frame, a delivery, a load or a fault, lies within an element: narrow
-/// ones that touch are drawn as one. So a picture has at most 2 MB, however long the story is.
+/// ones that touch are drawn as one. So a picture stays small, however long the story is.
 pub fn draw(alloc: Global, entries: &[Entry], groups: u32) -> Result<Bytes, Memory>
     requires groups { 1 ≤ groups }
     requires size { length entries.now ≤ 2 ^ 30 }

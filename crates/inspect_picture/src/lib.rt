@@ -1,5 +1,5 @@
 //! A picture of what a buffer manager did, as the text of an SVG: the stays of pieces in frames, the chunks in the
-//! hands of queries, loads, evictions and faults, entry by entry. It has at most 2 MB, however long the story is.
+//! hands of queries, loads, evictions and faults, entry by entry. It stays small, however long the story is.
 //!
 //!     let entries = story_of_output(alloc, printed)?;       // what `coop_cli --trace` printed, or a story alone
 //!     let groups = groups_of(&entries).unwrap_or(1);        // how many pieces a chunk has
