@@ -183,3 +183,14 @@ fn a_drawn_condition_has_the_truths_of_each_row(rt: HostRuntime) -> Result<(), F
     }
     Ok(())
 }
+
+#[test]
+fn the_truths_of_drawn_tables_and_conditions_agree(rt: HostRuntime) -> Result<(), Fail> {
+    for draw in 0..10_000_u64 {
+        let state = next(draw);
+        let block = drawn_block(&rt, state, (state >> 33) as u32 % 65);
+        let cond = drawn_cond(rt.alloc(), state, 1 + (state >> 50) as u32 % 6)?;
+        check(&rt, &cond, &block);
+    }
+    Ok(())
+}

@@ -2,6 +2,7 @@
 ghost use Rattle.std.specs.Prelude.{◌≡◌, ◌≤◌, ◌+◌, OnOk};
 ghost use Rattle.query_meaning.specs.Places.{NamesPlaces};
 
+use crate::drawn::next;
 use crate::fitting::{are_rows, items_in, keys_in};
 use crate::groups::empty;
 use agg_groups::{FinishFault, Groups, Item, Rows};
@@ -120,21 +121,22 @@ fn is_same(a: &Result<Rows, FinishFault>, b: &Result<Rows, FinishFault>) -> bool
     }
 }
 
-// Adds chosen rows of three blocks, of which the third is the first again, so that its keys are known.
+// Adds chosen rows of blocks of so many rows and then of the first again, so that its keys are known.
 fn add_three(
     rt: &impl Abort,
     at_once: &mut Groups,
     in_turn: &mut Groups,
     seed: u64,
-    count: u32,
+    counts: (u32, u32),
 ) -> Result<(), Memory>
     requires few { at_once.old.rows ≡ 0 }
     requires few_rows { in_turn.old.rows ≡ 0 }
     requires places { NamesPlaces at_once.old.items at_once.old.keys 4 }
     requires row_places { NamesPlaces in_turn.old.items in_turn.old.keys 4 }
 {
-    let first = block_of(rt, seed, count);
-    let second = block_of(rt, drawn(seed), 64);
+    let (first_count, second_count) = counts;
+    let first = block_of(rt, seed, first_count);
+    let second = block_of(rt, drawn(seed), second_count);
     let chosen = drawn(seed ^ 5) | drawn(seed ^ 6);
     add_both(rt, at_once, in_turn, &first, chosen)?;
     add_both(rt, at_once, in_turn, &second, drawn(seed ^ 7))?;
@@ -148,13 +150,13 @@ fn agrees(
     items: &[Item],
     keys: &[u32],
     seed: u64,
-    count: u32,
+    counts: (u32, u32),
 ) -> Result<bool, Memory>
     requires { NamesPlaces items.now keys.now 4 }
 {
     let mut at_once = empty(alloc, items, keys)?;
     let mut in_turn = empty(alloc, items, keys)?;
-    add_three(rt, &mut at_once, &mut in_turn, seed, count)?;
+    add_three(rt, &mut at_once, &mut in_turn, seed, counts)?;
     Ok(is_same(&at_once.finish(), &in_turn.finish()))
 }
 
@@ -164,11 +166,11 @@ fn check(
     items: &[Item],
     keys: &[u32],
     seed: u64,
-    count: u32,
+    counts: (u32, u32),
 ) -> Result<(), Fail> {
     assert!(rt; items_in(items, 4) && keys_in(keys, 4));
-    let agrees = agrees(rt, alloc, items, keys, seed, count)?;
-    assert!(rt; agrees, "{keys:?} {seed} {count}");
+    let agrees = agrees(rt, alloc, items, keys, seed, counts)?;
+    assert!(rt; agrees, "{keys:?} {seed} {counts:?}");
     Ok(())
 }
 
@@ -189,9 +191,49 @@ const KEYS: [&[u32]; 7] = [&[], &[0], &[1], &[3], &[0, 1], &[1, 3], &[1, 0, 2]];
 fn groups_with_a_block_are_those_with_its_rows(rt: HostRuntime) -> Result<(), Fail> {
     for keys in KEYS {
         for (seed, count) in [(1, 64), (2, 63), (3, 1), (4, 0), (5, 40)] {
-            check(&rt, rt.alloc(), &OF_NUMBERS, keys, seed, count)?;
-            check(&rt, rt.alloc(), &OF_ENDS, keys, seed, count)?;
+            check(&rt, rt.alloc(), &OF_NUMBERS, keys, seed, (count, 64))?;
+            check(&rt, rt.alloc(), &OF_ENDS, keys, seed, (count, 64))?;
         }
+    }
+    Ok(())
+}
+
+// An item over a column of block_of.
+fn drawn_item(state: u64) -> Item {
+    let column = (state >> 33) as u32 % 4;
+    match (state >> 40) % 6 {
+        0 => Item::CountAll,
+        1 => Item::Key(column),
+        2 => Item::Count(column),
+        3 => Item::Sum(column),
+        4 => Item::Min(column),
+        _ => Item::Max(column),
+    }
+}
+
+fn drawn_items(seed: u64) -> [Item; 6] {
+    let mut items = [Item::CountAll; 6];
+    let mut state = seed;
+    for item in &mut items {
+        state = next(state);
+        *item = drawn_item(state);
+    }
+    items
+}
+
+// Up to 64 rows, most of them few.
+fn drawn_count(state: u64) -> u32 {
+    (state >> 56) as u32 % 65 >> (state >> 30 & 3)
+}
+
+#[test]
+fn groups_of_drawn_tables_and_queries_agree(rt: HostRuntime) -> Result<(), Fail> {
+    for draw in 0..10_000_u64 {
+        let state = next(draw);
+        let (items, keys) = (drawn_items(state), KEYS[(state >> 40) as usize % 7]);
+        let many = 1 + (state >> 50) as usize % 6;
+        let counts = (drawn_count(state), drawn_count(next(state)));
+        check(&rt, rt.alloc(), &items[..many], keys, state, counts)?;
     }
     Ok(())
 }

@@ -49,15 +49,35 @@ const ORDERS: [&[Order]; 5] = [
     &[NULL_UP, PAST_DOWN, NUMBER_DOWN],
 ];
 
-// Seeds of blocks, the number of the first row, how many rows there are, and which of them are chosen: 98 in all.
-const BLOCKS: [(u64, u32, u32, u64); 6] = [
-    (1, 128, 64, u64::MAX),
-    (2, 64, 63, 0xf0f0_f0f0_f0f0_f0f0),
-    (3, 0, 0, u64::MAX),
-    (4, 0, 64, 0),
-    (5, 900, 1, 1),
-    (6, 0, 64, 0x8000_0000_0000_0001),
-];
+// A block that looks drawn: its seed, the number of its first row, how many rows it has, and which of them are chosen.
+#[derive(Drop)]
+struct Drawn {
+    seed: u64,
+    first: u32,
+    count: u32,
+    chosen: u64,
+}
+
+fn drawn_as(seed: u64, first: u32, count: u32, chosen: u64) -> Drawn {
+    Drawn {
+        seed,
+        first,
+        count,
+        chosen,
+    }
+}
+
+// Of their rows 98 are chosen.
+fn six_blocks() -> [Drawn; 6] {
+    [
+        drawn_as(1, 128, 64, u64::MAX),
+        drawn_as(2, 64, 63, 0xf0f0_f0f0_f0f0_f0f0),
+        drawn_as(3, 0, 0, u64::MAX),
+        drawn_as(4, 0, 64, 0),
+        drawn_as(5, 900, 1, 1),
+        drawn_as(6, 0, 64, 0x8000_0000_0000_0001),
+    ]
+}
 
 fn none_of(alloc: Global, order: &[Order], limit: u32) -> Result<TopRows, Memory> {
     let plan = RowPlan {
@@ -89,58 +109,96 @@ fn add_each(
     Ok(())
 }
 
-fn add_blocks(rt: &impl Abort, top: &mut TopRows) -> Result<(), Memory> {
-    for (seed, first, count, chosen) in BLOCKS {
-        let block = drawn_block(rt, seed, count);
-        top.add_block(first, &block, chosen)?;
+fn add_blocks(rt: &impl Abort, top: &mut TopRows, blocks: &[Drawn]) -> Result<(), Memory> {
+    for it in blocks {
+        let block = drawn_block(rt, it.seed, it.count);
+        top.add_block(it.first, &block, it.chosen)?;
     }
     Ok(())
 }
 
-fn add_rows(rt: &impl Abort, top: &mut TopRows) -> Result<(), Memory> {
-    for (seed, first, count, chosen) in BLOCKS {
-        assert!(rt; first < 1000);
-        let block = drawn_block(rt, seed, count);
-        add_each(rt, top, first, &block, chosen)?;
+fn add_rows(rt: &impl Abort, top: &mut TopRows, blocks: &[Drawn]) -> Result<(), Memory> {
+    for it in blocks {
+        assert!(rt; it.first < 1000);
+        let block = drawn_block(rt, it.seed, it.count);
+        add_each(rt, top, it.first, &block, it.chosen)?;
     }
     Ok(())
 }
 
-// The first rows of all blocks, each block added at once.
+// The first rows of the blocks, each block added at once.
 fn by_blocks(
     rt: &impl Abort,
     alloc: Global,
     order: &[Order],
     limit: u32,
+    blocks: &[Drawn],
 ) -> Result<Picked, Memory> {
     let mut top = none_of(alloc, order, limit)?;
-    add_blocks(rt, &mut top)?;
+    add_blocks(rt, &mut top, blocks)?;
     top.finish()
 }
 
-// The first rows of all blocks, added one row after another.
-fn by_rows(rt: &impl Abort, alloc: Global, order: &[Order], limit: u32) -> Result<Picked, Memory> {
+// The first rows of the blocks, added one row after another.
+fn by_rows(
+    rt: &impl Abort,
+    alloc: Global,
+    order: &[Order],
+    limit: u32,
+    blocks: &[Drawn],
+) -> Result<Picked, Memory> {
     let mut top = none_of(alloc, order, limit)?;
-    add_rows(rt, &mut top)?;
+    add_rows(rt, &mut top, blocks)?;
     top.finish()
 }
 
-fn check(rt: &impl Abort, alloc: Global, order: &[Order], limit: u32) -> Result<(), Fail> {
-    let found = by_blocks(rt, alloc, order, limit)?;
-    let wanted = by_rows(rt, alloc, order, limit)?;
+// How many rows both ways pick, which are the same rows.
+fn check(
+    rt: &impl Abort,
+    alloc: Global,
+    order: &[Order],
+    limit: u32,
+    blocks: &[Drawn],
+) -> Result<usize, Fail> {
+    let found = by_blocks(rt, alloc, order, limit, blocks)?;
+    let wanted = by_rows(rt, alloc, order, limit, blocks)?;
     assert!(rt;
-        wanted.as_slice().len() == limit.min(98) as usize && found.as_slice() == wanted.as_slice(),
+        found.as_slice() == wanted.as_slice(),
         "{order:?} limit {limit}"
     );
-    Ok(())
+    Ok(found.as_slice().len())
 }
 
 #[test]
 fn the_first_rows_of_blocks_are_those_of_their_chosen_rows(rt: HostRuntime) -> Result<(), Fail> {
     for order in ORDERS {
         for limit in [0, 1, 3, 40, 200] {
-            check(&rt, rt.alloc(), order, limit)?;
+            let picked = check(&rt, rt.alloc(), order, limit, &six_blocks())?;
+            assert!(rt; picked == limit.min(98) as usize, "{order:?} limit {limit}");
         }
+    }
+    Ok(())
+}
+
+// Two blocks of up to 64 rows, most of them short, of which about half are chosen; the greater numbers come first.
+fn two_drawn(state: u64) -> [Drawn; 2] {
+    let (later, sooner) = (next(state), next(state ^ 1));
+    let (few, many) = ((later >> 33) as u32 % 65, (sooner >> 33) as u32 % 65);
+    [
+        drawn_as(later, 500, few >> (later & 3), later ^ sooner >> 7),
+        drawn_as(sooner, 0, many >> (sooner & 3), sooner ^ later >> 9),
+    ]
+}
+
+#[test]
+fn the_first_rows_of_drawn_tables_and_queries_agree(rt: HostRuntime) -> Result<(), Fail> {
+    for draw in 0..10_000_u64 {
+        let state = next(draw);
+        let (order, limit) = (
+            ORDERS[(state >> 40) as usize % 5],
+            (state >> 50) as u32 % 80,
+        );
+        check(&rt, rt.alloc(), order, limit, &two_drawn(state))?;
     }
     Ok(())
 }
