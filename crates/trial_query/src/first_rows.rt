@@ -111,6 +111,7 @@ fn add_each(
 
 fn add_blocks(rt: &impl Abort, top: &mut TopRows, blocks: &[Drawn]) -> Result<(), Memory> {
     for it in blocks {
+        assert!(rt; it.first < 1000);
         let block = drawn_block(rt, it.seed, it.count);
         top.add_block(it.first, &block, it.chosen)?;
     }
