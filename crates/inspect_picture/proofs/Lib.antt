@@ -6,3 +6,4 @@ mod Stays
 mod Steps
 mod Drawn
 mod Rowed
+mod Windows

@@ -1,5 +1,6 @@
 -- From where to where a mark lies, in which row, and in which colour. Lengths are tenths of a pixel.
 use Rattle.std.specs.Prelude.{◌+◌, ◌-◌, ◌*◌, ◌/◌, ◌&&◌, ℕ, Bool, true, false, max, min, nat_le, nat_lt}
+use Rattle.std.specs.Prelude.{List, [], ◌∷◌, if◌then◌else◌}
 use Rattle.inspect_picture.specs.declared.ink.Ink.{Ink}
 use Rattle.inspect_picture.specs.declared.ink.Ink.TheVariants.{Hue, Pale, Red, Thin}
 use Rattle.inspect_picture.specs.declared.mark.Mark.{Mark}
@@ -63,3 +64,8 @@ ink_of z (Fault q p i) = Red
 -- some of its time is shown
 abbrev pub is_shown : Scale → Mark → Bool
 is_shown z m = nat_lt (first_of m) z.last && nat_le z.first (last_of m)
+
+-- how many of the marks are shown
+abbrev pub shown_count : Scale → List Mark → ℕ
+shown_count z [] = 0
+shown_count z (m ∷ ms) = (if is_shown z m then 1 else 0) + shown_count z ms

@@ -27,14 +27,14 @@ abbrev pub all_seen : Scale → List Entry → Scale
 all_seen z [] = z
 all_seen z (e ∷ es) = all_seen (seen z e) es
 
--- THE SCALE OF A STORY: its number of entries, those from and to which it is shown, and the greatest worker, frame and
--- chunk that they name
+-- THE SCALE OF A STORY: its number of entries, the first that is shown and the first behind those, and the greatest
+-- worker, frame and chunk that they name
 abbrev pub scale_of : ℕ → ℕ → ℕ → List Entry → Scale
 scale_of groups from to entries =
     all_seen (record {
       entries = length entries;
       first = min from (length entries);
-      last = max (min from (length entries) + 1) (min to (length entries + 1));
+      last = max (min from (length entries)) (min to (length entries)) + 1;
       last_worker = 0;
       last_frame = 0;
       last_chunk = 0;
@@ -51,7 +51,7 @@ part_of_7700 part whole = part * 7700 / max 1 whole
 abbrev pub x_at : Scale → ℕ → ℕ
 x_at z i = 1000 + part_of_7700 (min (max i z.first) (max z.first z.last) - z.first) (z.last - z.first)
 
--- Lanes: up to 16 workers have 30 pixels each, and up to 32 frames 16; where there are more, they share these lanes
+-- Lanes: up to 16 workers have 40 pixels each, and up to 32 frames 16; where there are more, they share these lanes
 
 abbrev pub lane : ℕ → ℕ → ℕ → ℕ
 lane most count k = min (most - 1) (if nat_le count most then k else k * most / max 1 count)
@@ -83,7 +83,7 @@ abbrev pub workers_top : ℕ
 workers_top = 1700
 
 abbrev pub evictions_top : Scale → ℕ
-evictions_top z = workers_top + worker_lanes z * 300 + 60
+evictions_top z = workers_top + worker_lanes z * 400 + 60
 
 abbrev pub frames_top : Scale → ℕ
 frames_top z = evictions_top z + 260
@@ -92,7 +92,7 @@ abbrev pub lanes_end : Scale → ℕ
 lanes_end z = frames_top z + frame_lanes z * 160
 
 abbrev pub worker_y : ℕ → ℕ
-worker_y k = workers_top + k * 300
+worker_y k = workers_top + k * 400
 
 abbrev pub frame_y : Scale → ℕ → ℕ
 frame_y z k = frames_top z + k * 160

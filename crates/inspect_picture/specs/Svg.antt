@@ -17,6 +17,7 @@ use Rattle.inspect_picture.specs.declared.shape.Label.{Label}
 use Rattle.inspect_picture.specs.declared.shape.Label.TheVariants as label
 use Rattle.inspect_picture.specs.declared.shape.Strip.{Strip}
 use Rattle.inspect_picture.specs.declared.stretch.Stretch.{Stretch}
+use Rattle.inspect_picture.specs.Extents.{shown_count}
 use Rattle.inspect_picture.specs.Marks.{marks}
 use Rattle.inspect_picture.specs.Scales.{evictions_top, first_in, frame_count, frame_lane, frame_lanes, frame_y}
 use Rattle.inspect_picture.specs.Scales.{lanes_end, scale_of, worker_count, worker_lane, worker_lanes, worker_y}
@@ -33,9 +34,9 @@ strip y height = record { y = y; height = height }
 -- query;
 -- a fault lies over all lanes
 abbrev pub strip_of : Scale → Mark → Strip
-strip_of z (Alive l) = strip (worker_y (worker_lane z l.worker)) 270
-strip_of z (Load w q c i) = strip (worker_y (worker_lane z w)) 100
-strip_of z (Given d) = strip (worker_y (worker_lane z d.worker) + 130) 140
+strip_of z (Alive l) = strip (worker_y (worker_lane z l.worker)) 370
+strip_of z (Load w q c i) = strip (worker_y (worker_lane z w) + 125) 90
+strip_of z (Given d) = strip (worker_y (worker_lane z d.worker) + 230) 140
 strip_of z (Stay b) = strip (frame_y z (frame_lane z b.frame)) 140
 strip_of z (Read r) = strip (frame_y z (frame_lane z r.frame) + 50) 40
 strip_of z (Eviction c i) = strip (evictions_top z) 140
@@ -171,7 +172,7 @@ time_text x end high i =
 unfoldable pub worker_text : ℕ → ℕ → List ℕ
 worker_text y q =
     codes "<g transform='translate(0 " ++ (decimal y ++ (codes ")'>" ++ (along_text
-    ++ (codes "<text x='960' y='170' text-anchor='end'>worker " ++ (decimal q ++ codes "</text></g>\n")))))
+    ++ (codes "<text x='960' y='225' text-anchor='end'>worker " ++ (decimal q ++ codes "</text></g>\n")))))
 
 unfoldable pub frame_text : ℕ → ℕ → List ℕ
 frame_text y f =
@@ -259,7 +260,7 @@ notes_in part first last z =
 
 -- what of it is shown, and how
 abbrev pub notes_text : Scale → List ℕ
-notes_text z = notes_in (nat_le (shown z) z.entries) z.first z.last z
+notes_text z = notes_in (nat_le (shown z) z.entries) z.first (z.last - 1) z
 
 unfoldable pub head_text : Head → List ℕ
 head_text h =
@@ -288,7 +289,7 @@ head z entries = record { scale = z; reads = reads entries; deliveries = deliver
 -- the picture with this scale of a story with these marks
 abbrev pub picture_of : Scale → List Entry → List Mark → List ℕ
 picture_of z entries ms =
-    head_text (head z entries) ++ (guides z 32 ++ (rows_text z ms 114 ++ foot_text z (length ms) (drawn z ms 114)))
+    head_text (head z entries) ++ (guides z 32 ++ (rows_text z ms 114 ++ foot_text z (shown_count z ms) (drawn z ms 114)))
 
 -- THE PICTURE OF A STORY, of the entries from and to these: the head, the guides, the marks row by row, and the foot
 abbrev pub picture_part : ℕ → ℕ → ℕ → List Entry → List ℕ

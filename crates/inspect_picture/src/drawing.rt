@@ -5,7 +5,7 @@ ghost use Rattle.inspect_picture.specs.Marks.{marks};
 ghost use Rattle.inspect_picture.specs.Svg.{drawn, guides, head, head_text, is_titled, label_text, picture};
 ghost use Rattle.inspect_picture.specs.Svg.{picture_of, picture_part, row_text, rows_text, shape_text};
 
-use crate::counts::{deliveries, reads};
+use crate::counts::{deliveries, reads, shown_in};
 use crate::guide::guides_at;
 use crate::head::{Head, foot_of};
 use crate::lanes::ROWS;
@@ -138,7 +138,7 @@ fn write_picture(
         return Err(Memory);
     }
     let drawn = write_rows(alloc, svg, scale, all)?;
-    let foot = foot_of(scale, all.len() as u64, drawn);
+    let foot = foot_of(scale, shown_in(scale, all), drawn);
     match write!(svg, "{foot}") {
         Ok(()) => Ok(()),
         Err(_) => Err(Memory),

@@ -103,7 +103,7 @@ impl fmt::Display for WorkerLine {
         let (y, number, line) = (self.y, self.number, Along);
         write!(
             f,
-            "<g transform='translate(0 {y})'>{line}<text x='960' y='170' text-anchor='end'>worker {number}</text></g>\n"
+            "<g transform='translate(0 {y})'>{line}<text x='960' y='225' text-anchor='end'>worker {number}</text></g>\n"
         )
     }
 }
@@ -212,7 +212,7 @@ impl Scale {
             return Guide::Blank;
         }
         Guide::WorkerLane {
-            y: LANES_TOP + lane * 300,
+            y: LANES_TOP + lane * 400,
             number: first_in(16, self.worker_count(), lane),
         }
     }

@@ -253,7 +253,7 @@ impl Scale {
             range: Range {
                 shown: self.shown() <= self.entries,
                 first: self.first,
-                last: self.last,
+                last: self.last.saturating_sub(1),
             },
             sharing: Sharing { scale: *self },
         }

@@ -101,15 +101,15 @@ impl Scale {
     // Where the lane of evictions begins.
     pub(crate) fn evictions_top(&self) -> u64
         ensures top { result ≡ spec.evictions_top self.now }
-        ensures small { result ≤ 6560 }
+        ensures small { result ≤ 8160 }
     {
-        LANES_TOP + self.worker_lanes() * 300 + 60
+        LANES_TOP + self.worker_lanes() * 400 + 60
     }
 
     // Where the lanes of frames begin.
     pub(crate) fn frames_top(&self) -> u64
         ensures top { result ≡ spec.frames_top self.now }
-        ensures small { result ≤ 6820 }
+        ensures small { result ≤ 8420 }
     {
         self.evictions_top() + 260
     }
@@ -118,7 +118,7 @@ impl Scale {
     pub(crate) fn lanes_end(&self) -> u64
         ensures end { result ≡ spec.lanes_end self.now }
         ensures below { 1700 ≤ result }
-        ensures small { result ≤ 11940 }
+        ensures small { result ≤ 13540 }
     {
         self.frames_top() + self.frame_lanes() * 160
     }

@@ -42,4 +42,6 @@ pub use marks::{bars_of, marks_of};
 pub use reading::Reading;
 pub use trace::{TraceRefusal, story_of_output};
 pub use view::View;
-pub use whole_pictures::{bars_are_stays, deliveries_are_marks, marks_are_drawn};
+pub use whole_pictures::{
+    bars_are_stays, deliveries_are_marks, marks_are_drawn, windows_are_parts,
+};

@@ -4,9 +4,8 @@ ghost use Rattle.inspect_picture.specs.Scales.{scale_of, seen, with_room};
 use crate::view::View;
 use scan_story::Entry;
 
-// What a picture has to have room for: how many entries, those from and to which it shows them, and the greatest
-// worker,
-// frame and chunk that they name.
+// What a picture has to have room for: how many entries, the first that it shows and the first behind those, and the
+// greatest worker, frame and chunk that they name.
 #[derive(Clone, Copy, Debug, PartialEq, Eq)]
 pub(crate) struct Scale {
     pub(crate) entries: u32,
@@ -73,7 +72,7 @@ pub(crate) fn scale_of(entries: &[Entry], groups: u32, view: View) -> Scale
     let mut scale = Scale {
         entries: count,
         first,
-        last: (first + 1).max(view.to.min(count + 1)),
+        last: first.max(view.to.min(count)) + 1,
         last_worker: 0,
         last_frame: 0,
         last_chunk: 0,

@@ -24,15 +24,15 @@ fn strip_of(scale: &Scale, mark: Mark) -> Strip
 {
     match mark {
         Mark::Alive(life) => Strip {
-            y: LANES_TOP + scale.worker_lane(life.worker) * 300,
-            height: 270,
+            y: LANES_TOP + scale.worker_lane(life.worker) * 400,
+            height: 370,
         },
         Mark::Load { worker, .. } => Strip {
-            y: LANES_TOP + scale.worker_lane(worker) * 300,
-            height: 100,
+            y: LANES_TOP + scale.worker_lane(worker) * 400 + 125,
+            height: 90,
         },
         Mark::Given(delivery) => Strip {
-            y: LANES_TOP + scale.worker_lane(delivery.worker) * 300 + 130,
+            y: LANES_TOP + scale.worker_lane(delivery.worker) * 400 + 230,
             height: 140,
         },
         Mark::Stay(bar) => Strip {

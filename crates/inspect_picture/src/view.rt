@@ -1,4 +1,4 @@
-/// The entries that a picture shows. Entries are numbered from 1; 0 is the begin.
+/// The entries that a picture shows, both ends included. Entries are numbered from 1; 0 is the begin.
 #[derive(Clone, Copy, Debug, PartialEq, Eq)]
 pub struct View {
     /// The first entry that is shown; past the end it is the last one.

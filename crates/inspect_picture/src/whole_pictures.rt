@@ -11,6 +11,7 @@ ghost use Rattle.inspect_picture.specs.Stretches.{AllHeld, AreParted, stretches}
 ghost use Rattle.inspect_picture.specs.declared.mark.Mark.{Mark};
 ghost use Rattle.inspect_picture.specs.declared.scale.Scale.{Scale};
 ghost use Rattle.inspect_picture.specs.Over.{listed, pieces_over};
+ghost use Rattle.inspect_picture.specs.Windows.{AllShown, IsWindowOf};
 
 /// The bars of a story are the stays of its pieces: behind each number of entries, the bars in the lane of a frame
 /// are that of
@@ -37,4 +38,13 @@ pub fn deliveries_are_marks()
 pub fn marks_are_drawn()
     ensures held { (z : Scale) (row : ℕ) (ms : List Mark) → AllHeld z row (stretches z row ms) ms }
     ensures parted { (z : Scale) (row : ℕ) (ms : List Mark) → AreParted z row ms }
+{}
+
+/// A picture of the entries from and to some numbers shows, of the marks of the whole story, just those that touch
+/// them, cut to them; what was open before lies from the left edge on. A picture of all entries shows each mark. A law:
+/// it does nothing.
+pub fn windows_are_parts()
+    ensures window { (groups from to : ℕ) (entries : List Entry) → from ≤ to → to ≤ length entries →
+        IsWindowOf groups from to entries }
+    ensures whole { (groups : ℕ) (entries : List Entry) → length entries ≤ 4294967295 → AllShown groups entries }
 {}
