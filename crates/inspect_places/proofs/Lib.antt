@@ -15,3 +15,4 @@ mod NameSteps
 mod Nested
 mod StatementPlaces
 mod QueryNames
+mod NamesStand

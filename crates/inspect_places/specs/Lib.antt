@@ -7,3 +7,4 @@ pub mod Refusals
 pub mod Lines
 pub mod Names
 pub mod Statements
+pub mod Standing

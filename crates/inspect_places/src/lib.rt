@@ -37,6 +37,6 @@ pub use kind::Kind;
 pub use lines::{LineColumn, line_and_column};
 pub use place::Place;
 pub use prefix::longest_prefix;
-pub use query_names::names_of_a_query;
+pub use query_names::{names_of_a_query, refused_names_stand};
 pub use refused::refusal_place;
 pub use statement::statement_place;
