@@ -1,14 +1,16 @@
 // Where a statement is refused.
-ghost use Rattle.std.specs.Prelude.{◌≡◌, ◌≤◌, ◌+◌, IfOk, length, min};
+ghost use Rattle.std.specs.Prelude.{◌≡◌, ◌≤◌, ◌+◌, ◌++◌, IfOk, OnOk, length, min};
 ghost use Rattle.run_inputs.specs.Statements.{IsSpanIn, part};
-ghost use Rattle.inspect_calls.specs.Placing.{IsPlaceTold, IsSpotTold, bytes_at, spot_text};
+ghost use Rattle.inspect_calls.specs.Placing.{IsPlaceTold, foreign_line, hint_lines, mark_len, spot_lines, spot_text, stands_line};
 
 use crate::lines::numbered;
-use inspect_places::{LineColumn, Place, line_and_column, statement_place};
+use inspect_places::{
+    Foreign, Kind, LineColumn, Place, bytes_at, line_and_column, statement_place, write_stands,
+};
 use sql_bind::StatementRefusal;
 use sql_tokens::Span;
 use std::alloc::{AllocError, Global};
-use table_core::{Column, Memory};
+use table_core::{Bytes, Column, Memory};
 
 /// The lines that say where a statement of the batch is refused: the place in the batch with the token there, and what
 /// could stand there instead, where the refusal is about the grammar.
@@ -38,33 +40,70 @@ fn spot_told(
     place: &Place,
 ) -> Result<Vec<u8>, Memory>
     requires { text.now ≡ part batch.now span }
-    ensures { IfOk result (λ told. IsSpotTold batch.now span place.now told.items) }
+    ensures { IfOk result (λ told. told.items ≡ spot_lines batch.now span place.now) }
 {
     let at = span.from as usize + place.span.from as usize;
     let mut told = spot(alloc, batch, at, bytes_at(text, place.span))?;
-    let stands = stands_told(alloc, place)?;
-    told.extend_from_slice(&stands)?;
+    let hints = hints_told(alloc, place)?;
+    told.extend_from_slice(&hints)?;
     Ok(told)
 }
 
-// The bytes of the span; none where the text ends before.
-fn bytes_at(text: &[u8], span: Span) -> &[u8]
-    ensures { result.now ≡ bytes_at text.now span }
+// Puts the line that says what could stand there at the end; nothing where the refusal isn't about the grammar.
+fn tell_stands(out: &mut Bytes, stands: &[Kind]) -> Result<(), Memory>
+    ensures { OnOk result (out.new ≡ out.old ++ stands_line stands.now) }
 {
-    match text.get(span.from as usize..span.to as usize) {
-        Some(bytes) => bytes,
-        None => b"".as_slice(),
+    match stands {
+        [] => Ok(()),
+        kinds => {
+            out.append(b"  could stand there: ")?;
+            write_stands(out, kinds)?;
+            out.append(b"\n")?;
+            Ok(())
+        }
     }
 }
 
-// The line that says what could stand there; nothing where the refusal isn't about the grammar.
-fn stands_told(alloc: Global, place: &Place) -> Result<Vec<u8>, Memory> {
-    if place.stands.is_empty() {
-        return Ok(Vec::new(alloc));
+// Puts the line that says what is known of the token from other SQL at the end, if something is.
+fn tell_foreign(out: &mut Bytes, foreign: Option<Foreign>) -> Result<(), Memory>
+    ensures { OnOk result (out.new ≡ out.old ++ foreign_line foreign) }
+{
+    match foreign {
+        None => Ok(()),
+        Some(foreign) => {
+            out.append(b"  ")?;
+            out.append(foreign.name())?;
+            out.append(b" is not in this language: ")?;
+            out.append(foreign.instead())?;
+            out.append(b" (docs/SQL.md)\n")?;
+            Ok(())
+        }
     }
-    match format!(in alloc; "  could stand there: {place}\n") {
-        Ok(line) => Ok(line.into_bytes()),
-        Err(_) => Err(Memory),
+}
+
+// The lines behind a place.
+fn hints_told(alloc: Global, place: &Place) -> Result<Vec<u8>, Memory>
+    ensures { IfOk result (λ lines. lines.items ≡ hint_lines place.now) }
+{
+    let mut lines = Bytes::new(Vec::new(alloc));
+    tell_stands(&mut lines, &place.stands)?;
+    tell_foreign(&mut lines, place.foreign)?;
+    Ok(lines.into_vec())
+}
+
+// How many bytes of a byte order mark the text begins with.
+fn mark_len(batch: &[u8]) -> usize
+    ensures value { result ≡ mark_len batch.now }
+    ensures within { result ≤ length batch.now }
+{
+    match batch {
+        [a, b, c, ..] => {
+            if *a == 239 && *b == 187 && *c == 191 {
+                return 3;
+            }
+            0
+        }
+        _ => 0,
     }
 }
 
@@ -72,7 +111,10 @@ fn stands_told(alloc: Global, place: &Place) -> Result<Vec<u8>, Memory> {
 fn spot(alloc: Global, batch: &[u8], at: usize, token: &[u8]) -> Result<Vec<u8>, AllocError>
     ensures { IfOk result (λ text. text.items ≡ spot_text batch.now (min at (length batch.now)) token.now) }
 {
-    let LineColumn { line, column } = line_and_column(batch, at.min(batch.len()));
+    let mark = mark_len(batch);
+    let behind_mark = &batch[mark..];
+    let before = at.min(batch.len()).saturating_sub(mark);
+    let LineColumn { line, column } = line_and_column(behind_mark, before);
     let mut text = numbered(alloc, b"  at ", line as u64, b":")?;
     let behind = numbered(alloc, b"", column as u64, b" ")?;
     text.extend_from_slice(&behind)?;

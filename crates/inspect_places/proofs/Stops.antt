@@ -17,6 +17,7 @@ use Rattle.inspect_places.specs.declared.kind.Kind.TheVariants as kind
 use Rattle.inspect_places.specs.declared.state.State.{State}
 use Rattle.inspect_places.specs.declared.state.State.TheVariants as state
 use Rattle.inspect_places.specs.declared.word.Size.TheVariants as size
+use Rattle.inspect_places.specs.Foreign.{foreign_at, takes_text}
 use Rattle.inspect_places.specs.Kinds.{kind_of, size_of}
 use Rattle.inspect_places.specs.Places.{AreQuery, Begin, IsPlace, CanStand, span_at, IsGrammarPlace}
 use Rattle.inspect_places.specs.Steps.{step, takes, after, may_end, stands, stop_from, all_kinds}
@@ -171,14 +172,15 @@ can_stand_at l ts k h = let x = stop_from l 0 state.Start ts in can_stand l (tak
 pub stands_at : (l : Bool) (ts : List Token) (k : Kind) → CanStand l (take (stop_from l 0 state.Start ts).0 ts) k → stands l (stop_from l 0 state.Start ts).1 k ≡ true
 stands_at l ts k h = let x = stop_from l 0 state.Start ts in stands_if l (take x.0 ts) x.1 (at_start l ts).before k h
 
-pub whole_place : (l : Bool) (bytes : List ℕ) (all : List tokens.Token) (p : Place) (r : ℕ × State) → r ≡ stop_from l 0 state.Start (map (meaning_in bytes) all) → p.span ≡ span_at (length bytes) all r.0 → p.stands.items ≡ filter (stands l r.1) all_kinds → IsGrammarPlace l bytes all p
-whole_place l bytes all p r e s k =
+pub whole_place : (l : Bool) (bytes : List ℕ) (all : List tokens.Token) (p : Place) (r : ℕ × State) → r ≡ stop_from l 0 state.Start (map (meaning_in bytes) all) → p.span ≡ span_at (length bytes) all r.0 → p.stands.items ≡ filter (stands l r.1) all_kinds → p.foreign ≡ foreign_at bytes (takes_text p.stands.items) all r.0 → IsGrammarPlace l bytes all p
+whole_place l bytes all p r e s k f =
     let ts = map (meaning_in bytes) all in let x = stop_from l 0 state.Start ts in
     let same : p.stands.items ≡ filter (stands l x.1) all_kinds = k ∙ ap (λ y. filter (stands l y.1) all_kinds) e in
     record {
       number = x.0;
       place = place_is l ts;
       span = s ∙ ap (λ y. span_at (length bytes) all y.0) e;
+      foreign = f ∙ ap (λ y. foreign_at bytes (takes_text p.stands.items) all y.0) e;
       listed = λ q h. can_stand_at l ts q (passes (stands l x.1) all_kinds q (subst (λ qs. Contains qs q) same h));
       lists = λ q h. subst (λ qs. Contains qs q) (sym same) (listed (stands l x.1) q (stands_at l ts q h));
     }

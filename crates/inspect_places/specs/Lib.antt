@@ -1,5 +1,8 @@
 pub mod Prefixes
 pub mod Kinds
+pub mod Stands
+pub mod Spelled
+pub mod Foreign
 pub mod Steps
 pub mod Places
 pub mod Nesting

@@ -8,6 +8,7 @@ use Rattle.sql_text.specs.Words.{meaning_in}
 use Rattle.inspect_places.specs.declared.kind.Kind.{Kind}
 use Rattle.inspect_places.specs.declared.kind.Kind.TheVariants as kind
 use Rattle.inspect_places.specs.declared.place.Place.{Place}
+use Rattle.inspect_places.specs.Foreign.{foreign_at, takes_text}
 use Rattle.inspect_places.specs.Kinds.{kind_of}
 
 -- Where limits count, the query has at most 32 items, key columns and orders and a limit of at most 4096.
@@ -43,10 +44,11 @@ span_or end (Some t) = t.span
 abbrev pub span_at : ℕ → List tokens.Token → ℕ → Span
 span_at end ts number = span_or end (slice_get ts number)
 
--- The place of the tokens of a text, by the grammar: where it is, and just the kinds that can stand there.
+-- The place of the tokens of a text, by the grammar: where it is, what is known there, and just the kinds that can stand there.
 pub record IsGrammarPlace (limited : Bool) (bytes : List ℕ) (all : List tokens.Token) (p : Place) : Type 0 where
   pub number : ℕ
   pub place : IsPlace limited (map (meaning_in bytes) all) number
   pub span : p.span ≡ span_at (length bytes) all number
+  pub foreign : p.foreign ≡ foreign_at bytes (takes_text p.stands.items) all number
   pub listed : (k : Kind) → Contains p.stands.items k → CanStand limited (take number (map (meaning_in bytes) all)) k
   pub lists : (k : Kind) → CanStand limited (take number (map (meaning_in bytes) all)) k → Contains p.stands.items k

@@ -1,5 +1,5 @@
 -- The place of each refusal of a statement, among its tokens.
-use Rattle.std.specs.Prelude.{◌≡◌, ℕ, true, false, List, [], length, map}
+use Rattle.std.specs.Prelude.{◌≡◌, ℕ, true, false, List, [], length, map, None}
 use Rattle.table_core.specs.declared.schema.Column.{Column}
 use Rattle.sql_tokens.specs.declared.refusal.TextRefusal.{TextRefusal}
 use Rattle.sql_tokens.specs.declared.refusal.TextRefusal.TheVariants as text
@@ -18,7 +18,7 @@ use Rattle.inspect_places.specs.Names.{first_index, is_about, names_at}
 
 -- the token of this number, or the end of the text; nothing is said of what could stand there
 abbrev pub IsAt : List ℕ → List tokens.Token → ℕ → Place → Type 0
-IsAt bytes all number p = (p.span ≡ span_at (length bytes) all number) × (p.stands.items ≡ [])
+IsAt bytes all number p = (p.span ≡ span_at (length bytes) all number) × (p.stands.items ≡ []) × (p.foreign ≡ None)
 
 -- the first token that is this name in a part that is refused
 abbrev pub IsNamePlace : List ℕ → List Column → List tokens.Token → About → List ℕ → Place → Type 0

@@ -8,6 +8,7 @@ ghost use Rattle.inspect_places.specs.Places.{IsGrammarPlace, span_at};
 ghost use Rattle.inspect_places.specs.Steps as spec;
 ghost use Rattle.inspect_places.specs.declared.state.State.TheVariants as state;
 
+use crate::foreign::{foreign_at, takes_text};
 use crate::kind::{KINDS, Kind};
 use crate::place::Place;
 use crate::state::State;
@@ -63,7 +64,8 @@ pub fn span_of(end: u32, tokens: &[Token], number: usize) -> Span
     }
 }
 
-/// The first of the tokens with which no query goes on, or the end of the text, and what could stand there.
+/// The first of the tokens with which no query goes on, or the end of the text, what could stand there, and what is
+/// known there from other SQL.
 ///
 /// With `limited` only queries count that pass no limit: at most 32 items, key columns and orders, and at most 4096
 /// behind LIMIT. How deep a condition is nested doesn't count. The tokens are those of `lex`.
@@ -84,5 +86,10 @@ pub fn grammar_place(
     let (number, state) = first_stop(limited, bytes, tokens);
     let stands = kinds_at(alloc, limited, state)?;
     let span = span_of(bytes.len() as u32, tokens, number);
-    Ok(Place { span, stands })
+    let foreign = foreign_at(bytes, takes_text(&stands), tokens, number);
+    Ok(Place {
+        span,
+        stands,
+        foreign,
+    })
 }

@@ -1,7 +1,9 @@
 // The kinds of tokens that a message names.
 
+ghost use Rattle.std.specs.Prelude.{◌≡◌};
+ghost use Rattle.inspect_places.specs.Stands as spec;
+
 use sql_tokens::Keyword;
-use std::fmt;
 
 /// A kind of token, or the end of a statement.
 #[derive(Clone, Copy, Debug, PartialEq, Eq)]
@@ -65,51 +67,24 @@ pub const KINDS: [Kind; 29] = [
     Kind::End,
 ];
 
-fn key_name(keyword: Keyword) -> &'static str {
-    match keyword {
-        Keyword::Select => "SELECT",
-        Keyword::From => "FROM",
-        Keyword::Where => "WHERE",
-        Keyword::Group => "GROUP",
-        Keyword::By => "BY",
-        Keyword::Count => "COUNT",
-        Keyword::Sum => "SUM",
-        Keyword::Min => "MIN",
-        Keyword::Max => "MAX",
-        Keyword::And => "AND",
-        Keyword::Or => "OR",
-        Keyword::Not => "NOT",
-        Keyword::Is => "IS",
-        Keyword::Null => "NULL",
-        Keyword::Order => "ORDER",
-        Keyword::Limit => "LIMIT",
-        Keyword::Asc => "ASC",
-        Keyword::Desc => "DESC",
-    }
-}
-
 impl Kind {
     /// The kind in the words of a message: `FROM`, `','`, `a name`, `the end`.
-    fn name(self) -> &'static str {
+    pub fn words(self) -> &'static [u8]
+        ensures { result.now ≡ spec.kind_text self }
+    {
         match self {
-            Kind::Key(keyword) => key_name(keyword),
-            Kind::Open => "'('",
-            Kind::Close => "')'",
-            Kind::Comma => "','",
-            Kind::Star => "'*'",
-            Kind::Minus => "'-'",
-            Kind::Comparison => "a comparison",
-            Kind::Name => "a name",
-            Kind::Number => "a number",
-            Kind::Decimal => "a decimal",
-            Kind::Text => "a text",
-            Kind::End => "the end",
+            Kind::Key(keyword) => keyword.spelling(),
+            Kind::Open => b"'('",
+            Kind::Close => b"')'",
+            Kind::Comma => b"','",
+            Kind::Star => b"'*'",
+            Kind::Minus => b"'-'",
+            Kind::Comparison => b"a comparison",
+            Kind::Name => b"a name",
+            Kind::Number => b"a number",
+            Kind::Decimal => b"a decimal",
+            Kind::Text => b"a text",
+            Kind::End => b"the end",
         }
-    }
-}
-
-impl fmt::Display for Kind {
-    fn fmt<W: fmt::Write>(&self, f: &mut fmt::Formatter<W>) -> fmt::Result {
-        f.write_str(self.name())
     }
 }

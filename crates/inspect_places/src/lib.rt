@@ -6,7 +6,7 @@
 //!         Err(refusal) => {
 //!             let place = statement_place(alloc, text, schema.columns(), &refusal)?;
 //!             let spot = line_and_column(batch, start + place.span.from as usize);
-//!             println!(rt; "{spot}: {place} could stand here")?;     // 1:11: FROM or ',' could stand here
+//!             write_stands(&mut text, &place.stands)?;                // FROM or ','
 //!         }
 //!     }
 //!     let at = longest_prefix(b"SELECT 'a");             // 7: the quote is open
@@ -15,6 +15,7 @@
 //! tokens up to it. docs/SQL.md has the tokens.
 #![tactic(auto)]
 
+mod foreign;
 mod grammar;
 mod kind;
 mod lines;
@@ -27,11 +28,14 @@ mod query_names;
 mod refused;
 mod role;
 mod runs;
+mod spelled;
+mod stands;
 mod state;
 mod statement;
 mod steps;
 mod word;
 
+pub use foreign::Foreign;
 pub use grammar::grammar_place;
 pub use kind::Kind;
 pub use lines::{LineColumn, line_and_column};
@@ -39,4 +43,6 @@ pub use place::Place;
 pub use prefix::longest_prefix;
 pub use query_names::{names_of_a_query, refused_names_stand};
 pub use refused::refusal_place;
+pub use spelled::bytes_at;
+pub use stands::write_stands;
 pub use statement::statement_place;

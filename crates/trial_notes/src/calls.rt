@@ -19,6 +19,29 @@ const FILES: &[(&str, &[u8])] = &[
         "mistakes",
         b"SELECT dept, SUM(pay) FROM t GROUP BY dept;\nSELECT COUNT(*)\n  FORM t;\n",
     ),
+    // Each thing that is known from other SQL, a statement a line.
+    (
+        "foreign",
+        b"SELECT DISTINCT dept FROM t;
+SELECT id, avg(pay) FROM t;
+SELECT SUM(pay) AS total FROM t;
+SELECT id FROM t WHERE id IN (1, 2) LIMIT 9;
+SELECT id FROM t WHERE id between 1 AND 2 LIMIT 9;
+SELECT id FROM t WHERE dept LIKE 'n%' LIMIT 9;
+SELECT dept FROM t GROUP BY dept HAVING SUM(pay) > 1;
+SELECT id FROM t JOIN u;
+SELECT * FROM t;
+SELECT id FROM t WHERE dept = \"a\" LIMIT 9;
+SELECT \"avg\" (id) FROM t;
+",
+    ),
+    // A byte order mark, a text that isn't closed, and a sign of several bytes.
+    (
+        "marked",
+        b"\xef\xbb\xbfSELECT id FROM t LIMIT 1; SELECT idd FROM t;
+SELECT \xc3\xa9 FROM t;
+SELECT id FROM t WHERE dept = 'it''s;",
+    ),
     // What coop_cli prints of the batch with one worker and the whole table in one chunk.
     (
         "out",
@@ -143,6 +166,77 @@ column 3 \"pay\": INT, 1 NULL, least 10, greatest 20
   reads \"id\", \"pay\"
   chunks 1 of 1
   nothing is left out: column 1 is compared with a number that its zone in each chunk allows
+",
+        "",
+    ),
+    (
+        "explain|table|foreign",
+        1,
+        "rows 3
+column 1 \"id\": INT, 0 NULL, least 1, greatest 3
+column 2 \"dept\": TEXT, 0 NULL, 2 distinct, least 'a', greatest 'b'
+column 3 \"pay\": INT, 1 NULL, least 10, greatest 20
+refused 1: syntax
+  at 1:17 dept
+  could stand there: FROM or ','
+  DISTINCT is not in this language: GROUP BY the columns (docs/SQL.md)
+refused 2: syntax
+  at 2:15 (
+  could stand there: FROM or ','
+  AVG is not in this language: SUM and COUNT (docs/SQL.md)
+refused 3: syntax
+  at 3:17 AS
+  could stand there: FROM or ','
+  AS is not in this language: answers have no names, and the table is t (docs/SQL.md)
+refused 4: syntax
+  at 4:27 IN
+  could stand there: IS or a comparison
+  IN is not in this language: a comparison with each value, and OR between them (docs/SQL.md)
+refused 5: syntax
+  at 5:27 between
+  could stand there: IS or a comparison
+  BETWEEN is not in this language: >= the one and <= the other, and AND between them (docs/SQL.md)
+refused 6: syntax
+  at 6:29 LIKE
+  could stand there: IS or a comparison
+  LIKE is not in this language: texts compare by bytes, as in >= 'n' AND < 'o' (docs/SQL.md)
+refused 7: syntax
+  at 7:34 HAVING
+  could stand there: ',' or the end
+  HAVING is not in this language: leave it out, and choose among the lines of the answer (docs/SQL.md)
+refused 8: syntax
+  at 8:18 JOIN
+  could stand there: WHERE, GROUP, ORDER, LIMIT or the end
+  JOIN is not in this language: a batch is over one table, which is made before (docs/SQL.md)
+refused 9: syntax
+  at 9:8 *
+  could stand there: COUNT, SUM, MIN, MAX or a name
+  * for all columns is not in this language: name the columns; COUNT(*) counts rows (docs/SQL.md)
+refused 10: syntax
+  at 10:31 \"a\"
+  could stand there: a number, a decimal, a text or '-'
+  a text in double quotes is not in this language: single quotes; in double quotes stands a name (docs/SQL.md)
+refused 11: syntax
+  at 11:14 (
+  could stand there: FROM or ','
+",
+        "",
+    ),
+    (
+        "explain|table|marked",
+        1,
+        "rows 3
+column 1 \"id\": INT, 0 NULL, least 1, greatest 3
+column 2 \"dept\": TEXT, 0 NULL, 2 distinct, least 'a', greatest 'b'
+column 3 \"pay\": INT, 1 NULL, least 10, greatest 20
+refused 1: syntax
+  at 1:1 \u{feff}
+refused 2: unknown column 'idd'
+  at 1:34 idd
+refused 3: syntax
+  at 2:8 \u{e9}
+refused 4: syntax
+  at 3:31 '
 ",
         "",
     ),

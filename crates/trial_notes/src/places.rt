@@ -3,7 +3,7 @@ ghost use Rattle.std.specs.Prelude.{◌≡◌, ◌≤◌, ◌<◌, All, length};
 ghost use Rattle.std.specs.Bool.{OnTrue};
 ghost use Rattle.table_core.specs.Value.{places_of};
 
-use inspect_places::{Place, line_and_column, statement_place};
+use inspect_places::{Place, line_and_column, statement_place, write_stands};
 use sql_bind::{StatementRefusal, plan_of};
 use sql_tokens::{Span, split};
 use std::alloc::{AllocError, Global};
@@ -105,6 +105,13 @@ const PLACES: &[(&[u8], &[u8])] = &[
     (b"SELECT id FROM t WHERE id ! 1", b"1:27 !: "),
     (b"SELECT id FROM t WHERE id = .5", b"1:29 .: "),
     (b"SELECT id FROM t\nWHERE id = 1.", b"2:13 .: "),
+    // the quote that opens, though two of a kind stand behind it
+    (b"SELECT id FROM t WHERE dept = 'it''s", b"1:31 ': "),
+    (b"SELECT id FROM t WHERE dept = 'a''", b"1:31 ': "),
+    (b"SELECT \"a\"\"b FROM t", b"1:8 \": "),
+    (b"SELECT id FROM t WHERE dept = 'a' 'b", b"1:35 ': "),
+    // a sign of several bytes, whole
+    (b"SELECT id FROM t \xe2\x82\xac", b"1:18 \xe2\x82\xac: "),
     // numbers out of range
     (
         b"SELECT id FROM t WHERE id = 9223372036854775808",
@@ -244,7 +251,10 @@ fn show(
     let spot = line_and_column(batch, at);
     out.extend_from_slice(format!(in alloc; "{spot} ")?.as_bytes())?;
     out.extend_from_slice(token)?;
-    out.extend_from_slice(format!(in alloc; ": {place}")?.as_bytes())?;
+    let mut stands = Bytes::new(Vec::new(alloc));
+    write_stands(&mut stands, &place.stands)?;
+    out.extend_from_slice(b": ")?;
+    out.extend_from_slice(stands.as_slice())?;
     Ok(())
 }
 
