@@ -22,7 +22,7 @@ IsRefusal refused reply = IsToldBy refused reply ⊎ IsMemory reply
 
 -- what is said to what is asked for, where the shelf holds this and counted so many faults before and after
 abbrev pub Answers : AskedIs → Held → ℕ → ℕ → Reply → Type 0
-Answers (draw_is output) held before now reply = IsDrawing held output before now reply
+Answers (draw_is output window) held before now reply = IsDrawing window held output before now reply
 Answers (explain_is r) held before now reply = IsExplanation r held before now reply
 Answers (judge_is r output) held before now reply = IsJudgement r held output before now reply
 

@@ -1,6 +1,7 @@
 pub mod Replies
 pub mod Saying
 pub mod Output
+pub mod Showing
 pub mod Drawing
 pub mod Placing
 pub mod Telling

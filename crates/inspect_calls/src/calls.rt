@@ -63,7 +63,7 @@ fn answered<F: Shelf, R: Threads + Sync>(
     match asked {
         Asked::Explain { run } => explanation(rt, alloc, keys, &run, shelf),
         Asked::Judge { run, output } => judgement(rt, alloc, keys, &run, output, shelf),
-        Asked::Draw { output } => drawing(alloc, output, shelf),
+        Asked::Draw { output, window } => drawing(alloc, output, window, shelf),
     }
 }
 

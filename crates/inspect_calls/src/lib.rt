@@ -16,6 +16,7 @@ mod ranks;
 mod reasons;
 mod refusals;
 mod reply;
+mod showing;
 mod statements;
 mod stderr_sink;
 mod unfits;

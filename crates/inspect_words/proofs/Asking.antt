@@ -4,15 +4,17 @@ use Rattle.std.specs.Option.{option_and_then, option_map}
 use Rattle.std.specs.declared.alloc.Global.{Global}
 use Rattle.clap.specs.Faults.{fault_of}
 use Rattle.clap.specs.Simple.{subcommand_of}
-use Rattle.clap.specs.Walk.{Row, Text, rows_of}
+use Rattle.clap.specs.Walk.{Row, Text, first_of, rows_of}
 use Rattle.clap.specs.Matches.{first_value}
 use Rattle.clap.specs.declared.parser.matches.Found.{Found}
 use Rattle.clap.proofs.WalkLemmas.{first_value-rows}
 use Rattle.command_words.specs.Matched.{texts}
 use Rattle.command_words.specs.Options.{Request, options_of}
 use Rattle.command_words.specs.declared.call.Call.TheVariants.{RunBoxed}
-use Rattle.inspect_words.specs.Asked.{AskedIs, IsRefusedFor, IsRunRefused, asked_by, asked_in, asked_of, draw_is, draw_of, judge_is, judge_of, parted}
+use Rattle.inspect_words.specs.Asked.{AskedIs, IsRefusedFor, IsRunRefused, asked_by, asked_in, asked_of, draw_from, draw_is, draw_of, judge_is, judge_of, parted}
 use Rattle.inspect_words.specs.Command.{inspect}
+use Rattle.inspect_words.specs.Windows.{window_of}
+use Rattle.inspect_words.specs.declared.window.Window.{Window}
 use Rattle.inspect_words.specs.declared.refused.Refused.{Refused}
 use Rattle.inspect_words.specs.declared.refused.Refused.TheVariants as refused
 
@@ -59,5 +61,13 @@ judges words before x o is run =
     ap (λ ws. judge_of (texts ws)) is ∙ ap (option_and_then (λ (p : List Text × Text). option_map (λ r. judge_is r p.1) (options_of RunBoxed p.0))) (parted_end before x)
     ∙ ap (option_map (λ r. judge_is r (string_bytes x))) run
 
-pub draws : (f : Found) (o : Option Text) → o ≡ first_value f (codes "OUTPUT") → draw_of (rows_of f) ≡ option_map draw_is o
-draws f o is = ap (option_map draw_is) (sym (first_value-rows f (codes "OUTPUT")) ∙ sym is)
+pub draws : (f : Found) (o : Option Text) → o ≡ first_value f (codes "OUTPUT") → draw_of (rows_of f) ≡ option_and_then (λ x. draw_from x (rows_of f)) o
+draws f o is = ap (option_and_then (λ x. draw_from x (rows_of f))) (sym (first_value-rows f (codes "OUTPUT")) ∙ sym is)
+
+-- which entries are to be drawn
+pub windows : (f : Found) (o : Text) (from to : Option Text) (w : Option Window) → from ≡ first_value f (codes "from") → to ≡ first_value f (codes "to")
+    → w ≡ window_of from to → draw_from o (rows_of f) ≡ option_map (draw_is o) w
+windows f o from to w begins ends is =
+    ap (λ x. option_map (draw_is o) (window_of x (first_of (codes "to") (rows_of f)))) (sym (first_value-rows f (codes "from")) ∙ sym begins)
+    ∙ ap (λ x. option_map (draw_is o) (window_of from x)) (sym (first_value-rows f (codes "to")) ∙ sym ends)
+    ∙ ap (option_map (draw_is o)) (sym is)

@@ -1,3 +1,4 @@
 mod Growing
 mod Outcomes
 mod Asking
+mod Numbers

@@ -11,20 +11,22 @@ use Rattle.command_words.specs.Options.{Request, options_of}
 use Rattle.command_words.specs.Views.{request_view}
 use Rattle.command_words.specs.declared.call.Call.TheVariants.{Run, RunBoxed}
 use Rattle.inspect_words.specs.Command.{inspect}
+use Rattle.inspect_words.specs.Windows.{IsInOrder, window_of}
 use Rattle.inspect_words.specs.declared.asked.Asked.{Asked}
 use Rattle.inspect_words.specs.declared.asked.Asked.TheVariants as asked
 use Rattle.inspect_words.specs.declared.refused.Refused.{Refused}
 use Rattle.inspect_words.specs.declared.refused.Refused.TheVariants as refused
+use Rattle.inspect_words.specs.declared.window.Window.{Window}
 
 pub data AskedIs : Type 0 where
   explain_is : Request → AskedIs
   judge_is : Request → Text → AskedIs
-  draw_is : Text → AskedIs
+  draw_is : Text → Window → AskedIs
 
 abbrev pub asked_view : Asked → AskedIs
 asked_view (asked.Explain r) = explain_is (request_view r)
 asked_view (asked.Judge r output) = judge_is (request_view r) output.now
-asked_view (asked.Draw output) = draw_is output.now
+asked_view (asked.Draw output window) = draw_is output.now window
 
 -- the last word, and the words before it
 abbrev pub parted : List Text → Option (List Text × Text)
@@ -40,8 +42,13 @@ explain_of words = option_map explain_is (options_of Run words)
 abbrev pub judge_of : List Text → Option AskedIs
 judge_of words = option_and_then (λ p. option_map (λ r. judge_is r p.1) (options_of RunBoxed p.0)) (parted words)
 
+-- OUTPUT, and the entries of its story that `--from` and `--to` name
+abbrev pub draw_from : Text → List Row → Option AskedIs
+draw_from output rows =
+    option_map (draw_is output) (window_of (first_of (codes "from") rows) (first_of (codes "to") rows))
+
 abbrev pub draw_of : List Row → Option AskedIs
-draw_of rows = option_map draw_is (first_of (codes "OUTPUT") rows)
+draw_of rows = option_and_then (λ o. draw_from o rows) (first_of (codes "OUTPUT") rows)
 
 -- what the words behind the name of a subcommand ask for, with what clap reads of them
 abbrev pub asked_by : Text → List Row → List Text → Option AskedIs
@@ -63,11 +70,11 @@ IsRunRefused asked (refused.Said error) = ⊥
 IsRunRefused asked (refused.Run which) = asked ≡ None
 IsRunRefused asked refused.Memory = Unit {0}
 
--- the numbers of a request lie within their limits
+-- the numbers of a request lie within their limits, and entries are in order
 abbrev pub HasLimits : AskedIs → Type 0
 HasLimits (explain_is r) = IsWithinLimits r
 HasLimits (judge_is r output) = IsWithinLimits r
-HasLimits (draw_is output) = Unit {0}
+HasLimits (draw_is output window) = IsInOrder window
 
 -- why they are refused: clap's first fault, help and the version among them; or clap takes them, and those of the run
 -- are none of coop_cli's; or memory ran out

@@ -8,6 +8,7 @@ use Rattle.clap.specs.declared.builder.command.Command.TheViews.{out-Command}
 use Rattle.clap.specs.declared.builder.value_parser.ValueParser.TheVariants.{Signed}
 use Rattle.command_words.specs.declared.limits.TheConstants.{MOST_FRAMES, MOST_PARTS, MOST_WORKERS}
 use Rattle.table_sets.specs.declared.limits.TheConstants.{MOST_CHUNK_ROWS}
+use Rattle.inspect_words.specs.declared.window.TheConstants.{MOST_ENTRIES}
 
 -- an option with a value
 abbrev pub option : Text → Rule
@@ -39,6 +40,10 @@ side_rules = option (codes "scratch") ∷ flag (codes "summary") ∷ flag (codes
 abbrev pub table_places : List Rule
 table_places = place (codes "TABLE") ∷ place (codes "BATCH") ∷ []
 
+-- which entries are drawn
+abbrev pub window_rules : List Rule
+window_rules = number MOST_ENTRIES (codes "from") ∷ number MOST_ENTRIES (codes "to") ∷ []
+
 abbrev pub output_place : List Rule
 output_place = place (codes "OUTPUT") ∷ []
 
@@ -53,7 +58,7 @@ abbrev pub judge : Shape
 judge = sub (codes "judge") (work_rules ++ (cut_rules ++ (side_rules ++ (table_places ++ output_place))))
 
 abbrev pub draw : Shape
-draw = sub (codes "draw") output_place
+draw = sub (codes "draw") (window_rules ++ output_place)
 
 abbrev pub top : Shape
 top = record (new_shape (codes "coop_inspect")) {

@@ -1,3 +1,4 @@
 pub mod Command
+pub mod Windows
 pub mod Asked
 pub mod Refusals

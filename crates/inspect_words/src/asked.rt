@@ -1,4 +1,5 @@
 // What the words ask for.
+use crate::window::Window;
 use command_words::Request;
 
 /// What the words ask for.
@@ -9,6 +10,6 @@ pub enum Asked<'a> {
     Explain { run: Request<'a> },
     /// Whether the file OUTPUT holds the output of a legal run of the request: `judge`.
     Judge { run: Request<'a>, output: &'a str },
-    /// The picture of the story in the file OUTPUT: `draw`.
-    Draw { output: &'a str },
+    /// The picture of the story in the file OUTPUT, or of some of its entries: `draw`.
+    Draw { output: &'a str, window: Window },
 }

@@ -5,13 +5,14 @@ ghost use Rattle.clap.specs.Matches.{found_of};
 ghost use Rattle.clap.specs.Simple.{subcommand_of, subcommand_rows_of};
 ghost use Rattle.clap.specs.Walk.{rows_of};
 ghost use Rattle.command_words.specs.Matched.{texts};
-ghost use Rattle.inspect_words.specs.Asked.{HasLimits, IsRefusedFor, IsRunRefused, asked_by, asked_of, asked_view, draw_of, explain_of, judge_of};
+ghost use Rattle.inspect_words.specs.Asked.{HasLimits, IsRefusedFor, IsRunRefused, asked_by, asked_of, asked_view, draw_from, draw_of, explain_of, judge_of};
 ghost use Rattle.inspect_words.specs.Command.{inspect};
 
 use crate::asked::Asked;
 use crate::command::command;
-use crate::culprit::{Culprit, bare_in, value_in};
+use crate::culprit::{Culprit, bare_in, order_culprit, value_in};
 use crate::refused::Refused;
+use crate::window::window_of;
 use clap::ArgMatches;
 use clap::error::ErrorKind;
 use command_words::{Call, Refused as RunRefused, options_of};
@@ -125,8 +126,21 @@ fn drawn<'a>(found: &ArgMatches<'a>) -> Result<Asked<'a>, Refused<'a>>
     ensures refused { IfErr result (IsRunRefused (draw_of (rows_of (found_of found.now)))) }
 {
     match found.get_str("OUTPUT") {
-        Some(output) => Ok(Asked::Draw { output }),
+        Some(output) => drawn_from(found, output),
         None => Err(Refused::Run(None)),
+    }
+}
+
+// The same, where OUTPUT is named.
+fn drawn_from<'a>(found: &ArgMatches<'a>, output: &'a str) -> Result<Asked<'a>, Refused<'a>>
+    ensures asked { IfOk result (λ a. draw_from output.now (rows_of (found_of found.now)) ≡ Some (asked_view a)) }
+    ensures limits { IfOk result (λ a. HasLimits (asked_view a)) }
+    ensures refused { IfErr result (IsRunRefused (draw_from output.now (rows_of (found_of found.now)))) }
+{
+    let (from, to) = (found.get_str("from"), found.get_str("to"));
+    match window_of(from, to) {
+        Some(window) => Ok(Asked::Draw { output, window }),
+        None => Err(Refused::Run(order_culprit(from, to))),
     }
 }
 

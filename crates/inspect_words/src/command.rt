@@ -1,10 +1,11 @@
 // The command, as clap has it.
 ghost use Rattle.std.specs.Prelude.{◌≡◌, IfOk};
 ghost use Rattle.clap.specs.Simple.{App, app_of};
-ghost use Rattle.inspect_words.specs.Command.{IsCommand, cut_rules, draw, explain, inspect, judge, output_place, side_rules, table_places, with_rules, work_rules};
+ghost use Rattle.inspect_words.specs.Command.{IsCommand, cut_rules, draw, explain, inspect, judge, output_place, side_rules, table_places, window_rules, with_rules, work_rules};
 
 use crate::places::{flag, number, option, place};
 use crate::version::VERSION;
+use crate::window::MOST_ENTRIES;
 use clap::Command;
 use command_words::{MOST_FRAMES, MOST_PARTS, MOST_WORKERS};
 use std::alloc::{AllocError, Global};
@@ -54,14 +55,36 @@ fn judge<'a>(alloc: Global) -> Result<Command<'a>, AllocError>
     with_output(alloc, table)
 }
 
-// `draw OUTPUT`
+// `draw [--from N] [--to M] OUTPUT`
 fn draw<'a>(alloc: Global) -> Result<Command<'a>, AllocError>
     ensures { IfOk result (λ c. (a : App) × IsCommand a c × (a.top ≡ draw)) }
 {
     let start = Command::new(alloc, "draw").version(VERSION).about(
         "Draws the trace at the end of OUTPUT as an SVG picture on standard output",
     );
-    with_output(alloc, start)
+    let window = with_window(alloc, start)?;
+    with_output(alloc, window)
+}
+
+// Which entries are drawn.
+fn with_window<'a>(alloc: Global, command: Command<'a>) -> Result<Command<'a>, AllocError>
+    ensures { (a : App) → IsCommand a command.entry → IfOk result (IsCommand (with_rules a window_rules)) }
+{
+    let options = vec![in alloc;
+        number(
+            alloc,
+            "from",
+            MOST_ENTRIES,
+            "The first entry that is drawn [default: the first]",
+        ),
+        number(
+            alloc,
+            "to",
+            MOST_ENTRIES,
+            "The last entry that is drawn [default: the last]",
+        ),
+    ]?;
+    command.args(options)
 }
 
 // How the table is cut.

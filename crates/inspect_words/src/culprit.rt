@@ -13,6 +13,8 @@ pub enum Culprit<'a> {
     Value { name: &'static str, value: &'a str },
     /// The last word, where OUTPUT has to stand.
     Last { word: &'a str },
+    /// The value of `--from` is greater than that of `--to`.
+    Order { from: &'a str, to: &'a str },
 }
 
 impl fmt::Display for Culprit<'_> {
@@ -31,8 +33,17 @@ impl fmt::Display for Culprit<'_> {
                     "OUTPUT has to be the last word, and '{word}' stands there"
                 )
             }
+            Culprit::Order { from, to } => { write!(f, "--from {from} lies behind --to {to}") }
         }
     }
+}
+
+/// The values of `--from` and `--to`, where both are there.
+pub(crate) fn order_culprit<'a>(from: Option<&'a str>, to: Option<&'a str>) -> Option<Culprit<'a>> {
+    Some(Culprit::Order {
+        from: from?,
+        to: to?,
+    })
 }
 
 /// The first of the words that is empty or the lone `-`, where the first of them has this number.

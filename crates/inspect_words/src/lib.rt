@@ -16,9 +16,11 @@ mod culprit;
 mod places;
 mod refused;
 mod version;
+mod window;
 
 pub use asked::Asked;
 pub use asked_words::asked_of;
 pub use command_words::Request;
 pub use culprit::Culprit;
 pub use refused::Refused;
+pub use window::Window;

@@ -74,6 +74,18 @@ SELECT id FROM t WHERE dept = 'it''s;",
 // Words, the status, and what goes to standard output and to standard error.
 const SAID: &[(&str, u8, &str, &str)] = &[
     ("draw|out", 0, SMALLEST_PICTURE, ""),
+    (
+        "draw|--to|8|out",
+        2,
+        "",
+        "error: --to 8 lies behind the last entry, 7\n",
+    ),
+    (
+        "draw|--from|8|--to|9|out",
+        2,
+        "",
+        "error: --from 8 lies behind the last entry, 7\n",
+    ),
     ("draw|none", 4, "", "stopped 4: output read fault\n"),
     (
         "draw|cut",

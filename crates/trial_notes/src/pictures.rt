@@ -1,7 +1,8 @@
 // The whole picture of the smallest story, what other stories show, and where a story begins in what a run prints.
 use crate::smallest_picture::SMALLEST_PICTURE;
 use inspect_picture::{
-    Bar, Ended, Mark, TraceRefusal, bars_of, draw, groups_of, marks_of, story_of_output,
+    Bar, Ended, Mark, TraceRefusal, View, bars_of, draw, draw_part, groups_of, marks_of,
+    story_of_output,
 };
 use scan_story::Entry;
 use std::alloc::Global;
@@ -81,6 +82,27 @@ fn each_stay_has_a_bar(rt: HostRuntime) {
                     entry: 14
                 }
     );
+}
+
+// What is in the picture of entries 10 and 11 of the longer story: its marks, of which three were open before.
+const IN_WINDOW: &[&str] = &[
+    "Entries 10 to 11 are shown. ",
+    "<rect x='1000' y='1700' width='7700' height='370' fill='#e2e5ea'><title>query 1 on worker 0, entries 1 to 15</title>",
+    "<title>query 2 on worker 1, entries 2 to 15</title>",
+    "<title>chunk 0 for query 2, entries 8 to 15</title>",
+    "<title>load of chunk 1 for query 1, entry 10</title>",
+    "<rect x='4850' y='2870' width='3850' height='40' fill='#4a5468'><title>piece 2 is read into frame 0, entries 11 to 12</title>",
+];
+
+#[test]
+fn a_window_has_the_marks_that_touch_it(rt: HostRuntime) {
+    let entries = read(&rt, rt.alloc(), LONGER).expect(&rt, "a story");
+    let svg = draw_part(rt.alloc(), &entries, 2, View { from: 10, to: 11 }).expect(&rt, "memory");
+    let text = str::from_utf8(svg.as_slice()).expect(&rt, "UTF-8");
+    for piece in IN_WINDOW {
+        assert!(rt; text.contains(*piece), "{piece}");
+    }
+    assert!(rt; text.split("<title>").count() == IN_WINDOW.len());
 }
 
 // A text, and the line that is refused, or 0 where there is no trace.

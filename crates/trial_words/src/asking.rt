@@ -1,7 +1,7 @@
 // The words of coop_inspect: those of its manual, and words on the edges of its rules.
 use crate::words::words_of;
 use command_words::{Layout, PolicyName, Request};
-use inspect_words::{Asked, asked_of};
+use inspect_words::{Asked, Window, asked_of};
 use std::alloc::Global;
 use std::test::Fail;
 
@@ -46,8 +46,33 @@ const GIVEN: &[(&str, Asked<'static>)] = &[
             output: "out",
         },
     ),
-    ("draw|out", Asked::Draw { output: "out" }),
-    ("draw|--|-out", Asked::Draw { output: "-out" }),
+    (
+        "draw|out",
+        Asked::Draw {
+            output: "out",
+            window: Window::WHOLE,
+        },
+    ),
+    (
+        "draw|--to=4294967295|--|-out",
+        Asked::Draw {
+            output: "-out",
+            window: Window {
+                from: None,
+                to: Some(4294967295),
+            },
+        },
+    ),
+    (
+        "draw|out|--to|9|--from|9",
+        Asked::Draw {
+            output: "out",
+            window: Window {
+                from: Some(9),
+                to: Some(9),
+            },
+        },
+    ),
 ];
 
 // Words that are refused, the status, and a piece of the text, in which the word stands.
@@ -59,7 +84,11 @@ const REFUSED: &[(&str, u8, &str)] = &[
     ("judge|--help", 0, "--threads <N>"),
     ("explain|--help", 0, "Usage: coop_inspect explain "),
     ("judge|--help", 0, "Usage: coop_inspect judge "),
-    ("draw|--help", 0, "Usage: coop_inspect draw <OUTPUT>"),
+    (
+        "draw|--help",
+        0,
+        "Usage: coop_inspect draw [OPTIONS] <OUTPUT>",
+    ),
     ("explode|a|b", 2, "'explode'"),
     ("explain|--threads|2|a|b", 2, "'--threads'"),
     ("explain|a", 2, "<BATCH>"),
@@ -69,6 +98,14 @@ const REFUSED: &[(&str, u8, &str)] = &[
     ("judge|--compare|a|b|out", 2, "'--compare'"),
     ("explain|gen:x|b", 2, "'gen:x'"),
     ("draw", 2, "<OUTPUT>"),
+    ("draw|--from|0|out", 2, "'0' for '--from <N>'"),
+    ("draw|--to|4294967296|out", 2, "'4294967296' for '--to <N>'"),
+    ("draw|--from|x|out", 2, "'x' for '--from <N>'"),
+    (
+        "draw|--from|10|--to|9|out",
+        2,
+        "--from 10 lies behind --to 9",
+    ),
     ("explain|--rows|+2|a|b", 2, "'+2' for --rows"),
     ("judge|--threads|+2|a|b|out", 2, "'+2' for --threads"),
     (
