@@ -1,5 +1,6 @@
 -- Where a statement is refused.
-use Rattle.std.specs.Prelude.{◌≡◌, ◌+◌, ◌-◌, ◌==◌, ◌++◌, ◌&&◌, ℕ, List, [], ◌∷◌, length, min, take, drop, Option, Some, None, codes, decimal, if◌then◌else◌}
+use Rattle.std.specs.Prelude.{◌≡◌, ◌+◌, ◌-◌, ◌==◌, ◌++◌, ◌&&◌, ℕ, List, [], ◌∷◌, length, min, take, drop, codes, decimal}
+use Rattle.std.specs.Prelude.{Option, Some, None, if◌then◌else◌}
 use Rattle.inspect_places.specs.Foreign.{instead_of, name_of}
 use Rattle.inspect_places.specs.Lines.{column_of, line_of}
 use Rattle.inspect_places.specs.Spelled.{bytes_at}
@@ -25,12 +26,14 @@ before batch at = take (at - mark_len batch) (drop (mark_len batch) batch)
 -- the line with the place of a byte of the batch, and a token; a byte order mark shifts no column
 abbrev pub spot_text : List ℕ → ℕ → List ℕ → List ℕ
 spot_text batch at token =
-    (((codes "  at " ++ (decimal (line_of (before batch at)) ++ codes ":")) ++ (decimal (column_of (before batch at)) ++ codes " ")) ++ token) ++ codes "\n"
+    (((codes "  at " ++ (decimal (line_of (before batch at)) ++ codes ":"))
+    ++ (decimal (column_of (before batch at)) ++ codes " ")) ++ token) ++ codes "\n"
 
 -- the line that says what is known of the token from other SQL, if something is
 abbrev pub foreign_line : Option Foreign → List ℕ
 foreign_line None = []
-foreign_line (Some f) = codes "  " ++ (name_of f ++ (codes " is not in this language: " ++ (instead_of f ++ codes " (docs/SQL.md)\n")))
+foreign_line (Some f) = codes "  " ++ (name_of f ++ (codes " is not in this language: "
+    ++ (instead_of f ++ codes " (docs/SQL.md)\n")))
 
 -- the line that says what could stand there; none where the refusal isn't about the grammar
 abbrev pub stands_line : List Kind → List ℕ
@@ -44,7 +47,8 @@ hint_lines place = stands_line place.stands.items ++ foreign_line place.foreign
 -- the lines of a place: where it is in the batch, the token there, what could stand there, and what is known
 abbrev pub spot_lines : List ℕ → Span → Place → List ℕ
 spot_lines batch span place =
-    spot_text batch (min (span.from + place.span.from) (length batch)) (bytes_at (part batch span) place.span) ++ hint_lines place
+    spot_text batch (min (span.from + place.span.from) (length batch)) (bytes_at (part batch span) place.span)
+    ++ hint_lines place
 
 -- the place of the refusal is told
 pub record IsPlaceTold (batch : List ℕ) (span : Span) (columns : List Column) (why : StatementRefusal) (told : List ℕ) : Type 0 where

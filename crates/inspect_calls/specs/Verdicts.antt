@@ -24,6 +24,12 @@ abbrev pub legal_text : ℕ → ℕ → ℕ → Counts → List ℕ
 legal_text entries reads apart c =
     counts_text c (with_number (codes " reads, at most ") apart (with_number (codes ", ") reads (codes "legal: " ++ (decimal entries ++ codes " entries")))) ++ codes "\n"
 
+-- the line of a statement for which nothing stands
+abbrev pub unanswered_text : ℕ → ℕ → List ℕ
+unanswered_text query line =
+    codes "not legal: line " ++ (decimal line
+    ++ (codes " has neither the answer to query " ++ (decimal query ++ codes " nor the line of a stop\n")))
+
 -- the line of an entry that may not come, and why
 abbrev pub illegal_text : ℕ → Reason → List ℕ
 illegal_text line why = codes "not legal: line " ++ (decimal line ++ (codes " " ++ (reason_text why ++ codes "\n")))
@@ -43,13 +49,19 @@ unfit_text line why =
 -- the lines of a verdict
 abbrev pub IsVerdictText : Verdict → List ℕ → Type 0
 IsVerdictText (verdict.Legal entries reads apart counts) text = text ≡ legal_text entries reads apart counts
-IsVerdictText (verdict.NotAnswered query) text = text ≡ codes "not legal: query " ++ (decimal query ++ codes " has neither its answer nor the line of a stop\n")
-IsVerdictText verdict.NoSummary text = text ≡ codes "not legal: no summary stands behind the answers\n"
+IsVerdictText (verdict.NotAnswered query line) text = text ≡ unanswered_text query line
+IsVerdictText (verdict.NoSummary line) text =
+    text ≡ codes "not legal: no summary stands behind the answers, at line " ++ (decimal line ++ codes "\n")
+IsVerdictText (verdict.NoTrace line) text =
+    text ≡ codes "not legal: no trace stands behind the answers, at line " ++ (decimal line ++ codes "\n")
 IsVerdictText (verdict.NotStory line) text = text ≡ codes "not legal: line " ++ (decimal line ++ codes " is no entry\n")
 IsVerdictText (verdict.Illegal line place reason) text = text ≡ illegal_text line reason
 IsVerdictText (verdict.Unfit line place why) text = text ≡ unfit_text line why
-IsVerdictText verdict.NotWhole text = text ≡ codes "not legal: a query isn't over, or something is left open\n"
-IsVerdictText verdict.Differs text = text ≡ codes "not legal: the line of a stop, or the summary, isn't that of the story\n"
+IsVerdictText (verdict.NotWhole line) text =
+    text ≡ codes "not legal: a query isn't over, or something is left open, at the end before line "
+    ++ (decimal line ++ codes "\n")
+IsVerdictText (verdict.Differs line) text =
+    text ≡ codes "not legal: line " ++ (decimal line ++ codes " isn't what a run with this story prints\n")
 
 -- 0 for yes, and 1 for no
 abbrev pub verdict_status : Verdict → ℕ

@@ -1,7 +1,7 @@
 // The text of a verdict.
 ghost use Rattle.std.specs.Prelude.{◌≡◌, ◌++◌, IfOk, OnOk, decimal};
 ghost use Rattle.inspect_calls.specs.Verdicts.{IsVerdictText, counts_text, illegal_text, legal_text, verdict_status};
-ghost use Rattle.inspect_calls.specs.Verdicts.{unfit_text};
+ghost use Rattle.inspect_calls.specs.Verdicts.{unanswered_text, unfit_text};
 
 use crate::lines::{numbered, push_number};
 use crate::reasons::ShownReason;
@@ -31,15 +31,18 @@ pub(crate) fn text_of(alloc: Global, verdict: &Verdict) -> Result<Vec<u8>, Alloc
             apart,
             counts,
         } => legal_text(alloc, *entries as u64, *reads, *apart, counts),
-        Verdict::NotAnswered { query } => numbered(
+        Verdict::NotAnswered { query, line } => unanswered_text(alloc, *query as u64, *line),
+        Verdict::NoSummary { line } => numbered(
             alloc,
-            b"not legal: query ",
-            *query as u64,
-            b" has neither its answer nor the line of a stop\n",
+            b"not legal: no summary stands behind the answers, at line ",
+            *line,
+            b"\n",
         ),
-        Verdict::NoSummary => Vec::from_slice(
+        Verdict::NoTrace { line } => numbered(
             alloc,
-            b"not legal: no summary stands behind the answers\n",
+            b"not legal: no trace stands behind the answers, at line ",
+            *line,
+            b"\n",
         ),
         Verdict::NotStory { line } => numbered(
             alloc,
@@ -49,16 +52,31 @@ pub(crate) fn text_of(alloc: Global, verdict: &Verdict) -> Result<Vec<u8>, Alloc
         ),
         Verdict::Illegal { line, reason, .. } => illegal_text(alloc, *line, *reason),
         Verdict::Unfit { line, why, .. } => unfit_text(alloc, *line, *why),
-        Verdict::NotWhole => {
-            Vec::from_slice(
-                alloc,
-                b"not legal: a query isn't over, or something is left open\n",
-            )
-        }
-        Verdict::Differs => Vec::from_slice(
+        Verdict::NotWhole { line } => numbered(
             alloc,
-            b"not legal: the line of a stop, or the summary, isn't that of the story\n",
+            b"not legal: a query isn't over, or something is left open, at the end before line ",
+            *line,
+            b"\n",
         ),
+        Verdict::Differs { line } => numbered(
+            alloc,
+            b"not legal: line ",
+            *line,
+            b" isn't what a run with this story prints\n",
+        ),
+    }
+}
+
+// The line of a statement for which nothing stands.
+fn unanswered_text(alloc: Global, query: u64, line: u64) -> Result<Vec<u8>, AllocError>
+    ensures { IfOk result (λ text. text.items ≡ unanswered_text query line) }
+{
+    let text = format!(in alloc;
+        "not legal: line {line} has neither the answer to query {query} nor the line of a stop\n"
+    );
+    match text {
+        Ok(text) => Ok(text.into_bytes()),
+        Err(_) => Err(AllocError),
     }
 }
 

@@ -1,5 +1,6 @@
 -- What is known from other SQL and is not in this language, and what to write instead.
-use Rattle.std.specs.Prelude.{ℕ, ◌-◌, ◌==◌, Bool, true, false, if◌then◌else◌, List, [], ◌∷◌, Option, Some, None, slice_get, codes}
+use Rattle.std.specs.Prelude.{ℕ, ◌-◌, ◌==◌, Bool, true, false, if◌then◌else◌, List, [], ◌∷◌, slice_get, codes}
+use Rattle.std.specs.Prelude.{Option, Some, None}
 use Rattle.std.specs.Str.{str_eq_ignore_ascii_case}
 use Rattle.sql_tokens.specs.declared.token.Token as tokens
 use Rattle.sql_tokens.specs.declared.token.TokenKind.{TokenKind}
@@ -38,7 +39,8 @@ instead_of foreign.Quoted = codes "single quotes; in double quotes stands a name
 
 -- those that are words
 abbrev pub words : List Foreign
-words = foreign.Distinct ∷ foreign.Avg ∷ foreign.As ∷ foreign.In ∷ foreign.Between ∷ foreign.Like ∷ foreign.Having ∷ foreign.Join ∷ []
+words = foreign.Distinct ∷ foreign.Avg ∷ foreign.As ∷ foreign.In ∷ foreign.Between ∷ foreign.Like ∷ foreign.Having
+    ∷ foreign.Join ∷ []
 
 -- the one that a word is, ASCII case aside
 abbrev pub find_in : List Foreign → List ℕ → Option Foreign
@@ -78,7 +80,8 @@ or_else None o = o
 
 -- WHAT IS KNOWN of a refused token: it is on the list, or the word before it is
 abbrev pub foreign_at : List ℕ → Bool → List tokens.Token → ℕ → Option Foreign
-foreign_at bytes takes_text all number = or_else (here bytes takes_text (slice_get all number)) (word_at bytes (before_at all number))
+foreign_at bytes takes_text all number =
+    or_else (here bytes takes_text (slice_get all number)) (word_at bytes (before_at all number))
 
 abbrev pub is_text : Kind → Bool
 is_text kind.Text = true

@@ -44,7 +44,8 @@ span_or end (Some t) = t.span
 abbrev pub span_at : ℕ → List tokens.Token → ℕ → Span
 span_at end ts number = span_or end (slice_get ts number)
 
--- The place of the tokens of a text, by the grammar: where it is, what is known there, and just the kinds that can stand there.
+-- The place of the tokens of a text, by the grammar: where it is, what is known there, and just the kinds that can stand
+-- there.
 pub record IsGrammarPlace (limited : Bool) (bytes : List ℕ) (all : List tokens.Token) (p : Place) : Type 0 where
   pub number : ℕ
   pub place : IsPlace limited (map (meaning_in bytes) all) number

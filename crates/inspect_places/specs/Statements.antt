@@ -1,5 +1,6 @@
 -- The place of a statement's refusal, among its tokens, or where it has none.
-use Rattle.std.specs.Prelude.{◌≡◌, ◌-◌, ◌==◌, ◌&&◌, ℕ, Bool, true, if◌then◌else◌, List, [], length, take, Option, Some, None, slice_get, slice_index}
+use Rattle.std.specs.Prelude.{◌≡◌, ◌-◌, ◌==◌, ◌&&◌, ℕ, Bool, true, if◌then◌else◌, List, [], length, take}
+use Rattle.std.specs.Prelude.{Option, Some, None, slice_get, slice_index}
 use Rattle.table_core.specs.declared.schema.Column.{Column}
 use Rattle.sql_tokens.specs.Tokens.{HasTokens}
 use Rattle.sql_tokens.specs.declared.token.Token as tokens
@@ -14,14 +15,15 @@ is_quote b = if b == 39 then true else b == 34
 
 -- a text or a name ends just before another quote of its kind: the two are one inside it, and it is open
 abbrev pub is_reopened : List ℕ → ℕ → tokens.Token → Bool
-is_reopened bytes prefix t = is_quote (slice_index bytes prefix) && (t.span.to == prefix) && (slice_index bytes t.span.from == slice_index bytes prefix)
+is_reopened bytes prefix t = is_quote (slice_index bytes prefix) && (t.span.to == prefix)
+    && (slice_index bytes t.span.from == slice_index bytes prefix)
 
 abbrev pub opening_of : List ℕ → ℕ → Option tokens.Token → ℕ
 opening_of bytes prefix None = prefix
 opening_of bytes prefix (Some t) = if is_reopened bytes prefix t then t.span.from else prefix
 
--- where a text stops having tokens: the quote that opens what is open there, which may be that of the last token; or else the byte
--- behind the longest prefix that has tokens
+-- where a text stops having tokens: the quote that opens what is open there, which may be that of the last token; or else
+-- the byte behind the longest prefix that has tokens
 abbrev pub opening : List ℕ → ℕ → List tokens.Token → ℕ
 opening bytes prefix all = opening_of bytes prefix (slice_get all (length all - 1))
 

@@ -144,13 +144,14 @@ telling z (Some pieces) from to h tells is = undamaged z from to h is
 -- what is told is judged legal
 pub judged_legal : (i : Inputs) (name : PolicyName) (scratch : Bool) (out : List ℕ) (story : List Entry) → IsRunTold i name scratch out story → (v : Verdict) → IsVerdict i name scratch out v → IsLegal v
 judged_legal i name scratch out story told (verdict.Legal entries reads apart counts) is = tt
-judged_legal i name scratch out story told (verdict.NotAnswered query) is = is story told
-judged_legal i name scratch out story told verdict.NoSummary is = is story told
+judged_legal i name scratch out story told (verdict.NotAnswered query line) is = is.none story told
+judged_legal i name scratch out story told (verdict.NoSummary line) is = is.none story told
+judged_legal i name scratch out story told (verdict.NoTrace line) is = is.none story told
 judged_legal i name scratch out story told (verdict.NotStory line) is = is.none story told
 judged_legal i name scratch out story told (verdict.Illegal line place reason) is = is.none story told
 judged_legal i name scratch out story told (verdict.Unfit line place why) is = is.none story told
-judged_legal i name scratch out story told verdict.NotWhole is = is.none story told
-judged_legal i name scratch out story told verdict.Differs is = is story told
+judged_legal i name scratch out story told (verdict.NotWhole line) is = is.2.none story told
+judged_legal i name scratch out story told (verdict.Differs line) is = is.none story told
 
 module _ (i : Inputs) (w : Work) (o : Text) (run : IsRunOf i w o) (scratch : Bool) (traced : i.trace ≡ true) (first : w.cursor ≡ first_cursor w.policy) (keeps : KeepsAs scratch w.old w.new) (fit : AllByRecursion Fits w.story) where
   abbrev h : History

@@ -62,8 +62,9 @@ pub earlier_is : (i : Inputs) (name : PolicyName) (scratch : Bool) (front more o
 earlier_is i name scratch front more out v (verdict.Illegal line place reason) same is none first = entry_front i name scratch front more out line place reason same none first
 earlier_is i name scratch front more out v (verdict.Unfit line place why) same is none first = unfit_front i name scratch front more out line place why same none first
 earlier_is i name scratch front more out v (verdict.Legal entries reads apart counts) same is none first = is
-earlier_is i name scratch front more out v (verdict.NotAnswered query) same is none first = is
-earlier_is i name scratch front more out v verdict.NoSummary same is none first = is
+earlier_is i name scratch front more out v (verdict.NotAnswered query line) same is none first = is
+earlier_is i name scratch front more out v (verdict.NoSummary line) same is none first = is
+earlier_is i name scratch front more out v (verdict.NoTrace line) same is none first = is
 earlier_is i name scratch front more out v (verdict.NotStory line) same is none first = is
-earlier_is i name scratch front more out v verdict.NotWhole same is none first = is
-earlier_is i name scratch front more out v verdict.Differs same is none first = is
+earlier_is i name scratch front more out v (verdict.NotWhole line) same is none first = is
+earlier_is i name scratch front more out v (verdict.Differs line) same is none first = is

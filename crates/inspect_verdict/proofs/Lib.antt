@@ -3,6 +3,7 @@ pub mod Left
 pub mod Standing
 pub mod OneStory
 pub mod PartLines
+pub mod Partings
 pub mod Sizes
 pub mod SizedRows
 pub mod Statements

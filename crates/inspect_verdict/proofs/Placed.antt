@@ -1,5 +1,5 @@
 -- At which line of an output an entry stands.
-use Rattle.std.proofs.Common.{◌≡◌, ◌∙◌, ◌≤◌, ◌<◌, ◌+◌, ◌-◌, ◌∷◌, [], ◌++◌, ℕ, zero, suc, List, append_assoc, length, take, drop, refl, sym, ap, subst, arith}
+use Rattle.std.proofs.Common.{◌≡◌, ◌∙◌, ◌≤◌, ◌<◌, ◌+◌, ◌-◌, ◌∷◌, [], ◌++◌, ℕ, zero, suc, List, append_assoc, append-nil, length, take, drop, refl, sym, ap, subst, arith}
 use Rattle.std.specs.List.{AllByRecursion}
 use Rattle.std.proofs.lemmas.List.{length-take-le}
 use Rattle.story_text.specs.Reading.{Fits, IsFirstBad}
@@ -49,3 +49,12 @@ entry_at out es first place fit low at =
     let down = lines_down out (take place es) (story_text (drop place es)) first (front_fits place es fit) (subst From (parted place es) at) in
     let same : first + length (take place es) ≡ first + place = ap (λ (k : ℕ). first + k) (length-take-le place es (omega (arith, low))) in
     subst At same down
+
+pub end_low : (out : List ℕ) (es : List Entry) (first : ℕ) → BeginsAtLine out (story_text es) first → first + length es ≤ length out + length out + 1
+end_low out es first at =
+    let end : EndsWith out (story_text es) = record { before = at.before; joined = at.joined } in
+    omega (arith, line_within out (story_text es) first at, end_within out (story_text es) end, entries_few es)
+
+-- behind a story the text ends
+pub end_at : (out : List ℕ) (es : List Entry) (first : ℕ) → AllByRecursion Fits es → BeginsAtLine out (story_text es) first → BeginsAtLine out [] (first + length es)
+end_at out es first fit at = lines_down out es [] first fit (subst (λ (l : List ℕ). BeginsAtLine out l first) (sym (append-nil (story_text es))) at)

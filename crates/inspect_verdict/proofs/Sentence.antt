@@ -1,5 +1,5 @@
 -- The verdict: what each stage says of a run that is told.
-use Rattle.std.proofs.Common.{◌≡◌, ◌≢◌, ◌∙◌, ◌<◌, ◌≤◌, ◌+◌, ◌^◌, [], ℕ, Bool, List, length, take, drop, get_or, refl, sym, ap, subst, arith}
+use Rattle.std.proofs.Common.{◌≡◌, ◌≢◌, ◌∙◌, ◌<◌, ◌≤◌, ◌+◌, ◌^◌, ◌∷◌, [], ℕ, Bool, List, length, take, drop, get_or, refl, sym, ap, subst, arith}
 use Rattle.std.specs.Prelude.{Option, Result, Ok, Err, IsTrue, true, false, map}
 use Rattle.std.specs.List.{AllByRecursion, AllZip}
 use Rattle.std.proofs.lemmas.List.{get_or-take, length-take-le, take-append-drop, take-take}
@@ -10,6 +10,7 @@ use Rattle.scan_story.specs.declared.setting.PolicyName.{PolicyName}
 use Rattle.scan_story.specs.declared.setting.Setting.{Setting}
 use Rattle.scan_story.specs.Legal.{Legal}
 use Rattle.story_text.specs.Reading.{Fits}
+use Rattle.story_text.specs.Text.{story_text}
 use Rattle.scan_story.specs.Setting.{HasRoom, IsSetting}
 use Rattle.scan_story.specs.Views.{past}
 use Rattle.scan_story.specs.Whole.{IsWhole, Undisturbed}
@@ -23,6 +24,7 @@ use Rattle.batch_plan.specs.declared.task.Task.{Task}
 use Rattle.run_output.specs.Printed.{status}
 use Rattle.run_output.proofs.Prints.{print_each}
 use Rattle.run_inputs.specs.declared.inputs.Inputs.{Inputs}
+use Rattle.run_ends.specs.Losses.{AreLostBy}
 use Rattle.run_ends.specs.Running.{CanRun, shape_in, zones_in}
 use Rattle.run_ends.specs.Tasks.{tasks_in}
 use Rattle.run_ends.proofs.Asked.{only_asked}
@@ -43,28 +45,37 @@ use Rattle.inspect_verdict.specs.declared.wording.Fitting.TheVariants as fits
 use Rattle.inspect_verdict.proofs.Dealt.{all_due, in_turn}
 use Rattle.inspect_verdict.proofs.Straying.{all_past, fits_licensed, fits_within, licensed_fits, never_left, never_unfit}
 use Rattle.inspect_verdict.specs.Plain.{ArePlain}
-use Rattle.inspect_verdict.specs.Reading.{HasRead, IsToldBy, text_with}
+use Rattle.inspect_verdict.specs.Ends.{BeginsAtLine}
+use Rattle.inspect_verdict.specs.Reading.{HasRead, IsToldBy, IsTrace, text_with}
 use Rattle.inspect_verdict.specs.Stops.{answers_with, stop_of_task}
 use Rattle.inspect_verdict.specs.Told.{IsRunTold, run_setting}
-use Rattle.inspect_verdict.specs.Verdict.{IsOfReading, IsVerdict, TellsNoRun}
+use Rattle.inspect_verdict.specs.Verdict.{IsOfReading, IsVerdict, TellsNoRun, left_open}
 use Rattle.inspect_verdict.specs.declared.judging.Judged.{Judged}
 use Rattle.inspect_verdict.specs.declared.judging.Judged.TheVariants as judged
 use Rattle.inspect_verdict.specs.declared.output_reading.Told.{Told}
 use Rattle.inspect_verdict.specs.declared.verdict.Verdict.{Verdict}
 use Rattle.inspect_verdict.specs.declared.verdict.Verdict.TheVariants as verdict
+use Rattle.inspect_verdict.proofs.Placed.{end_at}
 use Rattle.inspect_verdict.proofs.Stopping.{given_answers, given_lost, stops_same}
 use Rattle.inspect_verdict.proofs.Telling.{given, is_read, text_is}
 
 -- what stands in the way of reading is right where no run is told
 pub none_told : (i : Inputs) (name : PolicyName) (scratch : Bool) (out : List ℕ) (v : Verdict) → IsOfReading i out v → TellsNoRun i name scratch out → IsVerdict i name scratch out v
 none_told i name scratch out (verdict.Legal entries reads apart counts) is none = absurd is
-none_told i name scratch out (verdict.NotAnswered query) is none = none
-none_told i name scratch out verdict.NoSummary is none = none
+none_told i name scratch out (verdict.NotAnswered query line) is none = record { none = none; lacks = is }
+none_told i name scratch out (verdict.NoSummary line) is none = record { none = none; lacks = is }
+none_told i name scratch out (verdict.NoTrace line) is none = absurd is
 none_told i name scratch out (verdict.NotStory line) is none = record { none = none; bad = is }
 none_told i name scratch out (verdict.Illegal line place reason) is none = absurd is
 none_told i name scratch out (verdict.Unfit line place why) is none = absurd is
-none_told i name scratch out verdict.NotWhole is none = absurd is
-none_told i name scratch out verdict.Differs is none = absurd is
+none_told i name scratch out (verdict.NotWhole line) is none = absurd is
+none_told i name scratch out (verdict.Differs line) is none = absurd is
+
+-- a story that is legal and left open
+pub open_is : (i : Inputs) (name : PolicyName) (scratch : Bool) (out : List ℕ) (es : List Entry) (first : ℕ) → TellsNoRun i name scratch out → IsTrace i out (story_text es) → BeginsAtLine out (story_text es) first → AllByRecursion Fits es
+    → Legal (run_setting i name) (past es) → (IsWhole (run_setting i name) (past es) → AreAllRegistered (run_setting i name) es i.options.workers → ⊥) → IsVerdict i name scratch out (left_open first es)
+open_is i name scratch out [] first none trace at fit legal unfinished = record { none = none; trace = trace; at_line = at; legal = legal; unfinished = unfinished }
+open_is i name scratch out (e ∷ es) first none trace at fit legal unfinished = (e, es, record { none = none; trace = trace; at_line = end_at out (e ∷ es) first fit at; legal = legal; unfinished = unfinished })
 
 front_legal : (s : Setting) (es : List Entry) (n : ℕ) → Legal s (past es) → Legal s (past (take n es))
 front_legal s es n legal = begin_legal s es (take n es) (drop n es, sym (take-append-drop n es)) legal
@@ -145,6 +156,13 @@ module _ (i : Inputs) (can : CanRun i) (name : PolicyName) (scratch : Bool) (out
         ap With told.1 ∙ stops_same rows (past story) i.options.parts t.lines.items [] 1 i.outcomes.items plain run.losses refl told.0 are run.lost in
         other (text_is i can name scratch out short plain are story run ∙ (ap (λ (gs : List Answer). text_with i gs story) (sym same) ∙ ap (λ (es : List Entry). text_with i answers_now es) (sym told.1)))
 
+    -- each query that they stop was stopped as the story says, or since memory ran out
+    pub answers_lost : Legal (run_setting i name) (past t.story.items) → AreLostBy (past t.story.items) i.options.parts 1 i.outcomes.items (losses i.outcomes.items answers_now)
+    answers_lost legal =
+        let h = past t.story.items in
+        let os = i.outcomes.items in
+        lost_by h (zones_in i) i.options.workers i.options.parts os (λ q none. only_asked (run_setting i name) h q legal none) answers_now (given_lost i.loaded.table.rows h i.options.parts t.lines.items 1 os plain are)
+
     -- where nothing differs a run is told
     pub run_told : AllByRecursion Fits t.story.items → (n : Counts) (a : ℕ) → IsJudged (run_setting i name) (shape_in i) scratch t.story.items (judged.Legal n a) → out ≡ text_with i answers_now t.story.items → IsRunTold i name scratch out t.story.items
     run_told fit n a is same =
@@ -163,7 +181,7 @@ module _ (i : Inputs) (can : CanRun i) (name : PolicyName) (scratch : Bool) (out
           licensed = fits_licensed s (shape_in i) scratch h is.0 (all_past Fits t.story.items fit) is.7;
           within = fits_within (shape_in i) scratch h is.7;
           losses = losses os answers_now;
-          lost = lost_by h (zones_in i) i.options.workers i.options.parts os (λ q none. only_asked s h q is.0 none) answers_now (given_lost rows h i.options.parts t.lines.items 1 os plain are);
+          lost = answers_lost is.0;
           status = status (printed columns dicts 1 os answers_now);
           output = λ texts come. record {
             printed = printed columns dicts 1 os answers_now;

@@ -19,7 +19,7 @@ use Rattle.run_output.specs.Printed.{Printed, is_answered, summary_of}
 use Rattle.run_stops.specs.declared.outcome.Outcome.{Outcome}
 use Rattle.run_stops.specs.declared.outcome.Outcome.TheVariants as outcome
 use Rattle.run_ends.specs.Tasks.{totals_of}
-use Rattle.inspect_verdict.specs.Reading.{IsSummaryLine}
+use Rattle.inspect_verdict.specs.Reading.{IsSummaryLine, summary_head}
 
 lacks_join : (xs ys : List ℕ) → lacks 10 xs ≡ true → lacks 10 ys ≡ true → lacks 10 (xs ++ ys) ≡ true
 lacks_join [] ys e f = f
@@ -35,10 +35,10 @@ clean n low = (decimal_digits n low).unmarked 10 (omega arith)
 counted : (n : ℕ) (text : List ℕ) → n < 2 ^ 64 → lacks 10 text ≡ true → lacks 10 (number_and n text) ≡ true
 counted n text low e = lacks_join (decimal n) text (clean n low) e
 
--- the words of the summary, without the line end
+-- the words of the summary behind its head, without the line end
 abbrev words : ℕ → ℕ → ℕ → ℕ → List ℕ
 words q a d r =
-    codes "summary: " ++ (number_and q (codes " queries, ") ++ (number_and a (codes " answered, ") ++ (number_and d (codes " deliveries, ") ++ number_and r (codes " rows"))))
+    number_and q (codes " queries, ") ++ (number_and a (codes " answered, ") ++ (number_and d (codes " deliveries, ") ++ number_and r (codes " rows")))
 
 words_clean : (q a d r : ℕ) → q < 2 ^ 64 → a < 2 ^ 64 → d < 2 ^ 64 → r < 2 ^ 64 → lacks 10 (words q a d r) ≡ true
 words_clean q a d r lq la ld lr =
@@ -46,17 +46,16 @@ words_clean q a d r lq la ld lr =
     (lacks_join (number_and a (codes " answered, ")) (number_and d (codes " deliveries, ") ++ number_and r (codes " rows")) (counted a (codes " answered, ") la refl)
     (lacks_join (number_and d (codes " deliveries, ")) (number_and r (codes " rows")) (counted d (codes " deliveries, ") ld refl) (counted r (codes " rows") lr refl)))
 
-ended : (a b c d e : List ℕ) → (a ++ (b ++ (c ++ (d ++ e)))) ++ 10 ∷ [] ≡ a ++ (b ++ (c ++ (d ++ (e ++ 10 ∷ []))))
-ended a b c d e =
-    append_assoc a (b ++ (c ++ (d ++ e))) (10 ∷ [])
-    ∙ (ap (λ (l : List ℕ). a ++ l) (append_assoc b (c ++ (d ++ e)) (10 ∷ []))
-    ∙ (ap (λ (l : List ℕ). a ++ (b ++ l)) (append_assoc c (d ++ e) (10 ∷ [])) ∙ ap (λ (l : List ℕ). a ++ (b ++ (c ++ l))) (append_assoc d e (10 ∷ []))))
+ended : (b c d e : List ℕ) → (b ++ (c ++ (d ++ e))) ++ 10 ∷ [] ≡ b ++ (c ++ (d ++ (e ++ 10 ∷ [])))
+ended b c d e =
+    append_assoc b (c ++ (d ++ e)) (10 ∷ [])
+    ∙ (ap (λ (l : List ℕ). b ++ l) (append_assoc c (d ++ e) (10 ∷ [])) ∙ ap (λ (l : List ℕ). b ++ (c ++ l)) (append_assoc d e (10 ∷ [])))
 
-line_is : (q a d r : ℕ) → summary_line q a d r ≡ words q a d r ++ 10 ∷ []
+line_is : (q a d r : ℕ) → summary_line q a d r ≡ summary_head ++ (words q a d r ++ 10 ∷ [])
 line_is q a d r =
     let end : number_and r (codes " rows\n") ≡ number_and r (codes " rows") ++ 10 ∷ [] = sym (append_assoc (decimal r) (codes " rows") (10 ∷ [])) in
     let front = λ (l : List ℕ). codes "summary: " ++ (number_and q (codes " queries, ") ++ (number_and a (codes " answered, ") ++ (number_and d (codes " deliveries, ") ++ l))) in
-    ap front end ∙ sym (ended (codes "summary: ") (number_and q (codes " queries, ")) (number_and a (codes " answered, ")) (number_and d (codes " deliveries, ")) (number_and r (codes " rows")))
+    ap front end ∙ ap (λ (l : List ℕ). summary_head ++ l) (sym (ended (number_and q (codes " queries, ")) (number_and a (codes " answered, ")) (number_and d (codes " deliveries, ")) (number_and r (codes " rows"))))
 
 -- ---- how great the counts are
 

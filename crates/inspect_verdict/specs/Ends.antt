@@ -1,5 +1,5 @@
--- Where the end of a text begins.
-use Rattle.std.specs.Prelude.{◌≡◌, ◌==◌, ◌+◌, ◌++◌, ℕ, List, [], ◌∷◌, if◌then◌else◌}
+-- Where the end of a text begins, and where two texts part.
+use Rattle.std.specs.Prelude.{◌≡◌, ◌≢◌, ◌==◌, ◌+◌, ◌++◌, ℕ, List, [], ◌∷◌, Option, None, Some, if◌then◌else◌}
 
 -- some text stands before this end
 pub record EndsWith (text end : List ℕ) : Type 0 where
@@ -16,3 +16,23 @@ pub record BeginsAtLine (text end : List ℕ) (line : ℕ) : Type 0 where
   pub before : List ℕ
   pub joined : text ≡ before ++ end
   pub counted : line ≡ line_ends before + 1
+
+-- the first byte of a text, if any
+abbrev pub first_byte : List ℕ → Option ℕ
+first_byte [] = None
+first_byte (b ∷ bs) = Some b
+
+-- from here on, with this end, a text isn't the other one: so far they are the same, and then they go on with other
+-- bytes, or one of them ends
+pub record PartsFrom (text other end : List ℕ) : Type 0 where
+  pub same : List ℕ
+  pub more : List ℕ
+  pub text_is : text ≡ same ++ end
+  pub other_is : other ≡ same ++ more
+  pub apart : first_byte end ≢ first_byte more
+
+-- the line of a text, from 1, in which it parts from another one
+pub record PartsAtLine (text other : List ℕ) (line : ℕ) : Type 0 where
+  pub end : List ℕ
+  pub parts : PartsFrom text other end
+  pub at_line : BeginsAtLine text end line

@@ -1,5 +1,5 @@
-pub mod Parts
 pub mod Ends
+pub mod Parts
 pub mod Apart
 pub mod StatementParts
 pub mod Plain

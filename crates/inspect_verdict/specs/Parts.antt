@@ -1,6 +1,8 @@
 -- What may stand in an output for each of its parts.
-use Rattle.std.specs.Prelude.{◌≡◌, ◌≢◌, ◌⊎◌, true, ℕ, List, [], ◌∷◌, ◌++◌, Option, Some, None, MatchOption, is_some, map}
+use Rattle.std.specs.Prelude.{◌≡◌, ◌≢◌, ◌⊎◌, true, ℕ, List, [], ◌∷◌, ◌++◌, Option, Some, None, MatchOption}
+use Rattle.std.specs.Prelude.{is_some, length, map}
 use Rattle.story_text.specs.Reading.{lacks}
+use Rattle.inspect_verdict.specs.Ends.{PartsFrom}
 use Rattle.inspect_verdict.specs.declared.part.Part.{Part}
 use Rattle.inspect_verdict.specs.declared.splitting.Split.{Split}
 
@@ -48,6 +50,23 @@ StandsFor p text = (text ≡ p.text) ⊎ IsHeadedLine p.head text
 abbrev pub StandsBehind : List Part → List ℕ → List ℕ → Type 0
 StandsBehind [] text rest = text ≡ rest
 StandsBehind (p ∷ parts) text rest = (begin more : List ℕ) × StandsFor p begin × (text ≡ begin ++ more) × StandsBehind parts more rest
+
+-- nothing that a text begins with stands for the part
+abbrev pub HasNone : Part → List ℕ → Type 0
+HasNone p text = (begin rest : List ℕ) → StandsFor p begin → text ≢ begin ++ rest
+
+-- THE FIRST PART FOR WHICH NOTHING STANDS is that at this place, from 0: something stands for each part before it, and
+-- from this end on, what stands behind them isn't the part's own text
+pub record LacksPart (parts : List Part) (text : List ℕ) (place : ℕ) (end : List ℕ) : Type 0 where
+  pub before : List Part
+  pub part : Part
+  pub after : List Part
+  pub parts_are : parts ≡ before ++ part ∷ after
+  pub at_place : place ≡ length before
+  pub rest : List ℕ
+  pub behind : StandsBehind before text rest
+  pub none : HasNone part rest
+  pub parted : PartsFrom rest part.text end
 
 -- for each part it is known whether a line stands for it, and this stands behind the last part
 pub record IsSplit (words : List (Option (List ℕ))) (rest : List ℕ) (s : Split) : Type 0 where

@@ -1,9 +1,10 @@
 -- What is read of an output.
-use Rattle.std.specs.Prelude.{◌≡◌, ◌≤◌, ◌^◌, true, false, ℕ, Bool, List, [], ◌∷◌, ◌++◌, Some, Result, Ok, Err, length, map, is_some}
+use Rattle.std.specs.Prelude.{◌≡◌, ◌≢◌, ◌≤◌, ◌+◌, ◌^◌, true, false, ℕ, Bool, List, [], ◌++◌, Some, Result, Ok, Err}
+use Rattle.std.specs.Prelude.{codes, length, map, is_some}
 use Rattle.std.specs.List.{AllByRecursion, flat_map}
 use Rattle.std.specs.declared.vec.Vec.{Vec}
 use Rattle.std.specs.declared.alloc.Global.{Global}
-use Rattle.story_text.specs.Reading.{Fits, lacks}
+use Rattle.story_text.specs.Reading.{Fits}
 use Rattle.story_text.specs.Text.{story_text}
 use Rattle.scan_story.specs.declared.entry.Entry.{Entry}
 use Rattle.query_gather.specs.declared.answer.Answer.{Answer}
@@ -11,16 +12,21 @@ use Rattle.run_output.specs.Answers.{printed}
 use Rattle.run_output.specs.Printed.{output, text_in}
 use Rattle.run_ends.specs.Tasks.{totals_of}
 use Rattle.run_inputs.specs.declared.inputs.Inputs.{Inputs}
-use Rattle.inspect_verdict.specs.Parts.{StandsBehind}
+use Rattle.inspect_verdict.specs.Ends.{BeginsAtLine}
+use Rattle.inspect_verdict.specs.Parts.{IsHeadedLine, LacksPart, StandsBehind}
 use Rattle.inspect_verdict.specs.StatementParts.{parts_in, words_of}
 use Rattle.run_stops.specs.Outcomes.{plans_of}
 use Rattle.inspect_verdict.specs.Plain.{ArePlain}
 use Rattle.inspect_verdict.specs.declared.output_reading.Told.{Told}
 use Rattle.inspect_verdict.specs.declared.verdict.Verdict.{Verdict}
 
--- where there is a summary it is one line, and else nothing
+-- how the summary begins
+abbrev pub summary_head : List ℕ
+summary_head = codes "summary: "
+
+-- where there is a summary it is one line that begins so, and else nothing
 abbrev pub IsSummaryLine : Bool → List ℕ → Type 0
-IsSummaryLine true line = (words : List ℕ) × (lacks 10 words ≡ true) × (line ≡ words ++ 10 ∷ [])
+IsSummaryLine true line = IsHeadedLine (Some summary_head) line
 IsSummaryLine false line = line ≡ []
 
 -- THE TRACE of an output: it stands behind the statements, for each of which its plain answer stands, the line of its refusal, or
@@ -31,6 +37,27 @@ pub record IsTrace (i : Inputs) (out trace : List ℕ) : Type 0 where
   pub line : List ℕ
   pub summary : IsSummaryLine i.summary line
   pub behind : StandsBehind (parts_in i.loaded.table.columns i.loaded.dicts.items 1 i.outcomes.items answers) out (line ++ trace)
+
+-- NO ANSWER: for the statement of this number nothing stands, and from this line on, what stands behind those before it
+-- isn't its plain answer, or the line of its refusal
+pub record LacksAnswer (i : Inputs) (out : List ℕ) (query line : ℕ) : Type 0 where
+  pub answers : List Answer
+  pub plain : ArePlain i.loaded.table.rows (plans_of i.outcomes.items) answers
+  pub place : ℕ
+  pub number : query ≡ place + 1
+  pub end : List ℕ
+  pub lacks : LacksPart (parts_in i.loaded.table.columns i.loaded.dicts.items 1 i.outcomes.items answers) out place end
+  pub at_line : BeginsAtLine out end line
+
+-- NO SUMMARY: something stands for each statement, and behind them, from this line on, no summary line, though one is
+-- to stand there
+pub record LacksSummary (i : Inputs) (out : List ℕ) (line : ℕ) : Type 0 where
+  pub answers : List Answer
+  pub plain : ArePlain i.loaded.table.rows (plans_of i.outcomes.items) answers
+  pub rest : List ℕ
+  pub behind : StandsBehind (parts_in i.loaded.table.columns i.loaded.dicts.items 1 i.outcomes.items answers) out rest
+  pub none : (summary more : List ℕ) → IsSummaryLine i.summary summary → rest ≢ summary ++ more
+  pub at_line : BeginsAtLine out rest line
 
 -- the story is read, and no line is refused
 abbrev pub TellsStory : List Entry → Result (Vec Entry Global) ℕ → Type 0

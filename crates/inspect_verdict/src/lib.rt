@@ -25,6 +25,7 @@ mod judging;
 mod order;
 mod output_reading;
 mod part;
+mod parting;
 mod parts;
 mod query_causes;
 mod splitting;

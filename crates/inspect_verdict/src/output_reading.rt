@@ -18,7 +18,7 @@ ghost use Rattle.inspect_verdict.specs.Verdict.{IsOfReading};
 
 use crate::causes::numbers_fit;
 use crate::ends::line_of_end;
-use crate::part::behind_line;
+use crate::part::behind_line_with;
 use crate::parts::parts_of;
 use crate::splitting::{Split, take_apart};
 use crate::stories::one_story;
@@ -47,7 +47,7 @@ fn behind_summary(summary: bool, text: &[u8]) -> Option<&[u8]>
         → MatchOption result ⊥ (λ r. r.now ≡ rest) }
 {
     if summary {
-        return behind_line(text);
+        return behind_line_with(text, b"summary: ");
     }
     Some(text)
 }
@@ -130,13 +130,19 @@ pub(crate) fn read_output(
 {
     let schema = inputs.loaded.table.schema();
     let parts = parts_of(alloc, schema, &inputs.loaded.dicts, &inputs.outcomes, plain)?;
-    let Split { lines, behind } = take_apart(alloc, &parts, output)?;
+    let Split {
+        lines,
+        behind,
+        left,
+    } = take_apart(alloc, &parts, output)?;
     let Some(behind) = behind else {
         let query = lines.len() + 1;
-        return Ok(Err(Verdict::NotAnswered { query }));
+        let line = line_of_end(output, left);
+        return Ok(Err(Verdict::NotAnswered { query, line }));
     };
     let Some(trace) = behind_summary(inputs.summary, behind) else {
-        return Ok(Err(Verdict::NoSummary));
+        let line = line_of_end(output, behind);
+        return Ok(Err(Verdict::NoSummary { line }));
     };
     told_at_end(alloc, lines, output, trace)
 }

@@ -1,5 +1,6 @@
 // A part of an output.
-ghost use Rattle.std.specs.Prelude.{◌≡◌, ◌≢◌, ◌==◌, ◌<◌, ◌++◌, ◌∷◌, [], ℕ, List, Option, Some, IfSome, MatchOption, is_some, length, true};
+ghost use Rattle.std.specs.Prelude.{◌≡◌, ◌≢◌, ◌==◌, ◌<◌, ◌++◌, ◌∷◌, [], ℕ, List, Option, Some, IfNone, IfSome};
+ghost use Rattle.std.specs.Prelude.{MatchOption, is_some, length, true};
 ghost use Rattle.std.specs.List.{position};
 ghost use Rattle.story_text.specs.Reading.{IsCut, lacks};
 ghost use Rattle.inspect_verdict.specs.Ends.{EndsWith};
@@ -44,8 +45,8 @@ pub fn behind_line(text: &[u8]) -> Option<&[u8]>
     }
 }
 
-// What stands behind a line that begins so.
-fn behind_line_with<'a>(text: &'a [u8], head: &[u8]) -> Option<&'a [u8]>
+/// What stands behind a line that begins so; none where the text begins with no such line.
+pub(crate) fn behind_line_with<'a>(text: &'a [u8], head: &[u8]) -> Option<&'a [u8]>
     ensures line { IfSome result (λ r. (line : List ℕ) × spec.IsHeadedLine (Some head.now) line
         × (text.now ≡ line ++ r.now)) }
     ensures end { IfSome result (λ r. EndsWith text.now r.now) }
@@ -68,6 +69,7 @@ impl Part {
         ensures found { (words : Option (List ℕ)) (rest : List ℕ) → spec.MayStand self.now words
             → text.now ≡ spec.text_of self.now words ++ rest
             → MatchOption result ⊥ (λ r. (r.0 ≡ is_some words) × (r.1.now ≡ rest)) }
+        ensures none { IfNone result (spec.HasNone self.now text.now) }
     {
         if let Some(rest) = behind(text, self.text.as_slice()) {
             return Some((false, rest));

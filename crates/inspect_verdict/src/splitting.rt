@@ -1,10 +1,11 @@
 // An output in its parts.
-ghost use Rattle.std.specs.Prelude.{◌≡◌, ◌++◌, ℕ, List, IfOk, IfSome, Option};
+ghost use Rattle.std.specs.Prelude.{◌≡◌, ◌++◌, ℕ, List, IfNone, IfOk, IfSome, Option, length};
 ghost use Rattle.std.specs.List.{AllZip};
 ghost use Rattle.inspect_verdict.specs.Ends.{EndsWith};
 ghost use Rattle.inspect_verdict.specs.Parts as spec;
 
 use crate::part::Part;
+use crate::parting::end_apart;
 use std::alloc::{AllocError, Global};
 
 /// An output in its parts.
@@ -14,6 +15,9 @@ pub struct Split<'a> {
     pub lines: Vec<bool>,
     /// What stands behind the last part; none where nothing stands for a part.
     pub behind: Option<&'a [u8]>,
+    /// What is left of the text: behind the last part, or else from the first byte on in which it isn't the text of the
+    /// part for which nothing stands.
+    pub left: &'a [u8],
 }
 
 /// Takes a text apart: for each part in order its own text, or else a line that begins with its head.
@@ -29,6 +33,9 @@ pub fn take_apart<'a>(
     ensures split { IfOk result (λ split. (words : List (Option (List ℕ))) (rest : List ℕ)
         → AllZip spec.MayStand parts.now words → text.now ≡ spec.texts_of parts.now words ++ rest
         → spec.IsSplit words rest split) }
+    ensures left { IfOk result (λ split. EndsWith text.now split.left.now) }
+    ensures lacks { IfOk result (λ split. IfNone split.behind
+        (spec.LacksPart parts.now text.now (length split.lines.items) split.left.now)) }
 {
     let mut lines = Vec::new(alloc);
     let mut rest = text;
@@ -37,6 +44,7 @@ pub fn take_apart<'a>(
             return Ok(Split {
                 lines,
                 behind: None,
+                left: end_apart(rest, part.text.as_slice()),
             });
         };
         lines.push(line)?;
@@ -45,5 +53,6 @@ pub fn take_apart<'a>(
     Ok(Split {
         lines,
         behind: Some(rest),
+        left: rest,
     })
 }

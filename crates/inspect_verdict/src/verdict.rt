@@ -1,5 +1,5 @@
 // The verdict on an output.
-ghost use Rattle.std.specs.Prelude.{◌≡◌, ◌≤◌, ◌^◌, IfOk, length, take};
+ghost use Rattle.std.specs.Prelude.{◌≡◌, ◌≤◌, ◌<◌, ◌+◌, ◌^◌, IfOk, length, take};
 ghost use Rattle.run_ends.specs.Running.{CanRun};
 ghost use Rattle.inspect_verdict.specs.Verdict as spec;
 ghost use Rattle.inspect_verdict.specs.Verdict.{IsVerdict};
@@ -10,11 +10,11 @@ use crate::output_reading::{Told, read_output};
 use crate::part::behind_line;
 use crate::stops::{answers_with, stops_of};
 use crate::unfit::Unfit;
-use crate::writing::is_output;
+use crate::writing::other_line;
 use inspect_referee::{Counts, Reason};
 use run_ends::{Counts as Spent, tasks_of};
 use run_inputs::Inputs;
-use scan_story::PolicyName;
+use scan_story::{Entry, PolicyName};
 use std::alloc::Global;
 use table_core::Memory;
 
@@ -29,12 +29,20 @@ pub enum Verdict {
         apart: u64,
         counts: Counts,
     },
-    /// For the statement of this number neither its answer stands, nor the line of a query that was stopped.
+    /// For the statement of this number neither its answer stands, nor the line of a query that was stopped: from this
+    /// line of the output on, counted from 1, what stands there isn't its answer.
     NotAnswered {
         query: usize,
+        line: u64,
     },
-    /// Behind the statements there is no summary, though one was asked for.
-    NoSummary,
+    /// Behind the statements, at this line of the output, from 1, there is no summary, though one was asked for.
+    NoSummary {
+        line: u64,
+    },
+    /// Where the trace should begin, at this line of the output, from 1, the output ends, though there is a query.
+    NoTrace {
+        line: u64,
+    },
     /// This line of the output, counted from 1, is the first of the trace that is no entry's.
     NotStory {
         line: u64,
@@ -54,10 +62,28 @@ pub enum Verdict {
         why: Unfit,
     },
     /// The story is legal, but a query isn't over, so a chunk that it needs was not delivered exactly once, or something
-    /// is left open.
-    NotWhole,
-    /// A line of a query that was stopped, or the summary, isn't that of the story.
-    Differs,
+    /// is left open. The output ends before this line, counted from 1.
+    NotWhole {
+        line: u64,
+    },
+    /// The story is legal and whole, but at this line of the output, counted from 1, the line of a query that was
+    /// stopped, or the summary, isn't that of the story.
+    Differs {
+        line: u64,
+    },
+}
+
+// The verdict on a story that is legal, but isn't whole, and of which the first entry stands at this line.
+fn left_open(first: u64, story: &[Entry]) -> Verdict
+    requires { first + length story.now < 2 ^ 64 }
+    ensures { result ≡ spec.left_open first story.now }
+{
+    if story.is_empty() {
+        return Verdict::NoTrace { line: first };
+    }
+    Verdict::NotWhole {
+        line: first + story.len() as u64,
+    }
 }
 
 // The verdict on a text, in which the first line that is no entry's is told before all entries.
@@ -100,19 +126,20 @@ fn verdict_on(
                 why,
             });
         }
-        Judged::NotWhole => return Ok(Verdict::NotWhole),
+        Judged::NotWhole => return Ok(left_open(first, &story)),
     };
     let stops = stops_of(alloc, &story, inputs.options.parts, &tasks, &lines)?;
     let answers = answers_with(alloc, &stops, plain)?;
-    if !is_output(alloc, inputs, &answers, &story, output)? {
-        return Ok(Verdict::Differs);
+    let other = other_line(alloc, inputs, &answers, &story, output)?;
+    match other {
+        Some(line) => Ok(Verdict::Differs { line }),
+        None => Ok(Verdict::Legal {
+            entries: story.len(),
+            reads: Spent::of(&story).reads,
+            apart,
+            counts,
+        }),
     }
-    Ok(Verdict::Legal {
-        entries: story.len(),
-        reads: Spent::of(&story).reads,
-        apart,
-        counts,
-    })
 }
 
 // The verdict on a text, where a front of it has this one: an entry that may not come there is earlier.

@@ -1,12 +1,14 @@
 // The output of a run with this story, once more.
-ghost use Rattle.std.specs.Prelude.{◌≡◌, ◌≢◌, ◌≤◌, ◌<◌, ◌^◌, All, IfOk, Some, false, length, true};
+ghost use Rattle.std.specs.Prelude.{◌≡◌, ◌≤◌, ◌<◌, ◌^◌, All, IfNone, IfOk, IfSome, length};
 ghost use Rattle.std.specs.List.{AllByRecursion, AllZip};
 ghost use Rattle.table_core.specs.Value.{places_of};
 ghost use Rattle.query_gather.specs.Answer.{CanBeWritten};
 ghost use Rattle.run_output.specs.Answers.{NamesColumns};
 ghost use Rattle.run_stops.specs.Outcomes.{plans_of};
+ghost use Rattle.inspect_verdict.specs.Ends.{PartsAtLine};
 ghost use Rattle.inspect_verdict.specs.Reading.{text_with};
 
+use crate::parting::line_apart;
 use query_gather::Answer;
 use run_ends::totals_of;
 use run_inputs::Inputs;
@@ -15,22 +17,15 @@ use scan_story::Entry;
 use std::alloc::Global;
 use table_core::Memory;
 
-// Whether two texts are one.
-fn is_text(text: &[u8], output: &[u8]) -> bool
-    ensures yes { result ≡ true → output.now ≡ text.now }
-    ensures no { result ≡ false → output.now ≢ text.now }
-{
-    text == output
-}
-
-/// Whether a text is what a run prints with these answers and this story.
-pub(crate) fn is_output(
+/// The line of a text, from 1, from which on it isn't what a run prints with these answers and this story; none where it
+/// is that. The error is out of memory.
+pub(crate) fn other_line(
     alloc: Global,
     inputs: &Inputs,
     answers: &[Answer],
     story: &[Entry],
     output: &[u8],
-) -> Result<bool, Memory>
+) -> Result<Option<u64>, Memory>
     requires few { length inputs.now.outcomes.items ≤ 256 }
     requires rows { length inputs.now.loaded.table.rows < 2 ^ 32 }
     requires dicts { length inputs.now.loaded.dicts.items ≡ length inputs.now.loaded.table.columns }
@@ -39,8 +34,8 @@ pub(crate) fn is_output(
         (plans_of inputs.now.outcomes.items) }
     requires cells { AllZip (CanBeWritten inputs.now.loaded.dicts.items) (plans_of inputs.now.outcomes.items)
         answers.now }
-    ensures yes { IfOk result (λ b. b ≡ true → output.now ≡ text_with inputs.now answers.now story.now) }
-    ensures no { IfOk result (λ b. b ≡ false → output.now ≢ text_with inputs.now answers.now story.now) }
+    ensures same { IfOk result (λ r. IfNone r (output.now ≡ text_with inputs.now answers.now story.now)) }
+    ensures parts { IfOk result (λ r. IfSome r (PartsAtLine output.now (text_with inputs.now answers.now story.now))) }
 {
     let table = &inputs.loaded.table;
     let totals = totals_of(inputs.summary, story, table.len() as u32);
@@ -53,5 +48,5 @@ pub(crate) fn is_output(
         totals,
         Some(story),
     )?;
-    Ok(is_text(text.as_slice(), output))
+    Ok(line_apart(output, text.as_slice()))
 }

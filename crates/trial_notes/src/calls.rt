@@ -68,6 +68,15 @@ SELECT id FROM t WHERE dept = 'it''s;",
     ),
     ("bytes", b"query 1\n3\nregister 0 1\nplan 0 1 \xff\n"),
     ("answers", b"query 1\n3\n"),
+    // With the summary, and with that of another story.
+    (
+        "summed",
+        b"query 1\n3\nsummary: 1 queries, 1 answered, 1 deliveries, 3 rows\nregister 0 1\nplan 0 1 0\nfill 0 0 0\nfilled 0 0 0\ndeliver 0 1 0\nrelease 0 1 0\nend 0 1\n",
+    ),
+    (
+        "other-sum",
+        b"query 1\n3\nsummary: 1 queries, 1 answered, 2 deliveries, 3 rows\nregister 0 1\nplan 0 1 0\nfill 0 0 0\nfilled 0 0 0\ndeliver 0 1 0\nrelease 0 1 0\nend 0 1\n",
+    ),
     ("empty", b""),
 ];
 
@@ -128,7 +137,7 @@ const SAID: &[(&str, u8, &str, &str)] = &[
     (
         "judge|--threads|1|table|batch|short",
         1,
-        "not legal: a query isn't over, or something is left open\n",
+        "not legal: a query isn't over, or something is left open, at the end before line 6\n",
         "",
     ),
     (
@@ -140,25 +149,49 @@ const SAID: &[(&str, u8, &str, &str)] = &[
     (
         "judge|--threads|1|table|batch|wrong",
         1,
-        "not legal: query 1 has neither its answer nor the line of a stop\n",
+        "not legal: line 2 has neither the answer to query 1 nor the line of a stop\n",
         "",
     ),
     (
         "judge|--threads|1|other|batch|out",
         1,
-        "not legal: query 1 has neither its answer nor the line of a stop\n",
+        "not legal: line 2 has neither the answer to query 1 nor the line of a stop\n",
         "",
     ),
     (
         "judge|--threads|1|table|batch|empty",
         1,
-        "not legal: query 1 has neither its answer nor the line of a stop\n",
+        "not legal: line 1 has neither the answer to query 1 nor the line of a stop\n",
         "",
     ),
     (
         "judge|--threads|1|--summary|table|batch|answers",
         1,
-        "not legal: no summary stands behind the answers\n",
+        "not legal: no summary stands behind the answers, at line 3\n",
+        "",
+    ),
+    (
+        "judge|--threads|1|--summary|table|batch|out",
+        1,
+        "not legal: no summary stands behind the answers, at line 3\n",
+        "",
+    ),
+    (
+        "judge|--threads|1|--summary|table|batch|summed",
+        0,
+        "legal: 7 entries, 1 reads, at most 1\nregister 1, plan 1, evict 0, fill 1, filled 1, failed 0, deliver 1, release 1, stop 0, end 1\n",
+        "",
+    ),
+    (
+        "judge|--threads|1|--summary|table|batch|other-sum",
+        1,
+        "not legal: line 3 isn't what a run with this story prints\n",
+        "",
+    ),
+    (
+        "judge|--threads|1|table|batch|answers",
+        1,
+        "not legal: no trace stands behind the answers, at line 3\n",
         "",
     ),
     (

@@ -151,15 +151,36 @@ const VERDICTS: &[(&[u8], &[u8], Verdict)] = &[
             counts: COUNTS,
         },
     ),
-    (b"refused 1: read fault\n", STORY, Verdict::Differs),
-    (b"query 1\n3\n", STORY, Verdict::NotAnswered { query: 1 }),
-    (b"", STORY, Verdict::NotAnswered { query: 1 }),
+    (
+        b"refused 1: read fault\n",
+        STORY,
+        Verdict::Differs { line: 1 },
+    ),
+    (
+        b"query 1\n3\n",
+        STORY,
+        Verdict::NotAnswered { query: 1, line: 2 },
+    ),
+    // The line of an answer that is longer, and one that is cut.
+    (
+        b"query 1\n22\n",
+        STORY,
+        Verdict::NotAnswered { query: 1, line: 2 },
+    ),
+    (
+        b"query 1\n2",
+        b"",
+        Verdict::NotAnswered { query: 1, line: 2 },
+    ),
+    (b"", STORY, Verdict::NotAnswered { query: 1, line: 1 }),
+    (b"", b"", Verdict::NotAnswered { query: 1, line: 1 }),
+    (b"query 1\n2\n", b"", Verdict::NoTrace { line: 3 }),
     (
         b"query 1\n2\n",
         b"register 0 1\nplan 0 1 00\n",
         Verdict::NotStory { line: 4 },
     ),
-    (b"query 1\n2\n", NO_END, Verdict::NotWhole),
+    (b"query 1\n2\n", NO_END, Verdict::NotWhole { line: 9 }),
     (
         b"query 1\n2\n",
         NO_REGISTER,

@@ -1,5 +1,5 @@
 use Rattle.std.proofs.Common.{◌≡◌, ◌≢◌, ◌∙◌, ◌≤◌, ◌*◌, ◌+◌, ℕ, List, [], append-nil, length, drop, map, rules, sym, ap, subst, arith}
-use Rattle.std.specs.Prelude.{All, IfErr, IfOk, Result}
+use Rattle.std.specs.Prelude.{All, IfErr, IfNone, IfOk, IfSome, Option, Result}
 use Rattle.std.specs.List.{AllByRecursion, AllZip}
 use Rattle.std.proofs.lemmas.List.{length-map}
 use Rattle.std.proofs.lemmas.List.Elements.{All-from_recursion}
@@ -12,7 +12,7 @@ use Rattle.query_gather.specs.Answer.{CanBeWritten}
 use Rattle.query_gather.specs.declared.answer.Answer.{Answer}
 use Rattle.batch_plan.specs.declared.task.Task.{Task}
 use Rattle.batch_ends.specs.Tasks.{IsPlanOfTable}
-use Rattle.inspect_verdict.specs.Ends.{BeginsAtLine}
+use Rattle.inspect_verdict.specs.Ends.{BeginsAtLine, PartsAtLine}
 use Rattle.run_stops.specs.Outcomes.{plans_of}
 use Rattle.run_stops.specs.declared.outcome.Outcome.{Outcome}
 use Rattle.run_ends.specs.Running.{shape_in}
@@ -23,14 +23,15 @@ use Rattle.inspect_verdict.specs.Plain.{ArePlain, IsPlain}
 use Rattle.inspect_verdict.specs.Reading.{IsTrace, text_with}
 use Rattle.inspect_verdict.specs.Stops.{stop_of_task}
 use Rattle.inspect_verdict.specs.Told.{run_setting}
-use Rattle.inspect_verdict.specs.Verdict.{IsOfReading}
+use Rattle.inspect_verdict.specs.Verdict.{IsOfReading, IsVerdict, left_open}
 use Rattle.inspect_verdict.specs.declared.judging.Judged.{Judged}
 use Rattle.inspect_verdict.specs.declared.judging.Judged.TheVariants as judged
 use Rattle.inspect_verdict.specs.declared.output_reading.Told.{Told}
 use Rattle.inspect_verdict.specs.declared.verdict.Verdict.{Verdict}
 use Rattle.inspect_verdict.proofs.Given.{names_are, plans_are, tasks_count, tasks_some, written}
-use Rattle.inspect_verdict.proofs.Placed.{entry_at, line_low}
-use Rattle.inspect_verdict.proofs.Sentence.{answers_now, differs_none, given_is, judged_none, none_told, refused_none, run_told}
+use Rattle.inspect_verdict.proofs.Partings.{parts_other}
+use Rattle.inspect_verdict.proofs.Placed.{end_low, entry_at, line_low}
+use Rattle.inspect_verdict.proofs.Sentence.{answers_lost, answers_now, differs_none, given_is, judged_none, none_told, open_is, refused_none, run_told}
 use Rattle.inspect_verdict.proofs.Stopping.{given_written}
 use Rattle.inspect_verdict.proofs.verdict.verdict_on.Goals as goal
 
@@ -178,6 +179,12 @@ returns-in-Unfit c =
       };
     }
 
+pub left_open-requires : goal.left_open-requires
+left_open-requires c =
+    let Begins = λ (x : Result Told Verdict). IfOk x (λ (k : Told). BeginsAtLine c.args.output.now (story_text k.story.items) k.first) in
+    let low = end_low c.args.output.now c.in-Ok.told.story.items c.in-Ok.told.first (subst Begins c.in-Ok.is c.in_ok-told.ensures.end) in
+    omega (arith, low, c.requires.short, ap length c.deref-in-NotWhole.ensures.value)
+
 pub returns-in-NotWhole : goal.returns-in-NotWhole
 returns-in-NotWhole c =
     let i = c.args.inputs.now in
@@ -198,16 +205,15 @@ returns-in-NotWhole c =
     let Left = λ (k : Judged). IsJudged (run_setting i c.args.policy) (shape_in i) c.args.scratch t.story.items k in
     let left = subst Left c.in-NotWhole.is is in
     let Traces = λ (x : Result Told Verdict). IfOk x (λ (k : Told). IsTrace i c.args.output.now (story_text k.story.items)) in
-    record {
-      verdict = record {
-        none = judged_none i can c.args.policy c.args.scratch c.args.output.now c.requires.short d3 are3 r reads_all t c.in-Ok.is j is
-            (λ n a e. let k : judged.NotWhole ≡ judged.Legal n a = sym c.in-NotWhole.is ∙ e in absurd cc);
-        story = t.story.items;
-        trace = subst Traces c.in-Ok.is c.in_ok-told.ensures.trace;
-        legal = left.0;
-        unfinished = left.1;
-      };
-    }
+    let Begins = λ (x : Result Told Verdict). IfOk x (λ (k : Told). BeginsAtLine c.args.output.now (story_text k.story.items) k.first) in
+    let Fit = λ (x : Result Told Verdict). IfOk x (λ (k : Told). AllByRecursion Fits k.story.items) in
+    let none = judged_none i can c.args.policy c.args.scratch c.args.output.now c.requires.short d3 are3 r reads_all t c.in-Ok.is j is
+    (λ n a e. let k : judged.NotWhole ≡ judged.Legal n a = sym c.in-NotWhole.is ∙ e in absurd cc) in
+    let opens = open_is i c.args.policy c.args.scratch c.args.output.now t.story.items t.first none (subst Traces c.in-Ok.is c.in_ok-told.ensures.trace) (subst Begins c.in-Ok.is c.in_ok-told.ensures.end)
+    (subst Fit c.in-Ok.is c.in_ok-told.ensures.fits) left.0 left.1 in
+    let Is = λ (v : Verdict). IsVerdict i c.args.policy c.args.scratch c.args.output.now v in
+    let now : c.left_open.result ≡ left_open t.first t.story.items = c.left_open.ensures ∙ ap (left_open t.first) c.deref-in-NotWhole.ensures.value in
+    record { verdict = subst Is (sym now) opens }
 
 pub stops_of-requires-clause-queries : goal.stops_of-requires-clause-queries
 stops_of-requires-clause-queries c =
@@ -244,11 +250,11 @@ answers_with-requires c =
     let stops : c.deref-9.result.now ≡ map f c.deref-7.result.now = c.deref-9.ensures.value ∙ c.in_ok-stops.ensures.stops in
     ap length stops ∙ (length-map c.deref-7.result.now f ∙ (ap length tasks7 ∙ (tasks_count 1 os ∙ sym (zip-length (IsPlain rows) (plans_of os) c.in_ok-plain.plain.items are))))
 
-pub is_output-requires-clause-columns : goal.is_output-requires-clause-columns
-is_output-requires-clause-columns c = names_are c.args.inputs.now c.requires.can
+pub other_line-requires-clause-columns : goal.other_line-requires-clause-columns
+other_line-requires-clause-columns c = names_are c.args.inputs.now c.requires.can
 
-pub is_output-requires-clause-cells : goal.is_output-requires-clause-cells
-is_output-requires-clause-cells c =
+pub other_line-requires-clause-cells : goal.other_line-requires-clause-cells
+other_line-requires-clause-cells c =
     let i = c.args.inputs.now in
     let can = c.requires.can in
     let rows = i.loaded.table.rows in
@@ -265,8 +271,8 @@ is_output-requires-clause-cells c =
     let Written = λ (gs : List Answer). AllZip (CanBeWritten i.loaded.dicts.items) (plans_of os) gs in
     subst Written (sym same) (given_written rows (past t.story.items) i.options.parts i.loaded.dicts.items t.lines.items 1 os d3 (written i can (plans_of os) d3 are3))
 
-pub returns-then-not-branch : goal.returns-then-not-branch
-returns-then-not-branch c =
+pub returns-in-Some : goal.returns-in-Some
+returns-in-Some c =
     let i = c.args.inputs.now in
     let can = c.requires.can in
     let rows = i.loaded.table.rows in
@@ -285,8 +291,28 @@ returns-then-not-branch c =
     let now = answers_now i can c.args.policy c.args.scratch c.args.output.now c.requires.short d3 are3 r reads_all t c.in-Ok.is in
     let text : text_with i now t.story.items ≡ text_with i c.deref-10.result.now c.deref-11.result.now =
     ap (λ (gs : List Answer). text_with i gs t.story.items) (sym same) ∙ ap (λ (es : List Entry). text_with i c.deref-10.result.now es) (sym c.deref-11.ensures.value) in
-    let other : c.args.output.now ≢ text_with i now t.story.items = λ e. c.in_ok-is_output.ensures.no (search rules) (e ∙ text) in
-    record { verdict = differs_none i can c.args.policy c.args.scratch c.args.output.now c.requires.short d3 are3 r reads_all t c.in-Ok.is other }
+    let Parts = λ (o : Option ℕ). IfSome o (PartsAtLine c.args.output.now (text_with i c.deref-10.result.now c.deref-11.result.now)) in
+    let parts = subst Parts c.in-Some.is c.in_ok-other.ensures.parts in
+    let At = λ (o : List ℕ). PartsAtLine c.args.output.now o c.in-Some.line in
+    let here = subst At (sym text) parts in
+    let Traces = λ (x : Result Told Verdict). IfOk x (λ (k : Told). IsTrace i c.args.output.now (story_text k.story.items)) in
+    let j = c.in_ok-counts.field-0 in
+    let Judges = λ (es : List Entry). IsJudged (run_setting i c.args.policy) (shape_in i) c.args.scratch es j in
+    let is = subst Judges c.deref-5.ensures.value c.in_ok-counts.ensures in
+    let Legal = λ (k : Judged). IsJudged (run_setting i c.args.policy) (shape_in i) c.args.scratch t.story.items k in
+    let legal = subst Legal c.in-Legal.is is in
+    record {
+      verdict = record {
+        none = differs_none i can c.args.policy c.args.scratch c.args.output.now c.requires.short d3 are3 r reads_all t c.in-Ok.is (parts_other c.args.output.now (text_with i now t.story.items) here.end here.parts);
+        story = t.story.items;
+        trace = subst Traces c.in-Ok.is c.in_ok-told.ensures.trace;
+        legal = legal.0;
+        whole = legal.1;
+        answers = now;
+        lost = answers_lost i can c.args.policy c.args.scratch c.args.output.now c.requires.short d3 are3 r reads_all t c.in-Ok.is legal.0;
+        parts = here;
+      };
+    }
 
 pub returns : goal.returns
 returns c =
@@ -311,11 +337,12 @@ returns c =
     let now = answers_now i can c.args.policy c.args.scratch c.args.output.now c.requires.short d3 are3 r reads_all t c.in-Ok.is in
     let text : text_with i now t.story.items ≡ text_with i c.deref-10.result.now c.deref-11.result.now =
     ap (λ (gs : List Answer). text_with i gs t.story.items) (sym same) ∙ ap (λ (es : List Entry). text_with i c.deref-10.result.now es) (sym c.deref-11.ensures.value) in
-    let whole : c.args.output.now ≡ text_with i now t.story.items = c.in_ok-is_output.ensures.yes (search rules) ∙ sym text in
+    let Same = λ (o : Option ℕ). IfNone o (c.args.output.now ≡ text_with i c.deref-10.result.now c.deref-11.result.now) in
+    let whole : c.args.output.now ≡ text_with i now t.story.items = subst Same c.in-None.is c.in_ok-other.ensures.same ∙ sym text in
     let Fit = λ (x : Result Told Verdict). IfOk x (λ (k : Told). AllByRecursion Fits k.story.items) in
     let Legal = λ (k : Judged). IsJudged (run_setting i c.args.policy) (shape_in i) c.args.scratch t.story.items k in
     let legal = subst Legal c.in-Legal.is is in
-    let reads_same = c.of.ensures.counts.reads ∙ ap (λ (es : List Entry). reads (past es)) c.deref-12.ensures.value in
+    let reads_same = c.of.ensures.counts.reads ∙ ap (λ (es : List Entry). reads (past es)) c.deref-in-None.ensures.value in
     record {
       verdict = record {
         story = t.story.items;
