@@ -274,8 +274,10 @@ refused 11: syntax
 column 1 \"id\": INT, 0 NULL, least 1, greatest 3
 column 2 \"dept\": TEXT, 0 NULL, 2 distinct, least 'a', greatest 'b'
 column 3 \"pay\": INT, 1 NULL, least 10, greatest 20
-refused 1: syntax
-  at 1:1 \u{feff}
+1: SELECT \"id\" FROM \"t\" LIMIT 1
+  reads \"id\"
+  chunks 1 of 1
+  nothing is left out: there is no WHERE
 refused 2: unknown column 'idd'
   at 1:34 idd
 refused 3: syntax
