@@ -32,13 +32,13 @@ spot_text batch at token =
 -- the line that says what is known of the token from other SQL, if something is
 abbrev pub foreign_line : Option Foreign → List ℕ
 foreign_line None = []
-foreign_line (Some f) = codes "  " ++ (name_of f ++ (codes " is not in this language: "
-    ++ (instead_of f ++ codes " (docs/SQL.md)\n")))
+foreign_line (Some f) = (((codes "  " ++ name_of f) ++ codes " is not in this language: ") ++ instead_of f)
+    ++ codes " (docs/SQL.md)\n"
 
 -- the line that says what could stand there; none where the refusal isn't about the grammar
 abbrev pub stands_line : List Kind → List ℕ
 stands_line [] = []
-stands_line (k ∷ ks) = codes "  could stand there: " ++ (stands_text (k ∷ ks) ++ codes "\n")
+stands_line (k ∷ ks) = (codes "  could stand there: " ++ stands_text (k ∷ ks)) ++ codes "\n"
 
 -- the lines behind a place
 abbrev pub hint_lines : Place → List ℕ

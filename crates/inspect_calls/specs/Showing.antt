@@ -33,7 +33,7 @@ view_of w count = shown_by w.from w.to count
 
 abbrev pub behind_text : List ℕ → ℕ → ℕ → List ℕ
 behind_text words n count =
-    words ++ (decimal n ++ (codes " lies behind the last entry, " ++ (decimal count ++ codes "\n")))
+    (words ++ (decimal n ++ codes " lies behind the last entry, ")) ++ (decimal count ++ codes "\n")
 
 abbrev pub behind_line : Behind → ℕ → List ℕ
 behind_line (From n) count = behind_text (codes "error: --from ") n count

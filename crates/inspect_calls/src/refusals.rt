@@ -1,5 +1,5 @@
 // Where a statement is refused.
-ghost use Rattle.std.specs.Prelude.{◌≡◌, ◌≤◌, ◌+◌, ◌++◌, IfOk, OnOk, length, min};
+ghost use Rattle.std.specs.Prelude.{◌≡◌, ◌≤◌, ◌+◌, IfOk, length, min};
 ghost use Rattle.run_inputs.specs.Statements.{IsSpanIn, part};
 ghost use Rattle.inspect_calls.specs.Placing.{IsPlaceTold, foreign_line, hint_lines, mark_len, spot_lines, spot_text, stands_line};
 
@@ -49,34 +49,36 @@ fn spot_told(
     Ok(told)
 }
 
-// Puts the line that says what could stand there at the end; nothing where the refusal isn't about the grammar.
-fn tell_stands(out: &mut Bytes, stands: &[Kind]) -> Result<(), Memory>
-    ensures { OnOk result (out.new ≡ out.old ++ stands_line stands.now) }
+// The line that says what could stand there; none where the refusal isn't about the grammar.
+fn stands_told(alloc: Global, stands: &[Kind]) -> Result<Bytes, Memory>
+    ensures { IfOk result (λ line. line ≡ stands_line stands.now) }
 {
+    let mut line = Bytes::new(Vec::new(alloc));
     match stands {
-        [] => Ok(()),
-        kinds => {
-            out.append(b"  could stand there: ")?;
-            write_stands(out, kinds)?;
-            out.append(b"\n")?;
-            Ok(())
+        [] => Ok(line),
+        [_, ..] => {
+            line.append(b"  could stand there: ")?;
+            write_stands(&mut line, stands)?;
+            line.append(b"\n")?;
+            Ok(line)
         }
     }
 }
 
-// Puts the line that says what is known of the token from other SQL at the end, if something is.
-fn tell_foreign(out: &mut Bytes, foreign: Option<Foreign>) -> Result<(), Memory>
-    ensures { OnOk result (out.new ≡ out.old ++ foreign_line foreign) }
+// The line that says what is known of the token from other SQL, if something is.
+fn foreign_told(alloc: Global, foreign: Option<Foreign>) -> Result<Bytes, Memory>
+    ensures { IfOk result (λ line. line ≡ foreign_line foreign) }
 {
+    let mut line = Bytes::new(Vec::new(alloc));
     match foreign {
-        None => Ok(()),
+        None => Ok(line),
         Some(foreign) => {
-            out.append(b"  ")?;
-            out.append(foreign.name())?;
-            out.append(b" is not in this language: ")?;
-            out.append(foreign.instead())?;
-            out.append(b" (docs/SQL.md)\n")?;
-            Ok(())
+            line.append(b"  ")?;
+            line.append(foreign.name())?;
+            line.append(b" is not in this language: ")?;
+            line.append(foreign.instead())?;
+            line.append(b" (docs/SQL.md)\n")?;
+            Ok(line)
         }
     }
 }
@@ -85,9 +87,9 @@ fn tell_foreign(out: &mut Bytes, foreign: Option<Foreign>) -> Result<(), Memory>
 fn hints_told(alloc: Global, place: &Place) -> Result<Vec<u8>, Memory>
     ensures { IfOk result (λ lines. lines.items ≡ hint_lines place.now) }
 {
-    let mut lines = Bytes::new(Vec::new(alloc));
-    tell_stands(&mut lines, &place.stands)?;
-    tell_foreign(&mut lines, place.foreign)?;
+    let mut lines = stands_told(alloc, &place.stands)?;
+    let known = foreign_told(alloc, place.foreign)?;
+    lines.append(known.as_slice())?;
     Ok(lines.into_vec())
 }
 

@@ -1,8 +1,8 @@
 // Which entries of a story are shown.
 ghost use Rattle.std.specs.Prelude.{◌≡◌, IfOk};
-ghost use Rattle.inspect_calls.specs.Showing.{IsPastEnd, behind_line, behind_of, lies_behind, view_of};
+ghost use Rattle.inspect_calls.specs.Showing.{IsPastEnd, behind_line, behind_of, behind_text, lies_behind, view_of};
 
-use crate::lines::{numbered, push_number};
+use crate::lines::numbered;
 use crate::reply::Reply;
 use inspect_picture::View;
 use inspect_words::Window;
@@ -58,23 +58,25 @@ pub(crate) fn view_of(window: Window, count: u32) -> View
     }
 }
 
+// The line that says so of the number behind these words.
+fn behind_text(alloc: Global, words: &[u8], number: u32, count: u32) -> Result<Vec<u8>, AllocError>
+    ensures { IfOk result (λ text. text.items ≡ behind_text words.now number count) }
+{
+    let lies = b" lies behind the last entry, ";
+    let mut text = numbered(alloc, words, number as u64, lies)?;
+    let last = numbered(alloc, b"", count as u64, b"\n")?;
+    text.extend_from_slice(&last)?;
+    Ok(text)
+}
+
 // The line that says so.
 fn behind_line(alloc: Global, behind: Behind, count: u32) -> Result<Vec<u8>, AllocError>
     ensures { IfOk result (λ text. text.items ≡ behind_line behind count) }
 {
-    let (words, number) = match behind {
-        Behind::From(number) => (b"error: --from ".as_slice(), number),
-        Behind::To(number) => (b"error: --to ".as_slice(), number),
-    };
-    let mut text = numbered(
-        alloc,
-        words,
-        number as u64,
-        b" lies behind the last entry, ",
-    )?;
-    push_number(&mut text, b"", count as u64)?;
-    text.extend_from_slice(b"\n")?;
-    Ok(text)
+    match behind {
+        Behind::From(number) => behind_text(alloc, b"error: --from ", number, count),
+        Behind::To(number) => behind_text(alloc, b"error: --to ", number, count),
+    }
 }
 
 /// What is said of a word that names an entry behind the last of so many.
