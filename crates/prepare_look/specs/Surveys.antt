@@ -1,8 +1,11 @@
 -- What is seen in the records of an export.
-use Rattle.std.specs.Prelude.{◌≡◌, ◌+◌, ◌*◌, ◌<◌, ◌≤◌, ℕ, List, length, slice_index_or}
+use Rattle.std.specs.Prelude.{◌≡◌, ◌+◌, ◌*◌, ◌<◌, ◌≤◌, ℕ, nat_lt, List, length, slice_index_or, if◌then◌else◌}
+use Rattle.prepare_look.specs.Kinds.{index_of}
 use Rattle.prepare_look.specs.Rows.{Row}
 use Rattle.prepare_look.specs.Seeing.{is_folded, is_kind, is_long, is_short, none_seen, noted, seen_in, then_seen}
+use Rattle.prepare_look.specs.declared.kind.Kind.{Kind}
 use Rattle.prepare_look.specs.declared.kind.TheConstants.{KINDS}
+use Rattle.prepare_look.specs.declared.seen.Seen.{Seen}
 use Rattle.prepare_look.specs.declared.survey.Survey.{Survey}
 
 -- WHAT IS SEEN in records of which each should have so many fields
@@ -14,6 +17,11 @@ pub record IsSurvey (wide : ℕ) (rows : List Row) (s : Survey) : Type 0 where
   pub folded : s.folded ≡ seen_in is_folded rows
   pub kinds : (column kind : ℕ) → column < wide → kind < KINDS
       → slice_index_or s.cells.items (column * KINDS + kind) none_seen ≡ seen_in (is_kind column kind) rows
+
+-- how many fields of a column, from 0, are of a kind; none where the column isn't there
+abbrev pub seen_of : Survey → ℕ → Kind → Seen
+seen_of s column kind = if nat_lt column s.width
+    then slice_index_or s.cells.items (column * KINDS + index_of kind) none_seen else none_seen
 
 -- no count is as high as this
 pub record IsLow (n : ℕ) (s : Survey) : Type 0 where

@@ -10,7 +10,7 @@ use crate::seen::Seen;
 use csv::ByteRecord;
 
 /// The field at a place, counted from 0; no bytes where the record is shorter.
-pub(crate) fn field_or_none(row: &ByteRecord, place: usize) -> &[u8]
+pub fn field_or_none(row: &ByteRecord, place: usize) -> &[u8]
     ensures { result.now ≡ slice_index_or (fields_of row.now) place [] }
 {
     match row.get(place) {

@@ -47,7 +47,7 @@ fn has_mark(text: &[u8]) -> bool
 }
 
 /// The text without one leading byte order mark.
-pub(crate) fn without_mark(text: &[u8]) -> &[u8]
+pub fn without_mark(text: &[u8]) -> &[u8]
     ensures { result.now ≡ strip_bom text.now }
 {
     if text.len() < 3 {

@@ -15,7 +15,7 @@ use std::marker::Model;
 /// A cursor over the records of a text, seen by contracts as the list of those that are left, each with the line on
 /// which it begins.
 #[derive(Drop)]
-pub(crate) struct Rows<'a> {
+pub struct Rows<'a> {
     reader: Reader<&'a [u8]>,
     marks: Marks,
     text: &'a [u8],
@@ -33,7 +33,7 @@ impl<'a> Model for Rows<'a> {
 
 impl<'a> Rows<'a> {
     /// All records of a text; one leading byte order mark is no part of it.
-    pub(crate) fn new(alloc: Global, marks: Marks, text: &'a [u8]) -> Self
+    pub fn new(alloc: Global, marks: Marks, text: &'a [u8]) -> Self
         ensures all { result ≡ rows_of marks text.now }
     {
         Rows {
@@ -46,8 +46,8 @@ impl<'a> Rows<'a> {
     }
 
     /// Puts the next record into `row`, whose memory is used again, and tells its line, or that there is none. After
-    /// a failure none is left.
-    pub(crate) fn next(&mut self, row: &mut ByteRecord) -> Result<Option<usize>, Failure>
+    /// a failure none is left. The failure is out of memory.
+    pub fn next(&mut self, row: &mut ByteRecord) -> Result<Option<usize>, Failure>
         ensures found { (line : ℕ) → result ≡ Ok (Some line)
             → self.old ≡ record { line = line; fields = fields_of row.new } ∷ self.new }
         ensures ended { result ≡ Ok None → self.old ≡ [] }

@@ -2,10 +2,10 @@
 ghost use Rattle.std.specs.Prelude.{◌≡◌, ◌^◌, [], IfOk, OnOk, drop};
 ghost use Rattle.csv.specs.Records.{fields_of};
 ghost use Rattle.prepare_look.specs.Rows.{rows_of};
-ghost use Rattle.prepare_look.specs.Surveys.{IsAdded, IsLow, IsSurvey};
+ghost use Rattle.prepare_look.specs.Surveys.{IsAdded, IsLow, IsSurvey, seen_of};
 
 use crate::failure::Failure;
-use crate::kind::KINDS;
+use crate::kind::{KINDS, Kind};
 use crate::noting::{is_folded, note_kinds};
 use crate::place::Marks;
 use crate::rows::Rows;
@@ -51,10 +51,20 @@ impl Survey {
         self.folded = self.folded.noted(is_folded(row), line);
         note_kinds(self.cells.as_mut_slice(), width, row, line);
     }
+
+    /// How many fields of a column, counted from 0, are of a kind; none where it isn't there.
+    pub fn seen(&self, column: usize, kind: Kind) -> Seen
+        ensures { result ≡ seen_of self.now column kind }
+    {
+        if column >= self.width {
+            return Seen::none();
+        }
+        self.cells[column * KINDS + kind.index()]
+    }
 }
 
-// Leaves out so many records.
-fn skip_rows(rows: &mut Rows<'_>, row: &mut ByteRecord, count: usize) -> Result<(), Failure>
+/// Leaves out so many records, or all where there are fewer. `row` is where they are read.
+pub fn skip_rows(rows: &mut Rows<'_>, row: &mut ByteRecord, count: usize) -> Result<(), Failure>
     ensures { OnOk result (rows.new ≡ drop count rows.old) }
 {
     for _done in 0..count {

@@ -1,5 +1,5 @@
 //! Trials of `prepare`: exports whose prepared text is written down, refusals with their records, and an input or an output
-//! that fails.
+//! that fails. And of the page that tells of an export.
 //!
 //! All of it is tests.
 #![tactic(auto)]
@@ -8,3 +8,5 @@
 mod exports;
 #[cfg(test)]
 mod faults;
+#[cfg(test)]
+mod looks;

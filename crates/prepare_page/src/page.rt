@@ -1,0 +1,190 @@
+// The page that tells of an export.
+use crate::advice::{Reading, reading_of};
+use crate::columns_told::ColumnTold;
+use crate::encoding::Encoding;
+use crate::look::Look;
+use crate::marks::{columns_of, marks_in};
+use crate::needs::Needs;
+use crate::quoting::Quoted;
+use prepare_look::{Failure, Seen};
+use std::alloc::Global;
+use std::fmt;
+
+/// What is told of an export: a fact a line, and the command that makes of it what `coop_cli` takes.
+#[derive(Drop)]
+pub struct Page<'a> {
+    pub(crate) file: &'a str,
+    pub(crate) look: &'a Look,
+    pub(crate) reading: Reading,
+    // The columns, from 0, in which the rules on numbers have to act.
+    pub(crate) columns: Vec<usize>,
+    // The marks for missing values that stand in them.
+    pub(crate) marks: Vec<bool>,
+}
+
+/// The page of an export, by its text and all that is seen of it. More than 2^62 records are a failure, `TooLong`.
+pub fn page_of<'a>(
+    alloc: Global,
+    file: &'a str,
+    text: &[u8],
+    look: &'a Look,
+) -> Result<Page<'a>, Failure> {
+    let reading = reading_of(&look.survey);
+    let columns = columns_of(alloc, &look.survey, reading)?;
+    let skip = look.below;
+    let marks = marks_in(alloc, look.guess.marks(), text, skip, columns.as_slice())?;
+    Ok(Page {
+        file,
+        look,
+        reading,
+        columns,
+        marks,
+    })
+}
+
+fn encoding_name(encoding: Encoding) -> &'static str {
+    match encoding {
+        Encoding::Utf16 => "UTF-16",
+        Encoding::Utf8 => "UTF-8",
+        Encoding::Windows1252 => "Windows-1252",
+        Encoding::Latin1 => "Latin-1",
+    }
+}
+
+fn delimiter_name(delimiter: u8) -> &'static str {
+    match delimiter {
+        b';' => "';'",
+        b'\t' => "tab",
+        b'|' => "'|'",
+        _ => "','",
+    }
+}
+
+/// How a number of records begins a sentence.
+pub(crate) fn records(count: u64) -> &'static str {
+    if count == 1 {
+        return "record";
+    }
+    "records"
+}
+
+impl Page<'_> {
+    // The lines of the text.
+    fn write_lines<W: fmt::Write>(&self, f: &mut fmt::Formatter<W>) -> fmt::Result {
+        let look = self.look;
+        let (encoding, ends) = (encoding_name(look.encoding), look.lines.ends);
+        let (feeds, returns, pairs) = (look.lines.feeds, look.lines.returns, look.lines.pairs);
+        let file = Quoted(self.file);
+        writeln!(f, "file {file}: {encoding}, {ends} line ends")?;
+        if pairs > 0 {
+            writeln!(
+                f,
+                "line ends: {feeds} line feeds, {returns} carriage returns, {pairs} of them together"
+            )?;
+        } else if returns > 0 {
+            writeln!(
+                f,
+                "line ends: {feeds} line feeds, {returns} carriage returns"
+            )?;
+        }
+        Ok(())
+    }
+
+    // How the records are parted.
+    fn write_records<W: fmt::Write>(&self, f: &mut fmt::Formatter<W>) -> fmt::Result {
+        let guess = self.look.guess;
+        let (name, usual) = (delimiter_name(guess.delimiter), guess.usual);
+        let (count, records, width) = (usual.count, usual.records, usual.width);
+        if count == 0 {
+            writeln!(f, "delimiter: none; {records} records of one field")?;
+        } else {
+            writeln!(
+                f,
+                "delimiter {name}: {count} of {records} records have {width} fields"
+            )?;
+        }
+        if let Some(line) = self.look.open {
+            writeln!(
+                f,
+                "quotes: those that begin in line {line} are never closed, so all behind them is one field"
+            )?;
+        }
+        Ok(())
+    }
+
+    // What stands above the records of the table.
+    fn write_names<W: fmt::Write>(&self, f: &mut fmt::Formatter<W>) -> fmt::Result {
+        let (titles, line) = (self.look.titles as u64, self.look.first.line);
+        if titles > 0 {
+            let word = records(titles);
+            writeln!(
+                f,
+                "titles: {titles} {word} above the table, which begins in line {line}"
+            )?;
+        }
+        if line == 0 {
+            return f.write_str("names: none, since there is no record\n");
+        }
+        if self.look.has_names {
+            writeln!(f, "names: in line {line}")?;
+        } else {
+            writeln!(
+                f,
+                "names: none; a column of numbers or dates has one in line {line} too"
+            )?;
+        }
+        self.write_seen(f, self.look.survey.short, "fewer fields than the first")?;
+        self.write_seen(f, self.look.survey.long, "more fields than the first")?;
+        self.write_seen(f, self.look.survey.folded, "a line end in a field")
+    }
+
+    fn write_seen<W: fmt::Write>(
+        &self,
+        f: &mut fmt::Formatter<W>,
+        seen: Seen,
+        what: &str,
+    ) -> fmt::Result {
+        let (count, line, word) = (seen.count, seen.line, records(seen.count));
+        if count == 0 {
+            return Ok(());
+        }
+        writeln!(f, "with {what}: {count} {word}, the first in line {line}")
+    }
+
+    fn write_columns<W: fmt::Write>(&self, f: &mut fmt::Formatter<W>) -> fmt::Result {
+        for column in 0..self.look.survey.width {
+            let look = self.look;
+            write!(f, "{}", ColumnTold { look, column })?;
+        }
+        let columns = self.look.first.fields.len();
+        if columns > self.look.survey.width {
+            writeln!(f, "columns: {columns}; none of them is looked at")?;
+        }
+        Ok(())
+    }
+}
+
+impl fmt::Display for Page<'_> {
+    fn fmt<W: fmt::Write>(&self, f: &mut fmt::Formatter<W>) -> fmt::Result {
+        self.write_lines(f)?;
+        self.write_records(f)?;
+        self.write_names(f)?;
+        self.write_columns(f)?;
+        write!(f, "{}", Needs { page: self })
+    }
+}
+
+/// What is told of a file in UTF-16, which is read as bytes by nothing here.
+#[derive(Clone, Copy)]
+pub struct Wide<'a> {
+    pub file: &'a str,
+}
+
+impl fmt::Display for Wide<'_> {
+    fn fmt<W: fmt::Write>(&self, f: &mut fmt::Formatter<W>) -> fmt::Result {
+        let file = Quoted(self.file);
+        writeln!(f, "file {file}: UTF-16")?;
+        f.write_str("needed: UTF-8, and then another look\n\n")?;
+        writeln!(f, "iconv -f UTF-16 -t UTF-8 {file} > utf8.csv")
+    }
+}
