@@ -12,8 +12,8 @@ use inspect_words::Window;
 use scan_story::Entry;
 use std::alloc::Global;
 
-/// What is said to `draw`: the picture of the trace at the end of the file of this name, or of some of its entries; or why
-/// there is none.
+/// What is said to `draw`: the picture of the trace at the end of the file of this name, or of some of its entries; or
+/// why there is none.
 pub(crate) fn drawing<F: Shelf>(alloc: Global, name: &str, window: Window, shelf: &mut F) -> Reply
     ensures { IsDrawing window (F.held shelf.old) name.now (F.faults shelf.old) (F.faults shelf.new) result }
 {

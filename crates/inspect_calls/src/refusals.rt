@@ -1,7 +1,8 @@
 // Where a statement is refused.
 ghost use Rattle.std.specs.Prelude.{◌≡◌, ◌≤◌, ◌+◌, IfOk, length, min};
 ghost use Rattle.run_inputs.specs.Statements.{IsSpanIn, part};
-ghost use Rattle.inspect_calls.specs.Placing.{IsPlaceTold, foreign_line, hint_lines, mark_len, spot_lines, spot_text, stands_line};
+ghost use Rattle.inspect_calls.specs.Placing.{IsPlaceTold, foreign_line, hint_lines, mark_len};
+ghost use Rattle.inspect_calls.specs.Placing.{spot_lines, spot_text, stands_line};
 
 use crate::lines::numbered;
 use inspect_places::{
