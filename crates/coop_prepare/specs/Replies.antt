@@ -1,5 +1,5 @@
 -- What is said.
-use Rattle.std.specs.Prelude.{◌≡◌, ◌⊎◌, ℕ, true, List, [], codes}
+use Rattle.std.specs.Prelude.{◌≡◌, ◌⊎◌, ℕ, true, false, List, [], codes}
 use Rattle.std.specs.declared.io.ErrorKind.{ErrorKind}
 use Rattle.std.specs.declared.io.ErrorKind.TheVariants as kind
 use Rattle.prepare_words.specs.Refusals.{is_fault, status_of}
@@ -15,6 +15,11 @@ pub record IsText (wanted : ℕ) (reply : Reply) : Type 0 where
 pub record IsFault (wanted : ℕ) (line : List ℕ) (reply : Reply) : Type 0 where
   pub says : reply.text.items ≡ line
   pub text : IsText wanted reply
+
+-- some text on standard output, and status 0
+pub record IsShown (reply : Reply) : Type 0 where
+  pub ends : reply.status ≡ 0
+  pub out : reply.is_fault ≡ false
 
 -- out of memory: 7, without a text
 abbrev pub IsMemory : Reply → Type 0

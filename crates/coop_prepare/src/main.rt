@@ -1,12 +1,15 @@
-//! `coop_prepare`: makes of an export the CSV that coop_cli takes. docs/EXPORT.md is its manual. `main` hands the words
-//! to prepare_words, and the export and standard output to `prepare` of prepare_rules; the theorems are theirs.
+//! `coop_prepare`: tells what an export is, and makes of it the CSV that coop_cli takes. docs/EXPORT.md is its manual.
+//! `main` hands the words to prepare_words, the export and standard output to `prepare` of prepare_rules, and a text to
+//! `look_at` of prepare_page; the theorems are theirs.
 #![tactic(auto)]
 
 mod ending;
+mod looking;
 mod reply;
 mod words;
 mod writing;
 
+use crate::looking::looked;
 use crate::reply::Reply;
 use crate::words::{all_words, behind_name, refusal, unread};
 use crate::writing::written;
@@ -22,6 +25,7 @@ fn reply_to(rt: HostRuntime) -> Reply {
         Err(error) => return unread(alloc, &error),
     };
     match asked_of(alloc, behind_name(&all)) {
+        Ok(Asked::Look(file)) => looked(&rt, alloc, file),
         Ok(Asked::Write(writing)) => written(&rt, alloc, &writing),
         Err(refused) => refusal(alloc, &refused),
     }

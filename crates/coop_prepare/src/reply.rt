@@ -1,6 +1,6 @@
 // What the program says.
 ghost use Rattle.std.specs.Prelude.{◌⊎◌};
-ghost use Rattle.coop_prepare.specs.Replies.{IsFault, IsMemory, IsText};
+ghost use Rattle.coop_prepare.specs.Replies.{IsFault, IsMemory, IsShown, IsText};
 
 use std::alloc::{AllocError, Global};
 
@@ -34,6 +34,20 @@ impl Reply {
                 text,
                 status,
                 is_fault: true,
+            },
+            Err(_) => Reply::memory(alloc),
+        }
+    }
+
+    /// This text on standard output, and status 0; or out of memory, where there was none for the text.
+    pub fn shown(alloc: Global, text: Result<String, AllocError>) -> Reply
+        ensures { IsShown result ⊎ IsMemory result }
+    {
+        match text {
+            Ok(text) => Reply {
+                text: text.into_bytes(),
+                status: 0,
+                is_fault: false,
             },
             Err(_) => Reply::memory(alloc),
         }

@@ -2,6 +2,7 @@
 use Rattle.std.specs.Prelude.{◌≡◌, ⊤, Bool, not, List, [], ◌∷◌, Option, Some, None, Result, Ok, Err, codes}
 use Rattle.std.specs.Prelude.{if◌then◌else◌, map, string_bytes, String}
 use Rattle.std.specs.declared.alloc.Global.{Global}
+use Rattle.std.specs.Str.{bytes_eq}
 use Rattle.clap.specs.Faults.{fault_of}
 use Rattle.clap.specs.Kinds.{IsAmong, Kinds}
 use Rattle.clap.specs.Simple.{subcommand_of}
@@ -73,19 +74,29 @@ writing_of rows = do
     }))
 
 pub data AskedIs : Type 0 where
+  look_is : Text → AskedIs
   write_is : WritingIs → AskedIs
 
 abbrev pub asked_view : Asked → AskedIs
+asked_view (asked.Look file) = look_is file.now
 asked_view (asked.Write w) = write_is (writing_view w)
 
 -- what clap's rows of `write` ask for
 abbrev pub written_by : List Row → Result AskedIs Faulty
 written_by rows = writing_of rows >>= λ w. Ok (write_is w)
 
+-- what clap's rows of `look` ask for
+abbrev pub looked_by : List Row → Result AskedIs Faulty
+looked_by rows = file_of (first_of (codes "FILE") rows) >>= λ file. Ok (look_is file)
+
+-- what clap's rows of a subcommand ask for
+abbrev pub done_by : Text → List Row → Result AskedIs Faulty
+done_by name rows = if bytes_eq name (codes "look") then looked_by rows else written_by rows
+
 -- what the words of a subcommand ask for
 abbrev pub asked_by : Option (Text × List Row) → Result AskedIs Faulty
 asked_by None = Err (wrong word.File [])
-asked_by (Some s) = written_by s.1
+asked_by (Some s) = done_by s.0 s.1
 
 -- refused for a fault in the values of options
 abbrev pub IsRuleFault : Result AskedIs Faulty → Refused → Type 0

@@ -45,6 +45,9 @@ sub name rules = record (new_shape name) { rules = rules }
 abbrev pub write : Shape
 write = sub (codes "write") (record_rules ++ (table_rules ++ (number_rules ++ export_place)))
 
+abbrev pub look : Shape
+look = sub (codes "look") export_place
+
 abbrev pub top : Shape
 top = record (new_shape (codes "coop_prepare")) {
   is_leaf = false;
@@ -57,7 +60,7 @@ top = record (new_shape (codes "coop_prepare")) {
 
 -- THE COMMAND: one subcommand has to be there; `--help`, `-h`, `--version` and `-V` are clap's own
 abbrev pub prepare : App
-prepare = record { top = top; subs = write ∷ [] }
+prepare = record { top = top; subs = look ∷ write ∷ [] }
 
 -- the command with further rules
 abbrev pub with_rules : App → List Rule → App

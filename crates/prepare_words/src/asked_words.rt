@@ -4,14 +4,15 @@ ghost use Rattle.clap.specs.Faults.{fault_of};
 ghost use Rattle.clap.specs.Matches.{found_of};
 ghost use Rattle.clap.specs.Walk.{rows_of};
 ghost use Rattle.clap.specs.Simple.{subcommand_of, subcommand_rows_of};
-ghost use Rattle.prepare_words.specs.Asked.{IsRefusedFor, IsRuleFault, asked_of, asked_view, texts, written_by};
+ghost use Rattle.prepare_words.specs.Asked.{IsRefusedFor, IsRuleFault, asked_of, asked_view, done_by, looked_by};
+ghost use Rattle.prepare_words.specs.Asked.{texts, written_by};
 ghost use Rattle.prepare_words.specs.Command.{prepare};
 
 use crate::asked::Asked;
 use crate::command::command;
 use crate::fault::{Fault, Word};
 use crate::refused::Refused;
-use crate::writing_words::writing_of;
+use crate::writing_words::{file_in, writing_of};
 use clap::ArgMatches;
 use clap::error::ErrorKind;
 use std::alloc::Global;
@@ -28,7 +29,7 @@ pub fn asked_of<'a>(alloc: Global, words: &'a [String]) -> Result<Asked<'a>, Ref
 {
     let matches = matches_in(alloc, words)?;
     match matches.subcommand() {
-        Some((_, found)) => asked_by(alloc, found),
+        Some((name, found)) => asked_by(alloc, name, found),
         None => Err(Refused::Rule(Fault::Value {
             word: Word::File,
             value: "",
@@ -36,8 +37,34 @@ pub fn asked_of<'a>(alloc: Global, words: &'a [String]) -> Result<Asked<'a>, Ref
     }
 }
 
+// What clap's matches of a subcommand ask for.
+fn asked_by<'a>(
+    alloc: Global,
+    name: &str,
+    found: &ArgMatches<'a>,
+) -> Result<Asked<'a>, Refused<'a>>
+    ensures asked { IfOk result (λ a. done_by name.now (rows_of (found_of found.now)) ≡ Ok (asked_view a)) }
+    ensures refused { IfErr result (IsRuleFault (done_by name.now (rows_of (found_of found.now)))) }
+{
+    if name == "look" {
+        return looked_by(found);
+    }
+    written_by(alloc, found)
+}
+
+// What clap's matches of `look` ask for.
+fn looked_by<'a>(found: &ArgMatches<'a>) -> Result<Asked<'a>, Refused<'a>>
+    ensures asked { IfOk result (λ a. looked_by (rows_of (found_of found.now)) ≡ Ok (asked_view a)) }
+    ensures refused { IfErr result (IsRuleFault (looked_by (rows_of (found_of found.now)))) }
+{
+    match file_in(found) {
+        Ok(file) => Ok(Asked::Look(file)),
+        Err(fault) => Err(Refused::Rule(fault)),
+    }
+}
+
 // What clap's matches of `write` ask for.
-fn asked_by<'a>(alloc: Global, found: &ArgMatches<'a>) -> Result<Asked<'a>, Refused<'a>>
+fn written_by<'a>(alloc: Global, found: &ArgMatches<'a>) -> Result<Asked<'a>, Refused<'a>>
     ensures asked { IfOk result (λ a. written_by (rows_of (found_of found.now)) ≡ Ok (asked_view a)) }
     ensures refused { IfErr result (IsRuleFault (written_by (rows_of (found_of found.now)))) }
 {

@@ -1,7 +1,7 @@
 // The command, as clap has it.
 ghost use Rattle.std.specs.Prelude.{◌≡◌, IfOk};
 ghost use Rattle.clap.specs.Simple.{App, app_of};
-ghost use Rattle.prepare_words.specs.Command.{IsCommand, export_place, number_rules, prepare, record_rules};
+ghost use Rattle.prepare_words.specs.Command.{IsCommand, export_place, look, number_rules, prepare, record_rules};
 ghost use Rattle.prepare_words.specs.Command.{table_rules, with_rules, write};
 
 use crate::places::{flag, option, options, place};
@@ -12,8 +12,9 @@ use std::alloc::{AllocError, Global};
 pub(crate) fn command<'a>(alloc: Global) -> Result<Command<'a>, AllocError>
     ensures { IfOk result (λ c. app_of c ≡ prepare) }
 {
-    let first = write(alloc)?;
-    let subcommands = vec![in alloc; first]?;
+    let first = look(alloc)?;
+    let second = write(alloc)?;
+    let subcommands = vec![in alloc; first, second]?;
     Command::new(alloc, "coop_prepare")
         .no_binary_name(true)
         .disable_help_subcommand(true)
@@ -22,6 +23,16 @@ pub(crate) fn command<'a>(alloc: Global) -> Result<Command<'a>, AllocError>
         .version("2026-12-01")
         .about("Makes of an export the CSV that coop_cli takes")
         .subcommands(subcommands)
+}
+
+// `look FILE`
+fn look<'a>(alloc: Global) -> Result<Command<'a>, AllocError>
+    ensures { IfOk result (λ c. (a : App) × IsCommand a c × (a.top ≡ look)) }
+{
+    let start = Command::new(alloc, "look").about(
+        "Tells what FILE is, what coop_cli needs of it, and the command that makes that",
+    );
+    start.arg(place(alloc, "FILE", "The export; a pipe does as well"))
 }
 
 // `write [a rule]... FILE`

@@ -1,7 +1,7 @@
 // The words of `write`.
-ghost use Rattle.std.specs.Prelude.{◌≡◌, IfOk, option_map};
+ghost use Rattle.std.specs.Prelude.{◌≡◌, IfOk, codes, option_map};
 ghost use Rattle.clap.specs.Matches.{found_of};
-ghost use Rattle.clap.specs.Walk.{rows_of};
+ghost use Rattle.clap.specs.Walk.{first_of, rows_of};
 ghost use Rattle.prepare_words.specs.Reading.{Gives};
 ghost use Rattle.prepare_words.specs.Asked.{file_of, lone_word, mark_of, writing_of};
 ghost use Rattle.prepare_words.specs.Views.{texts_given, texts_of, writing_view};
@@ -54,6 +54,13 @@ pub(crate) fn writing_of<'a>(
         trims: is_set(found, "trim"),
         pads,
     })
+}
+
+/// The file, which clap requires.
+pub(crate) fn file_in<'a>(found: &ArgMatches<'a>) -> Result<&'a str, Fault<'a>>
+    ensures { Gives (λ s. s.now) result (file_of (first_of (codes "FILE") (rows_of (found_of found.now)))) }
+{
+    file_of(value_in(found, "FILE"))
 }
 
 fn file_of<'a>(text: Option<&'a str>) -> Result<&'a str, Fault<'a>>

@@ -3,7 +3,7 @@ use Rattle.std.proofs.lemmas.Result.{IfErr-weaker, IfOk-weaker}
 use Rattle.clap.specs.Matches.{found_of}
 use Rattle.clap.specs.Walk.{rows_of}
 use Rattle.clap.specs.declared.parser.matches.ArgMatches.TheViews.{out-ArgMatches}
-use Rattle.prepare_words.specs.Asked.{texts, written_by}
+use Rattle.prepare_words.specs.Asked.{done_by, texts}
 use Rattle.prepare_words.proofs.Asking.{asks, joined, refused_for}
 use Rattle.prepare_words.proofs.asked_words.asked_of.Goals as goal
 
@@ -14,5 +14,5 @@ returns-in-Some c =
     let asked = asks (texts c.args.words.now) _ taken.0 met in
     record {
       asked = IfOk-weaker c.asked_by.result _ _ (λ _ h. asked ∙ ap Some h) c.asked_by.ensures.asked;
-      refused = IfErr-weaker c.asked_by.result _ _ (λ e h. refused_for (texts c.args.words.now) (written_by (rows_of (found_of c.in-Some.found.now))) e asked h) c.asked_by.ensures.refused;
+      refused = IfErr-weaker c.asked_by.result _ _ (λ e h. refused_for (texts c.args.words.now) (done_by c.in-Some.name.now (rows_of (found_of c.in-Some.found.now))) e asked h) c.asked_by.ensures.refused;
     }

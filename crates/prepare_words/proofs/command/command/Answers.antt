@@ -22,7 +22,8 @@ returns c =
     let versioned = version _ _ _ _ c.version.ensures required in
     let told = about _ _ _ _ c.about.ensures versioned in
     IfOk-weaker c.subcommands.result _ _ (λ new adds.
-    let one : AddsInTurn AddsSubcommand c.about.result (c.in_ok-first.first ∷ []) new =
+    let two : AddsInTurn AddsSubcommand c.about.result (c.in_ok-first.first ∷ c.in_ok-second.second ∷ []) new =
     subst (λ subs. AddsInTurn AddsSubcommand c.about.result subs new) c.in_ok-subcommands.ensures.items adds in
-    ap app_of (sym one.2) ∙ join _ _ _ _ _ _ told.app c.in_ok-first.ensures.1 c.in_ok-first.ensures.2 one.1)
+    ap app_of (sym two.2.2) ∙ join _ _ _ _ _ _ (join _ _ _ _ _ _ told.app c.in_ok-first.ensures.1 c.in_ok-first.ensures.2 two.1)
+    c.in_ok-second.ensures.1 c.in_ok-second.ensures.2 two.2.1)
     c.subcommands.ensures
