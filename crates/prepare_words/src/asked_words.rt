@@ -38,11 +38,7 @@ pub fn asked_of<'a>(alloc: Global, words: &'a [String]) -> Result<Asked<'a>, Ref
 }
 
 // What clap's matches of a subcommand ask for.
-fn asked_by<'a>(
-    alloc: Global,
-    name: &str,
-    found: &ArgMatches<'a>,
-) -> Result<Asked<'a>, Refused<'a>>
+fn asked_by<'a>(alloc: Global, name: &str, found: &ArgMatches<'a>) -> Result<Asked<'a>, Refused<'a>>
     ensures asked { IfOk result (λ a. done_by name.now (rows_of (found_of found.now)) ≡ Ok (asked_view a)) }
     ensures refused { IfErr result (IsRuleFault (done_by name.now (rows_of (found_of found.now)))) }
 {
