@@ -97,6 +97,7 @@ const IN_WINDOW: &[&str] = &[
 #[test]
 fn a_window_has_the_marks_that_touch_it(rt: HostRuntime) {
     let entries = read(&rt, rt.alloc(), LONGER).expect(&rt, "a story");
+    assert!(rt; entries.len() == 14);
     let svg = draw_part(rt.alloc(), &entries, 2, View { from: 10, to: 11 }).expect(&rt, "memory");
     let text = str::from_utf8(svg.as_slice()).expect(&rt, "UTF-8");
     for piece in IN_WINDOW {
