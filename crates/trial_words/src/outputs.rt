@@ -1,9 +1,10 @@
 // What no clause says: the worked outputs, line by line, and that each call finds memory.
-ghost use Rattle.std.specs.Prelude.{◌≡◌, ◌≤◌, ℕ, List, Some, None, All, IfOk, length};
+ghost use Rattle.std.specs.Prelude.{◌≡◌, ◌≤◌, ◌∷◌, [], ℕ, List, Some, None, All, IfOk, length};
 ghost use Rattle.std.specs.Bool.{OnTrue};
 ghost use Rattle.std.specs.List.{AllByRecursion, AllZip};
 ghost use Rattle.table_core.specs.Value.{places_of};
 ghost use Rattle.table_core.specs.Answer.{dict_at};
+ghost use Rattle.query_meaning.specs.declared.item.Item.TheVariants as item;
 ghost use Rattle.query_gather.specs.Answer.{CanBeWritten};
 ghost use Rattle.sql_bind.specs.declared.plan.Plan as spec_plan;
 ghost use Rattle.run_output.specs.Answers.{NamesColumns};
@@ -141,11 +142,12 @@ fn each_refused_statement_has_its_line(rt: HostRuntime) -> Result<(), Fail> {
     refuses(&rt, rt.alloc(), memory, b"refused 1: memory\n")
 }
 
-// Tests that a sum of pay which is stopped or overflows prints this line.
+// Tests that two sums which are stopped, or of which one overflows, print this line.
 fn is_lost(rt: &impl Abort, alloc: Global, answer: Answer, line: &[u8]) -> Result<(), Fail>
-    requires { (dicts : List (List (List ℕ))) (p : spec_plan.Plan) → p.rows ≡ None → CanBeWritten dicts p answer }
+    requires { (dicts : List (List (List ℕ))) (p : spec_plan.Plan) → p.rows ≡ None
+        → p.items.items ≡ item.Sum 0 ∷ item.Sum 2 ∷ [] → CanBeWritten dicts p answer }
 {
-    let plan = groups_of(alloc, &[Item::CountAll, Item::Sum(2)], &[])?;
+    let plan = groups_of(alloc, &[Item::Sum(0), Item::Sum(2)], &[])?;
     let outcomes = vec![in alloc; Outcome::Planned(plan)]?;
     let answers = vec![in alloc; answer]?;
     prints(rt, alloc, &outcomes, &answers, None, None, (line, 1))
@@ -166,28 +168,21 @@ const CAUSES: [(Cause, &[u8]); 3] = [
     (Cause::Memory, b"refused 1: memory\n"),
 ];
 
-// Items of which the sum is too great.
-const TOTALS: [(u32, &[u8]); 2] = [
-    (
-        2,
-        b"refused 1: sum overflow item 2 total 92233720368547758.08\n",
-    ),
-    (
-        1,
-        b"refused 1: sum overflow item 1 total 9223372036854775808\n",
-    ),
-];
-
 #[test]
-fn each_lost_query_has_its_line(rt: HostRuntime) -> Result<(), Fail> {
+fn each_stopped_query_has_its_line(rt: HostRuntime) -> Result<(), Fail> {
     for (cause, line) in CAUSES {
         is_lost(&rt, rt.alloc(), Answer::Stopped(cause), line)?;
     }
-    let total = 9223372036854775808;
-    for (item, line) in TOTALS {
-        is_lost(&rt, rt.alloc(), Answer::Overflow { item, total }, line)?;
-    }
     Ok(())
+}
+
+#[test]
+fn each_sum_without_an_answer_has_its_line(rt: HostRuntime) -> Result<(), Fail> {
+    let total = 9223372036854775808;
+    let of_id = b"refused 1: sum overflow item 1 total 9223372036854775808\n";
+    is_lost(&rt, rt.alloc(), Answer::Overflow { item: 1, total }, of_id)?;
+    let of_pay = b"refused 1: sum overflow item 2 total 92233720368547758.08\n";
+    is_lost(&rt, rt.alloc(), Answer::Overflow { item: 2, total }, of_pay)
 }
 
 #[test]
