@@ -1,5 +1,5 @@
--- The counts of faults of the devices over the system.
-use Rattle.std.specs.Prelude.{ℕ}
+-- The counts of faults of the devices over the system, and the name of the depot's file.
+use Rattle.std.specs.Prelude.{List, ℕ, string_bytes}
 use Rattle.coop_outside.specs.declared.disk_shelf.DiskShelf.{DiskShelf}
 use Rattle.coop_outside.specs.declared.scratch_depot.ScratchDepot.{ScratchDepot}
 use Rattle.coop_outside.specs.declared.stdout_sink.StdoutSink.{StdoutSink}
@@ -18,3 +18,7 @@ depot_gets depot = depot.gets
 
 abbrev pub depot_faults : {R : Type 0} → ScratchDepot R → ℕ
 depot_faults depot = depot.faults
+
+-- the name of the file of the depot, in bytes
+abbrev pub depot_name : {R : Type 0} → ScratchDepot R → List ℕ
+depot_name depot = string_bytes depot.store.path

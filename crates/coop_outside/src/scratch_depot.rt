@@ -1,6 +1,6 @@
 // Pieces in a file that is gone when the program ends.
-ghost use Rattle.std.specs.Prelude.{◌≡◌, None};
-ghost use Rattle.coop_outside.specs.Real.{depot_faults, depot_gets};
+ghost use Rattle.std.specs.Prelude.{◌≡◌, None, string_bytes};
+ghost use Rattle.coop_outside.specs.Real.{depot_faults, depot_gets, depot_name};
 
 use crate::depot::{Depot, DepotFault};
 use crate::failed::Failed;
@@ -24,6 +24,7 @@ impl<R: Files<File = File> + Drop> ScratchDepot<R> {
     /// A depot over a file of this name that is not made yet, with no get and no fault counted.
     pub fn new(alloc: Global, rt: R, path: String) -> Self
         ensures counts { (depot_gets result ≡ 0) × (depot_faults result ≡ 0) }
+        ensures named { depot_name result ≡ string_bytes path }
     {
         ScratchDepot {
             store: ScratchFile::new(alloc, rt, path),

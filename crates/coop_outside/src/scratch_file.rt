@@ -1,4 +1,6 @@
 // Pieces in a file of its own, one after another, and where each stands.
+ghost use Rattle.std.specs.Prelude.{◌≡◌};
+
 use crate::depot::DepotFault;
 use std::alloc::Global;
 use std::collections::BTreeMap;
@@ -27,7 +29,9 @@ pub(crate) struct ScratchFile<R> {
 
 impl<R: Files<File = File> + Drop> ScratchFile<R> {
     /// A file of this name, not made yet.
-    pub(crate) fn new(alloc: Global, rt: R, path: String) -> Self {
+    pub(crate) fn new(alloc: Global, rt: R, path: String) -> Self
+        ensures named { result.path ≡ path }
+    {
         ScratchFile {
             rt,
             path,

@@ -1,6 +1,6 @@
 -- The depot that a command line asks for.
-use Rattle.std.specs.Prelude.{◌≡◌, Bool, true, false, [], Option, Some, None}
-use Rattle.coop_outside.specs.Real.{depot_faults, depot_gets}
+use Rattle.std.specs.Prelude.{◌≡◌, Bool, true, false, ℕ, List, [], Option, Some, None}
+use Rattle.coop_outside.specs.Real.{depot_faults, depot_gets, depot_name}
 use Rattle.coop_outside.specs.declared.any_depot.AnyDepot.{AnyDepot}
 use Rattle.coop_outside.specs.declared.any_depot.AnyDepot.TheVariants.{Mem, Scratch}
 use Rattle.coop_outside.specs.declared.mem_depot.MemDepot.{MemDepot}
@@ -19,13 +19,14 @@ pub record IsNewMemory (depot : MemDepot) : Type 0 where
   pub gets : depot.gets ≡ 0
   pub faults : depot.faults ≡ 0
 
--- a depot in a file that has counted nothing
-pub record IsNewFile {R : Type 0} (depot : ScratchDepot R) : Type 0 where
+-- a depot in a file of this name that has counted nothing
+pub record IsNewFile {R : Type 0} (name : List ℕ) (depot : ScratchDepot R) : Type 0 where
+  pub name : depot_name depot ≡ name
   pub gets : depot_gets depot ≡ 0
   pub faults : depot_faults depot ≡ 0
 
--- THE NEW DEPOT where a name of a file may be asked for: a file, or memory
-abbrev pub IsNewFor : {N R : Type 0} → Option N → AnyDepot R → Type 0
+-- THE NEW DEPOT where a name of a file may be asked for: a file of that name, or memory
+abbrev pub IsNewFor : {R : Type 0} → Option (List ℕ) → AnyDepot R → Type 0
 IsNewFor None (Mem depot) = IsNewMemory depot
-IsNewFor (Some name) (Scratch depot) = IsNewFile depot
+IsNewFor (Some name) (Scratch depot) = IsNewFile name depot
 IsNewFor _ _ = ⊥

@@ -30,7 +30,7 @@ fn depot_named<R: Files<File = File> + Drop>(
     rt: R,
     name: Option<String>,
 ) -> AnyDepot<R>
-    ensures new { IsNewFor name result }
+    ensures new { IsNewFor (option_map string_bytes name) result }
 {
     match name {
         Some(name) => AnyDepot::Scratch(ScratchDepot::new(alloc, rt, name)),
