@@ -20,8 +20,8 @@ pub record IsNewMemory (depot : MemDepot) : Type 0 where
   pub faults : depot.faults ≡ 0
 
 -- a depot in a file of this name that has counted nothing
-pub record IsNewFile {R : Type 0} (name : List ℕ) (depot : ScratchDepot R) : Type 0 where
-  pub name : depot_name depot ≡ name
+pub record IsNewFile {R : Type 0} (asked : List ℕ) (depot : ScratchDepot R) : Type 0 where
+  pub name : depot_name depot ≡ asked
   pub gets : depot_gets depot ≡ 0
   pub faults : depot_faults depot ≡ 0
 
