@@ -94,7 +94,7 @@ came_by o told z id w q plan partial p waits legal on ended gathered = (
   subst (λ (cs : List ℕ). Gathered z plan o.held told cs partial) (ap (λ (l : List Entry). chunks_delivered l q) (sym waits.4) ∙ delivered_by o.setting w q on p.seen legal) gathered,
 )
 
-module _ {S C P D : Type 0} (o : Start) (told : Told) (scan : CScan S C P D) (plan : Plan) where
+module _ {S C P D T K : Type 0} (o : Start) (told : Told) (scan : CScan S C P D T K) (plan : Plan) where
   -- what came of a scan that took all its chunks
   pub scan_came : (z : TableShape) (q w : ℕ) (partial : Partial) → scan.query ≡ q → scan.shape.now ≡ z → scan.station.now.number ≡ w → worker_of o.setting q ≡ Some w
       → CameTo o told scan plan (Ok partial) → CameFor o told z scan.station.now.pass.seen q plan (Ok partial)

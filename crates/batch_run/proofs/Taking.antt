@@ -120,8 +120,8 @@ has_ended s w q r t ends =
 
 -- Scans
 
-module _ {S C P D : Type 0} where
-  pub same_on : (a b c : CScan S C P D) → IsSameScan a b → IsSameScan b c → IsSameScan a c
+module _ {S C P D T K : Type 0} where
+  pub same_on : (a b c : CScan S C P D T K) → IsSameScan a b → IsSameScan b c → IsSameScan a c
   same_on a b c first second = record {
     station = second.station ∙ first.station;
     number = second.number ∙ first.number;
@@ -132,21 +132,21 @@ module _ {S C P D : Type 0} where
   }
 
   -- a chunk was taken and released: it is the next one that was delivered
-  pub after_chunk : (s : Setting) (q c : ℕ) (first : PassView) (old taken held released : CScan S C P D) → old.query ≡ q → WentFor q first old.station.now.pass → IsSameScan old taken → held ≡ taken
+  pub after_chunk : (s : Setting) (q c : ℕ) (first : PassView) (old taken held released : CScan S C P D T K) → old.query ≡ q → WentFor q first old.station.now.pass → IsSameScan old taken → held ≡ taken
       → TakesChunk s old.station.now.number old.query old.station.now.pass taken.station.now.pass c → Releases held.station.now.number held.query held.station.now.pass released.station.now.pass c
       → WentFor q first released.station.now.pass × (chunks_delivered released.station.now.pass.mine q ≡ chunks_delivered old.station.now.pass.mine q ++ c ∷ [])
   after_chunk s q c first old taken held released of before same is takes releases =
       let w = taken.station.now.number in
       let takes_it = subst (λ (k : ℕ). TakesChunk s old.station.now.number k old.station.now.pass taken.station.now.pass c) of takes in
       let by : Releases w taken.query taken.station.now.pass released.station.now.pass c =
-      subst (λ (scan : CScan S C P D). Releases scan.station.now.number scan.query scan.station.now.pass released.station.now.pass c) is releases in
+      subst (λ (scan : CScan S C P D T K). Releases scan.station.now.number scan.query scan.station.now.pass released.station.now.pass c) is releases in
       let releases_it = subst (λ (k : ℕ). Releases w k taken.station.now.pass released.station.now.pass c) (same.query ∙ of) by in (
         went_releasing s w q first taken.station.now.pass released.station.now.pass (went_taking s old.station.now.number q first old.station.now.pass taken.station.now.pass before c takes_it) c releases_it,
         released_same w q c taken.station.now.pass released.station.now.pass releases_it ∙ takes_it.taken,
       )
 
   -- the query was ended: no chunk more was delivered
-  pub after_end : (s : Setting) (q : ℕ) (first : PassView) (old new : CScan S C P D) → old.query ≡ q → WentFor q first old.station.now.pass → IsSameScan old new
+  pub after_end : (s : Setting) (q : ℕ) (first : PassView) (old new : CScan S C P D T K) → old.query ≡ q → WentFor q first old.station.now.pass → IsSameScan old new
       → Ends s old.station.now.number old.query old.station.now.pass new.station.now.pass
       → WentFor q first new.station.now.pass × (is_ended (past new.station.now.pass.seen) new.query ≡ true) × (chunks_delivered old.station.now.pass.mine q ≡ chunks_delivered new.station.now.pass.mine new.query)
   after_end s q first old new of before same ends =
@@ -161,8 +161,8 @@ module _ {S C P D : Type 0} where
 
 -- Chunks that a scan took
 
-module _ {S C P D : Type 0} (o : Start) (told : Told) where
-  pub once_each : (scan : CScan S C P D) → IsScan o told scan → NoneTwice (chunks_delivered scan.station.now.pass.mine scan.query)
+module _ {S C P D T K : Type 0} (o : Start) (told : Told) where
+  pub once_each : (scan : CScan S C P D T K) → IsScan o told scan → NoneTwice (chunks_delivered scan.station.now.pass.mine scan.query)
   once_each scan is =
       let w = scan.station.now.number in
       let q = scan.query in
@@ -171,7 +171,7 @@ module _ {S C P D : Type 0} (o : Start) (told : Told) where
       subst NoneTwice taken (story_once o.setting q seen is.legal).once
 
   -- at its End a scan took each chunk of its need
-  pub all_taken : (old new : CScan S C P D) → IsStart o → IsScan o told old → IsSameScan old new → IsOver o new.baton.now new.pool.now new.query new.station.now → is_ended (past new.station.now.pass.seen) new.query ≡ true
+  pub all_taken : (old new : CScan S C P D T K) → IsStart o → IsScan o told old → IsSameScan old new → IsOver o new.baton.now new.pool.now new.query new.station.now → is_ended (past new.station.now.pass.seen) new.query ≡ true
       → AreAllOnce o.setting new.query (chunks_delivered new.station.now.pass.mine new.query)
   all_taken old new start is same over ended =
       let w = new.station.now.number in

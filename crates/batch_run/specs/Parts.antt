@@ -37,10 +37,10 @@ pub record WentFor (q : ℕ) (p r : PassView) : Type 0 where
   pub none_registered : registered added ≡ []
   pub others : (k : ℕ) → k ≢ q → chunks_delivered r.mine k ≡ chunks_delivered p.mine k
 
-module _ {S C P D : Type 0} where
+module _ {S C P D T K : Type 0} where
   -- what a part's answer says. Done: the query has its End, each chunk of its need was taken once, and their rows are gathered;
   -- stopped: for this cause; when out of memory the scan is still under way, and no chunk is out
-  abbrev pub CameTo : Start → Told → CScan S C P D → Plan → Result Partial Unfinished → Type 0
+  abbrev pub CameTo : Start → Told → CScan S C P D T K → Plan → Result Partial Unfinished → Type 0
   CameTo o told scan p (Ok partial) = IsOver o scan.baton.now scan.pool.now scan.query scan.station.now
       × (is_ended (past scan.station.now.pass.seen) scan.query ≡ true)
       × AreAllOnce o.setting scan.query (chunks_delivered scan.station.now.pass.mine scan.query)

@@ -29,14 +29,13 @@ pub(crate) enum Unfinished {
 
 /// Takes every chunk of a scan that has just begun, and gathers the rows of them that match the plan.
 ///
-/// `worker` and `query` are the scan's own numbers, the shape is that of the scan, and the plan names the columns that the
-/// scan's query reads. The origin is one for a desk. `into` has gathered nothing yet. The gate is called once for each chunk,
-/// while its frames are pinned and the baton lies free. What is gathered comes back where each chunk of the need was taken.
+/// The shape is that of the scan, and the plan names the columns that the scan's query reads. The origin is one for a
+/// desk. `into` has gathered nothing yet. The gate, which is of the scan's type of gates, is called once for each
+/// chunk, while its frames are pinned and the baton lies free: a release takes what that call left. What is gathered
+/// comes back where each chunk of the need was taken.
 pub(crate) fn scan_part<S: Origin, C: Content, P: Policy, D: Depot, T: Gate, R: Wait>(
     rt: &R,
-    scan: &mut CScan<'_, S, C, P, D>,
-    worker: u32,
-    query: u32,
+    scan: &mut CScan<'_, S, C, P, D, T>,
     shape: &Shape,
     plan: &Plan,
     into: Partial,
@@ -46,25 +45,23 @@ pub(crate) fn scan_part<S: Origin, C: Content, P: Policy, D: Depot, T: Gate, R: 
     requires scan { IsScan S.origin C.pieces scan.old }
     requires none { scan.old.out ≡ None }
     requires just_begun { chunks_delivered scan.old.station.now.pass.mine scan.old.query ≡ [] }
-    requires worker { scan.old.station.now.number ≡ worker }
-    requires query { scan.old.query ≡ query }
     requires shape { scan.old.shape.now ≡ shape.now }
     requires plan { IsPlanOfShape shape.now plan.now }
-    requires columns { ReadsPlan S.origin.setting query plan.now }
+    requires columns { ReadsPlan S.origin.setting scan.old.query plan.now }
     requires empty { Stands into [] }
     requires no_rows { row_count into ≡ 0 }
     requires fits { FitsPlan plan.now into }
     ensures same { IsSameScan scan.old scan.new }
-    ensures went { WentFor query scan.old.station.now.pass scan.new.station.now.pass }
+    ensures went { WentFor scan.old.query scan.old.station.now.pass scan.new.station.now.pass }
     ensures came { CameTo S.origin C.pieces scan.new plan.now result }
 {
     let mut partial = into;
     for _ in rt.forever() {
         match scan.next(rt) {
-            Next::Chunk(held) => {
-                gate.holding(rt, worker, query, held.chunk());
+            Next::Chunk(held, delivery) => {
+                let called = gate.holding(rt, delivery);
                 let added = add_rows(scan, &held, shape, plan, &mut partial);
-                held.release(rt, scan);
+                held.release(rt, scan, called);
                 match added {
                     Ok(()) => {}
                     Err(_) => return Err(Unfinished::Memory),

@@ -9,7 +9,7 @@ ghost use Rattle.batch_run.specs.Parts.{ReadsPlan};
 ghost use Rattle.batch_ends.specs.Rows.{IsPlanOfShape};
 
 use coop_outside::Depot;
-use cscan::{CScan, Held};
+use cscan::{CScan, Gate, Held};
 use frame_pool::Content;
 use interest_book::Policy;
 use piece_format::Shape;
@@ -22,8 +22,8 @@ use table_core::Memory;
 /// Adds the rows of the chunk that is out, by their numbers in the table, until memory runs out.
 ///
 /// Rows are read some at a time, into one block for all of them, the columns of the plan alone.
-pub(crate) fn add_rows<S: Origin, C: Content, P: Policy, D: Depot>(
-    scan: &mut CScan<'_, S, C, P, D>,
+pub(crate) fn add_rows<S: Origin, C: Content, P: Policy, D: Depot, T: Gate>(
+    scan: &mut CScan<'_, S, C, P, D, T>,
     held: &Held,
     shape: &Shape,
     plan: &Plan,

@@ -56,9 +56,7 @@ pub(crate) fn run_scan<S: Origin, C: Content, P: Policy, D: Depot, T: Gate, R: W
     let Ok(into) = Partial::of(alloc, job.plan) else {
         return Err(scan.stop(rt));
     };
-    match scan_part(
-        rt, &mut scan, job.worker, job.number, shape, job.plan, into, shop.gate,
-    ) {
+    match scan_part(rt, &mut scan, shape, job.plan, into, shop.gate) {
         Ok(partial) => Ok(partial),
         Err(Unfinished::Stopped(cause)) => Err(cause),
         Err(Unfinished::Memory) => Err(scan.stop(rt)),

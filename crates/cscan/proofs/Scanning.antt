@@ -31,8 +31,8 @@ may_turn s h w q out at none =
     record { runs = a.runs; idle = record { holds_nothing = a.holds; loads_nothing = a.loads_nothing } }
 
 -- what is out is as it was given
-module _ {S C P D : Type 0} where
-  pub given_out : (o : Start) (told : Told) (scan : CScan S C P D) (given : Given) → IsScan o told scan → scan.out ≡ Some given
+module _ {S C P D T K : Type 0} where
+  pub given_out : (o : Start) (told : Told) (scan : CScan S C P D T K) (given : Given) → IsScan o told scan → scan.out ≡ Some given
       → IsGiven o.setting scan.shape.now (past scan.station.now.pass.seen) scan.query given
   given_out o told scan given is out = subst (λ (x : Option Given). IsOut o.setting scan.shape.now (past scan.station.now.pass.seen) scan.query x) out is.given
 

@@ -14,10 +14,15 @@ use Rattle.scan_story.specs.Causes.{cause_of}
 use Rattle.story_laws.specs.Queries.{chunks_delivered}
 use Rattle.baton.specs.Passes.{PassView, Went}
 use Rattle.frame_pool.specs.Frames.{Told}
+use Rattle.cscan.specs.declared.delivery.Delivery.{Delivery}
 use Rattle.cscan.specs.declared.next.Next.{Next}
 use Rattle.cscan.specs.declared.next.Next.TheVariants as next
 use Rattle.cscan.specs.declared.scan.CScan.{CScan}
 use Rattle.cscan.specs.Scans.{IsScan, IsOver}
+
+-- the delivery of a chunk to a query on a worker
+abbrev pub delivery_to : ℕ → ℕ → ℕ → Delivery
+delivery_to w q c = record { worker = w; query = q; chunk = c }
 
 -- the entry is one of a load: no Register, Deliver, Release, Stop or End
 abbrev pub is_of_load : Entry → Bool
@@ -77,11 +82,12 @@ Releases w q p r c = AddsOne (Release w q c) p r
 abbrev pub IsStoppedBy : ℕ → ℕ → PassView → PassView → Cause → Type 0
 IsStoppedBy w q p r cause = (cause_of (past r.seen) q ≡ Some cause) × (Went p r [] ⊎ (AddsOne (Stop w q) p r × (cause ≡ Memory)))
 
-module _ {S C P D : Type 0} where
+module _ {S C P D T K : Type 0} where
   -- what an answer of `next` says
-  abbrev pub Answered : Start → Told → CScan S C P D → CScan S C P D → Next → Type 0
-  Answered o told old new (next.Chunk held) = (new.out ≡ Some held.given) × IsScan o told new
+  abbrev pub Answered : Start → Told → CScan S C P D T K → CScan S C P D T K → Next → Type 0
+  Answered o told old new (next.Chunk held delivery) = (new.out ≡ Some held.given) × IsScan o told new
       × TakesChunk o.setting old.station.now.number old.query old.station.now.pass new.station.now.pass held.given.chunk
+      × (delivery ≡ delivery_to new.station.now.number new.query held.given.chunk)
   Answered o told old new next.Done = (new.out ≡ None) × IsOver o new.baton.now new.pool.now new.query new.station.now
       × Ends o.setting old.station.now.number old.query old.station.now.pass new.station.now.pass
   Answered o told old new (next.Stopped cause) = (new.out ≡ None) × IsOver o new.baton.now new.pool.now new.query new.station.now

@@ -84,9 +84,9 @@ pub record IsAtRest (s : Setting) (h : History) (w q : ℕ) : Type 0 where
 
 -- Scans
 
-module _ {S C P D : Type 0} where
+module _ {S C P D T K : Type 0} where
   -- a scan under way, between two of its calls: no Done or Stopped came
-  pub record IsScan (o : Start) (told : Told) (scan : CScan S C P D) : Type 0 where
+  pub record IsScan (o : Start) (told : Told) (scan : CScan S C P D T K) : Type 0 where
     pub seated : IsSeated scan.baton.now scan.pool.now o (slots_out scan.out) scan.station.now
     pub fits : Fits o told scan.shape.now scan.pool.now
     pub columns : HasColumns o.setting scan.shape.now scan.query
@@ -94,16 +94,17 @@ module _ {S C P D : Type 0} where
     pub at : IsAt o.setting (past scan.station.now.pass.seen) scan.station.now.number scan.query scan.out
     pub given : IsOut o.setting scan.shape.now (past scan.station.now.pass.seen) scan.query scan.out
 
-  -- the station of a scan that is over: nothing is pinned, and by what the worker has seen its query isn't active and it is idle
-  pub record IsOver (o : Start) (id : TableId) (pool : PoolView) (q : ℕ) (s : Station S C P D) : Type 0 where
-    pub seated : IsSeated id pool o [] s
-    pub rests : IsAtRest o.setting (past s.pass.seen) s.number q
-
   -- one scan, before and after a call: the same station, worker, baton, pool, shape and query
-  pub record IsSameScan (old new : CScan S C P D) : Type 0 where
+  pub record IsSameScan (old new : CScan S C P D T K) : Type 0 where
     pub station : new.station.ghost_name ≡ old.station.ghost_name
     pub number : new.station.now.number ≡ old.station.now.number
     pub baton : new.baton.now ≡ old.baton.now
     pub pool : new.pool.now ≡ old.pool.now
     pub shape : new.shape.now ≡ old.shape.now
     pub query : new.query ≡ old.query
+
+module _ {S C P D : Type 0} where
+  -- the station of a scan that is over: nothing is pinned, and by what the worker has seen its query isn't active and it is idle
+  pub record IsOver (o : Start) (id : TableId) (pool : PoolView) (q : ℕ) (s : Station S C P D) : Type 0 where
+    pub seated : IsSeated id pool o [] s
+    pub rests : IsAtRest o.setting (past s.pass.seen) s.number q

@@ -1,12 +1,26 @@
 // What is called for each delivery.
+ghost use Rattle.std.specs.Prelude.{◌≡◌};
+
+use crate::delivery::Delivery;
 use std::sync::Wait;
 
 /// Watches a run: it is called once for each delivery, while the chunk is pinned and the desk lies free.
 ///
-/// Whoever drives a scan calls it between `CScan::next` and `Held::release`.
+/// Whoever drives a scan calls it between `CScan::next`, which gives the delivery, and `Held::release`, which takes
+/// what the call left.
 pub trait Gate {
-    /// The worker holds the chunk for the query. Workers and chunks count from 0, queries from 1.
-    fn holding<R: Wait>(&self, rt: &R, worker: u32, query: u32, chunk: u32);
+    ghost use Rattle.cscan.specs.declared.delivery.Delivery.{Delivery};
+
+    /// What a call leaves. Where the gate's type is a parameter, nothing but a call makes one. A gate with nothing to
+    /// hand on leaves the delivery itself.
+    type Called: Send + Drop;
+
+    /// The delivery that a call was for.
+    ghost delivery_of: { Self.Called → Delivery };
+
+    /// The worker holds the chunk for the query.
+    fn holding<R: Wait>(&self, rt: &R, delivery: Delivery) -> Self::Called
+        ensures called { delivery_of result ≡ delivery };
 }
 
 /// A gate that does nothing.
@@ -14,5 +28,11 @@ pub trait Gate {
 pub struct NoGate;
 
 impl Gate for NoGate {
-    fn holding<R: Wait>(&self, _rt: &R, _worker: u32, _query: u32, _chunk: u32) {}
+    type Called = Delivery;
+
+    ghost delivery_of = { λ delivery. delivery };
+
+    fn holding<R: Wait>(&self, _rt: &R, delivery: Delivery) -> Delivery {
+        delivery
+    }
 }

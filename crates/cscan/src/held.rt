@@ -3,12 +3,13 @@ ghost use Rattle.std.specs.Prelude.{◌≡◌, ◌<◌, ◌≤◌, ◌+◌, ◌%
 ghost use Rattle.table_core.specs.Chunk.{chunk as chunk_of};
 ghost use Rattle.table_core.specs.declared.cell.Cell.{Cell};
 ghost use Rattle.piece_format.specs.Cells.{FitsKind, cell_at, dict_len_at, kind_at};
-ghost use Rattle.cscan.specs.Answers.{Releases};
+ghost use Rattle.cscan.specs.Answers.{Releases, delivery_to};
 ghost use Rattle.frame_rows.specs.Blocks.{EachRow};
 ghost use Rattle.frame_rows.specs.Rows.{FitColumns, HasCellsOf, OthersAreNull};
 ghost use Rattle.cscan.specs.Scans.{IsSameScan, IsScan, ReadsColumns, reads_column};
 ghost use Rattle.frame_rows.specs.Tables.{HoldsTable};
 
+use crate::gate::Gate;
 use crate::releasing::note_release;
 use crate::scan::CScan;
 use crate::slots::place_of;
@@ -50,9 +51,9 @@ impl Held {
     ///
     /// Where the depot tells what it holds, it is the table's cell. Over every depot it is NULL, or in a column of texts a
     /// code below the length of the column's dictionary, or in any other column a number.
-    pub fn cell<S: Origin, C: Content, P: Policy, D: Depot>(
+    pub fn cell<S: Origin, C: Content, P: Policy, D: Depot, T: Gate>(
         &self,
-        scan: &mut CScan<'_, S, C, P, D>,
+        scan: &mut CScan<'_, S, C, P, D, T>,
         row: u32,
         column: u32,
     ) -> Cell
@@ -75,9 +76,9 @@ impl Held {
 
     /// Reads a row of the chunk, from 0, for some columns that the query reads: each one's cell, as `cell` says it, comes into
     /// its place, and NULL into every other place. There is a place for each column of the table. It can't wait.
-    pub fn row<S: Origin, C: Content, P: Policy, D: Depot>(
+    pub fn row<S: Origin, C: Content, P: Policy, D: Depot, T: Gate>(
         &self,
-        scan: &mut CScan<'_, S, C, P, D>,
+        scan: &mut CScan<'_, S, C, P, D, T>,
         row: u32,
         columns: &ColumnSet,
         cells: &mut [Cell],
@@ -110,9 +111,9 @@ impl Held {
     /// reads: each one's cells, as `cell` says them, come into its column, and NULL into every other column.
     ///
     /// The block has a column for each column of the table, and 1 to 64 rows; `first` is a multiple of 64. It can't wait.
-    pub fn block<S: Origin, C: Content, P: Policy, D: Depot>(
+    pub fn block<S: Origin, C: Content, P: Policy, D: Depot, T: Gate>(
         &self,
-        scan: &mut CScan<'_, S, C, P, D>,
+        scan: &mut CScan<'_, S, C, P, D, T>,
         first: u32,
         count: u32,
         columns: &ColumnSet,
@@ -147,14 +148,18 @@ impl Held {
         }
     }
 
-    /// Gives the chunk back: unpins its frames, and then appends a Release.
-    pub fn release<S: Origin, C: Content, P: Policy, D: Depot, R: Wait>(
+    /// Gives the chunk back: unpins its frames, and then appends a Release. `called` is what the scan's gate left when
+    /// it was called for this delivery.
+    pub fn release<S: Origin, C: Content, P: Policy, D: Depot, T: Gate, R: Wait>(
         self,
         rt: &R,
-        scan: &mut CScan<'_, S, C, P, D>,
+        scan: &mut CScan<'_, S, C, P, D, T>,
+        called: T::Called,
     )
         requires scan { IsScan S.origin C.pieces scan.old }
         requires out { scan.old.out ≡ Some self.given }
+        requires called { T.delivery_of called ≡
+            delivery_to scan.old.station.now.number scan.old.query self.given.chunk }
         ensures same { IsSameScan scan.old scan.new }
         ensures out { scan.new.out ≡ None }
         ensures scan { IsScan S.origin C.pieces scan.new }
@@ -162,6 +167,7 @@ impl Held {
             scan.new.station.now.pass self.given.chunk }
     {
         let Held { given } = self;
+        let _called = called;
         let pool = scan.pool;
         let baton = scan.baton;
         let query = scan.query;

@@ -8,7 +8,9 @@ ghost use Rattle.cscan.specs.Answers.{Answered, IsStoppedBy};
 ghost use Rattle.cscan.specs.Scans.{Fits, HasColumns, IsOver, IsSameScan, IsScan};
 ghost use Rattle.cscan.specs.Stations.{IsSeated};
 
+use crate::delivery::Delivery;
 use crate::desk::take_desk;
+use crate::gate::Gate;
 use crate::held::Held;
 use crate::next::Next;
 use crate::rounds::{Round, turn_on};
@@ -22,6 +24,7 @@ use frame_rows::Given;
 use interest_book::Policy;
 use piece_format::Shape;
 use scan_story::{Cause, Origin};
+use std::marker::PhantomData;
 use std::sync::Wait;
 
 /// A scan under way: it takes the chunks of a query's need one after another, from frames that all scans share.
@@ -30,16 +33,17 @@ use std::sync::Wait;
 /// has seen and made tells what the scan did. After `Next::Done` and `Next::Stopped` it is over: no call may follow, and it
 /// may be let go.
 #[derive(Drop)]
-pub struct CScan<'a, S: Origin, C: Content, P: Policy, D: Depot> {
+pub struct CScan<'a, S: Origin, C: Content, P: Policy, D: Depot, T: Gate> {
     pub(crate) station: &'a mut Station<S, C, P, D>,
     pub(crate) baton: &'a Baton<Desk<S, P, D>>,
     pub(crate) pool: &'a Pool<C>,
     pub(crate) shape: &'a Shape,
     pub(crate) query: u32,
     pub(crate) out: Option<Given>,
+    pub(crate) gate: PhantomData<T>,
 }
 
-impl<'a, S: Origin, C: Content, P: Policy, D: Depot> CScan<'a, S, C, P, D> {
+impl<'a, S: Origin, C: Content, P: Policy, D: Depot, T: Gate> CScan<'a, S, C, P, D, T> {
     /// Registers the query on the station's worker, and begins its scan.
     ///
     /// By what the pass has seen the query may be registered: it never was, its need names the worker, and the worker has
@@ -55,7 +59,7 @@ impl<'a, S: Origin, C: Content, P: Policy, D: Depot> CScan<'a, S, C, P, D> {
         shape: &'a Shape,
         station: &'a mut Station<S, C, P, D>,
         query: u32,
-    ) -> CScan<'a, S, C, P, D>
+    ) -> CScan<'a, S, C, P, D, T>
         requires seated { IsSeated baton.now pool.now S.origin [] station.old }
         requires may { MayRegister S.origin.setting (past station.old.pass.seen) station.old.number query }
         requires fits { Fits S.origin C.pieces shape.now pool.now }
@@ -81,6 +85,7 @@ impl<'a, S: Origin, C: Content, P: Policy, D: Depot> CScan<'a, S, C, P, D> {
             shape,
             query,
             out: None,
+            gate: PhantomData,
         }
     }
 
@@ -101,7 +106,12 @@ impl<'a, S: Origin, C: Content, P: Policy, D: Depot> CScan<'a, S, C, P, D> {
         match turn_on(rt, baton, pool, shape, self.station, query) {
             Round::Took(given) => {
                 self.out = Some(given.copy());
-                Next::Chunk(Held { given })
+                let delivery = Delivery {
+                    worker: self.station.number,
+                    query,
+                    chunk: given.chunk,
+                };
+                Next::Chunk(Held { given }, delivery)
             }
             Round::Done => Next::Done,
             Round::Stopped(cause) => Next::Stopped(cause),
@@ -126,6 +136,7 @@ impl<'a, S: Origin, C: Content, P: Policy, D: Depot> CScan<'a, S, C, P, D> {
             shape: _,
             query,
             out: _,
+            gate: _,
         } = self;
         let number = station.number;
         let mut desk = take_desk(rt, baton, &mut station.pass);

@@ -10,7 +10,6 @@ use crate::timing_gate::TimingGate;
 use crate::watch::Watch;
 use anyhow::Result;
 use coop_outside::Bytes;
-use cscan::Gate;
 use std::alloc::Global;
 use std::rt::Clock;
 use std::sync::{Condvar, Mutex, Wait};
@@ -106,7 +105,6 @@ impl<C: Clock + Drop> Plain<'_, C> {
         let Some(query) = self.queries.get(place) else {
             return true;
         };
-        let worker = u32::try_from(stream).unwrap_or(u32::MAX);
         let number = u32::try_from(place).unwrap_or(u32::MAX).saturating_add(1);
         let scan = OrderedScan::over(query, self.experiment.chunk_rows);
         self.pool.lock(rt).begin(stream, scan, self.attaches);
@@ -114,7 +112,7 @@ impl<C: Clock + Drop> Plain<'_, C> {
             let Some(chunk) = self.take(rt, stream) else {
                 return false;
             };
-            self.gate.holding(rt, worker, number, chunk);
+            self.gate.work_for(rt, number);
             self.pool.lock(rt).release(chunk);
         }
         self.pool.lock(rt).end(stream);

@@ -6,7 +6,7 @@ use crate::kind::Kind;
 use crate::permits::Permits;
 use crate::range_query::RangeQuery;
 use crate::watch::Watch;
-use cscan::Gate;
+use cscan::{Delivery, Gate};
 use std::alloc::{AllocError, Global};
 use std::rt::Clock;
 use std::sync::Wait;
@@ -102,6 +102,16 @@ impl<C: Clock + Drop> TimingGate<C> {
         }
     }
 
+    /// A query has a chunk: it sleeps and works as it is to, and its time is noted. Queries count from 1.
+    pub(crate) fn work_for<R: Wait>(&self, rt: &R, query: u32) {
+        let place = (query as usize).wrapping_sub(1);
+        if let Some(mark) = self.marks.get(place) {
+            self.watch.sleep(mark.late);
+            self.work(rt, mark.work);
+            mark.last.store(self.watch.micros(), Ordering::SeqCst);
+        }
+    }
+
     /// When each query had its last chunk, in microseconds of the watch; 0 for one that had none.
     pub(crate) fn ends(&self, alloc: Global) -> Result<Vec<u64>, AllocError>
         ensures each { IfOk result (λ ends. vec_len ends ≡ vec_len self.now.marks) }
@@ -115,12 +125,12 @@ impl<C: Clock + Drop> TimingGate<C> {
 }
 
 impl<C: Clock + Drop> Gate for TimingGate<C> {
-    fn holding<R: Wait>(&self, rt: &R, _worker: u32, query: u32, _chunk: u32) {
-        let place = (query as usize).wrapping_sub(1);
-        if let Some(mark) = self.marks.get(place) {
-            self.watch.sleep(mark.late);
-            self.work(rt, mark.work);
-            mark.last.store(self.watch.micros(), Ordering::SeqCst);
-        }
+    type Called = Delivery;
+
+    ghost delivery_of = { λ delivery. delivery };
+
+    fn holding<R: Wait>(&self, rt: &R, delivery: Delivery) -> Delivery {
+        self.work_for(rt, delivery.query());
+        delivery
     }
 }

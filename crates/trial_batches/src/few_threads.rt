@@ -5,7 +5,7 @@ use crate::stress::TABLE;
 use crate::wanted::{Wanted, are_wanted};
 use batch_run::{BatchEnd, Options};
 use coop_outside::MemDepot;
-use cscan::Gate;
+use cscan::{Delivery, Gate};
 use piece_format::Layout;
 use relevance::Relevance;
 use scan_story::Entry;
@@ -50,8 +50,13 @@ const ANSWERS: &[Wanted] = &[
 struct Yielding;
 
 impl Gate for Yielding {
-    fn holding<R: Wait>(&self, _rt: &R, _worker: u32, _query: u32, _chunk: u32) {
+    type Called = Delivery;
+
+    ghost delivery_of = { λ delivery. delivery };
+
+    fn holding<R: Wait>(&self, _rt: &R, delivery: Delivery) -> Delivery {
         thread::yield_now();
+        delivery
     }
 }
 

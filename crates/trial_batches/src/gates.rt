@@ -3,7 +3,7 @@ use crate::batches::{COUNT, run};
 use crate::wanted::{Wanted, are_wanted};
 use batch_run::{BatchEnd, Options};
 use coop_outside::MemDepot;
-use cscan::Gate;
+use cscan::{Delivery, Gate};
 use help_stories::tables::SIX_ROWS;
 use piece_format::Layout;
 use scan_story::Entry;
@@ -82,15 +82,20 @@ impl HandOverHand {
 }
 
 impl Gate for HandOverHand {
-    fn holding<R: Wait>(&self, rt: &R, worker: u32, query: u32, chunk: u32) {
-        let call = (worker, query, chunk);
-        if worker == 0 {
+    type Called = Delivery;
+
+    ghost delivery_of = { λ delivery. delivery };
+
+    fn holding<R: Wait>(&self, rt: &R, delivery: Delivery) -> Delivery {
+        let call = (delivery.worker(), delivery.query(), delivery.chunk());
+        if delivery.worker() == 0 {
             let count = self.first.note(rt, call);
             self.await_calls(&self.second, count.saturating_add(1).min(CHUNKS));
         } else {
             let count = self.second.note(rt, call);
             self.await_calls(&self.first, count.min(CHUNKS));
         }
+        delivery
     }
 }
 

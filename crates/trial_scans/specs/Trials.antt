@@ -9,6 +9,7 @@ use Rattle.scan_story.specs.declared.setting.PolicyName.{PolicyName}
 use Rattle.scan_story.specs.declared.setting.Setting.{Setting}
 use Rattle.cscan.specs.declared.scan.CScan.{CScan}
 use Rattle.cscan.specs.declared.station.Station.{Station}
+use Rattle.cscan.specs.Answers.{delivery_to}
 use Rattle.cscan.specs.Scans.{IsOver, IsScan}
 use Rattle.cscan.specs.Stations.{IsSeated}
 use Rattle.trial_scans.specs.declared.at.At.{At}
@@ -29,13 +30,15 @@ module _ {S C P D : Type 0} where
   abbrev pub IsFresh : TableId → PoolView → Start → ℕ → Station S C P D → Type 0
   IsFresh id pool o n s = IsSeated id pool o [] s × (s.number ≡ n) × (s.pass.seen ≡ [])
 
+module _ {S C P D T K : Type 0} where
   -- a scan between two steps: under way with nothing out or with a chunk out, or over
-  abbrev pub StandsAt : Start → Told → CScan S C P D → At → Type 0
+  abbrev pub StandsAt : Start → Told → CScan S C P D T K → At → Type 0
   StandsAt o told scan at.Ready = IsScan o told scan × (scan.out ≡ None)
-  StandsAt o told scan (at.Holds held) = IsScan o told scan × (scan.out ≡ Some held.given)
+  StandsAt o told scan (at.Holds held delivery) = IsScan o told scan × (scan.out ≡ Some held.given)
+      × (delivery ≡ delivery_to scan.station.now.number scan.query held.given.chunk)
   StandsAt o told scan at.Over = IsOver o scan.baton.now scan.pool.now scan.query scan.station.now
 
   -- a scan that is said to go on or not is under way with nothing out, or over
-  abbrev pub MayGoOn : Start → Told → Bool → CScan S C P D → Type 0
+  abbrev pub MayGoOn : Start → Told → Bool → CScan S C P D T K → Type 0
   MayGoOn o told true scan = StandsAt o told scan at.Ready
   MayGoOn o told false scan = StandsAt o told scan at.Over

@@ -19,7 +19,7 @@ use crate::steps::{end, let_go, step};
 use abm_policy::Desk;
 use baton::Baton;
 use coop_outside::{Depot, SpoiltDepot};
-use cscan::{CScan, Station};
+use cscan::{CScan, NoGate, Station};
 use frame_pool::{Content, Pool};
 use piece_format::{Shape, frame_words};
 use relevance::Policy;
@@ -32,8 +32,8 @@ use table_core::{Cell, ColumnSet};
 // The turns of two scans, and where each stands after them.
 fn play<S: Origin, C: Content, P: Policy, D: Depot, R: Wait>(
     rt: &R,
-    first: &mut CScan<'_, S, C, P, D>,
-    second: &mut CScan<'_, S, C, P, D>,
+    first: &mut CScan<'_, S, C, P, D, NoGate>,
+    second: &mut CScan<'_, S, C, P, D, NoGate>,
     turns: &[u32],
     columns: (&ColumnSet, &ColumnSet),
     cells: &mut [Cell],
@@ -64,8 +64,8 @@ fn play<S: Origin, C: Content, P: Policy, D: Depot, R: Wait>(
 // The turns of two scans, after which nothing is out; whether each is still under way.
 fn play_out<S: Origin, C: Content, P: Policy, D: Depot, R: Wait>(
     rt: &R,
-    first: &mut CScan<'_, S, C, P, D>,
-    second: &mut CScan<'_, S, C, P, D>,
+    first: &mut CScan<'_, S, C, P, D, NoGate>,
+    second: &mut CScan<'_, S, C, P, D, NoGate>,
     turns: &[u32],
     columns: (&ColumnSet, &ColumnSet),
     cells: &mut [Cell],

@@ -6,7 +6,7 @@ ghost use Rattle.cscan.specs.Scans.{IsScan};
 
 use crate::notes::Notes;
 use coop_outside::Depot;
-use cscan::{CScan, Held};
+use cscan::{CScan, Held, NoGate};
 use frame_pool::Content;
 use relevance::Policy;
 use row_blocks::Block;
@@ -15,7 +15,7 @@ use table_core::{Cell, ColumnSet};
 
 // Reads the cells of a row again, one by one, and notes where one is another than in the row.
 fn read_again<S: Origin, C: Content, P: Policy, D: Depot>(
-    scan: &mut CScan<'_, S, C, P, D>,
+    scan: &mut CScan<'_, S, C, P, D, NoGate>,
     held: &Held,
     row: u32,
     columns: &ColumnSet,
@@ -50,7 +50,7 @@ fn compare(block: &Block, i: u32, cells: &[Cell], notes: &mut Notes)
 
 // Reads up to 64 rows of the chunk: at once as a block, and then each for these columns and cell by cell.
 fn read_block<S: Origin, C: Content, P: Policy, D: Depot>(
-    scan: &mut CScan<'_, S, C, P, D>,
+    scan: &mut CScan<'_, S, C, P, D, NoGate>,
     held: &Held,
     first: u32,
     columns: &ColumnSet,
@@ -78,7 +78,7 @@ fn read_block<S: Origin, C: Content, P: Policy, D: Depot>(
 
 /// Reads the rows of the chunk that the scan has out: as blocks, each for these columns at once, and then cell by cell.
 pub(crate) fn read_rows<S: Origin, C: Content, P: Policy, D: Depot>(
-    scan: &mut CScan<'_, S, C, P, D>,
+    scan: &mut CScan<'_, S, C, P, D, NoGate>,
     held: &Held,
     columns: &ColumnSet,
     cells: &mut [Cell],

@@ -19,7 +19,7 @@ use crate::steps::{end, let_go, step};
 use abm_policy::Desk;
 use baton::Baton;
 use coop_outside::{Depot, SpoiltDepot};
-use cscan::{CScan, Station};
+use cscan::{CScan, NoGate, Station};
 use frame_pool::{Content, Pool};
 use piece_format::{Shape, frame_words};
 use relevance::Policy;
@@ -32,7 +32,7 @@ use table_core::{Cell, ColumnSet};
 // So many steps of a scan.
 fn play<S: Origin, C: Content, P: Policy, D: Depot, R: Wait>(
     rt: &R,
-    scan: &mut CScan<'_, S, C, P, D>,
+    scan: &mut CScan<'_, S, C, P, D, NoGate>,
     steps: u32,
     columns: &ColumnSet,
     cells: &mut [Cell],
@@ -54,7 +54,7 @@ fn play<S: Origin, C: Content, P: Policy, D: Depot, R: Wait>(
 // So many steps of a scan, after which nothing is out; whether it is still under way.
 fn play_out<S: Origin, C: Content, P: Policy, D: Depot, R: Wait>(
     rt: &R,
-    scan: &mut CScan<'_, S, C, P, D>,
+    scan: &mut CScan<'_, S, C, P, D, NoGate>,
     steps: u32,
     columns: &ColumnSet,
     cells: &mut [Cell],

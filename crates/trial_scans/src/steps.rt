@@ -8,7 +8,7 @@ use crate::at::At;
 use crate::notes::{Notes, Saw};
 use crate::reading::read_rows;
 use coop_outside::Depot;
-use cscan::{CScan, Next};
+use cscan::{CScan, Gate, Next, NoGate};
 use frame_pool::Content;
 use relevance::Policy;
 use scan_story::Origin;
@@ -18,7 +18,7 @@ use table_core::{Cell, ColumnSet};
 // Takes the next chunk, or comes to the end.
 fn take<S: Origin, C: Content, P: Policy, D: Depot, R: Wait>(
     rt: &R,
-    scan: &mut CScan<'_, S, C, P, D>,
+    scan: &mut CScan<'_, S, C, P, D, NoGate>,
     worker: u32,
     notes: &mut Notes,
 ) -> At
@@ -27,13 +27,13 @@ fn take<S: Origin, C: Content, P: Policy, D: Depot, R: Wait>(
     ensures at { StandsAt S.origin C.pieces scan.new result }
 {
     match scan.next(rt) {
-        Next::Chunk(held) => {
+        Next::Chunk(held, delivery) => {
             notes.note(Saw::Took {
                 worker,
                 chunk: held.chunk(),
                 rows: held.rows(),
             });
-            At::Holds(held)
+            At::Holds(held, delivery)
         }
         Next::Done => {
             notes.note(Saw::Done { worker });
@@ -49,7 +49,7 @@ fn take<S: Origin, C: Content, P: Policy, D: Depot, R: Wait>(
 /// The next step of a scan: with a chunk out it reads and releases that, and else it takes the next one.
 pub(crate) fn step<S: Origin, C: Content, P: Policy, D: Depot, R: Wait>(
     rt: &R,
-    scan: &mut CScan<'_, S, C, P, D>,
+    scan: &mut CScan<'_, S, C, P, D, NoGate>,
     at: At,
     worker: u32,
     columns: &ColumnSet,
@@ -65,9 +65,10 @@ pub(crate) fn step<S: Origin, C: Content, P: Policy, D: Depot, R: Wait>(
 {
     match at {
         At::Ready => take(rt, scan, worker, notes),
-        At::Holds(held) => {
+        At::Holds(held, delivery) => {
             read_rows(scan, &held, columns, cells, notes);
-            held.release(rt, scan);
+            let called = NoGate.holding(rt, delivery);
+            held.release(rt, scan, called);
             notes.note(Saw::Released { worker });
             At::Ready
         }
@@ -78,7 +79,7 @@ pub(crate) fn step<S: Origin, C: Content, P: Policy, D: Depot, R: Wait>(
 /// Lets the chunk go that is out, if any, and says whether the scan is still under way.
 pub(crate) fn let_go<S: Origin, C: Content, P: Policy, D: Depot, R: Wait>(
     rt: &R,
-    scan: &mut CScan<'_, S, C, P, D>,
+    scan: &mut CScan<'_, S, C, P, D, NoGate>,
     at: At,
     worker: u32,
     notes: &mut Notes,
@@ -89,8 +90,9 @@ pub(crate) fn let_go<S: Origin, C: Content, P: Policy, D: Depot, R: Wait>(
 {
     match at {
         At::Ready => true,
-        At::Holds(held) => {
-            held.release(rt, scan);
+        At::Holds(held, delivery) => {
+            let called = NoGate.holding(rt, delivery);
+            held.release(rt, scan, called);
             notes.note(Saw::Released { worker });
             true
         }
@@ -101,7 +103,7 @@ pub(crate) fn let_go<S: Origin, C: Content, P: Policy, D: Depot, R: Wait>(
 /// Stops the scan where it is still under way.
 pub(crate) fn end<S: Origin, C: Content, P: Policy, D: Depot, R: Wait>(
     rt: &R,
-    scan: CScan<'_, S, C, P, D>,
+    scan: CScan<'_, S, C, P, D, NoGate>,
     going: bool,
     worker: u32,
     notes: &mut Notes,

@@ -3,7 +3,7 @@ ghost use Rattle.std.specs.Prelude.{◌≡◌, ◌≤◌, ◌^◌};
 
 use super::{COUNT_TWICE, run_beside};
 use coop_outside::{Depot, DepotFault, Failed, MemDepot};
-use cscan::Gate;
+use cscan::{Delivery, Gate};
 use help_stories::tables::TABLE_A;
 use std::alloc::Global;
 use std::random::RandomSource;
@@ -56,14 +56,19 @@ struct BothHold {
 }
 
 impl Gate for BothHold {
-    fn holding<R: Wait>(&self, _rt: &R, worker: u32, _query: u32, _chunk: u32) {
-        if worker > 0 {
+    type Called = Delivery;
+
+    ghost delivery_of = { λ delivery. delivery };
+
+    fn holding<R: Wait>(&self, _rt: &R, delivery: Delivery) -> Delivery {
+        if delivery.worker() > 0 {
             self.second.fetch_add(1, Ordering::SeqCst);
-            return;
+            return delivery;
         }
         if self.first.fetch_add(1, Ordering::SeqCst) == 0 && await_flag(&self.second) {
             self.met.fetch_add(1, Ordering::SeqCst);
         }
+        delivery
     }
 }
 
@@ -99,13 +104,18 @@ struct HoldsSecond<'a> {
 }
 
 impl Gate for HoldsSecond<'_> {
-    fn holding<R: Wait>(&self, _rt: &R, _worker: u32, query: u32, _chunk: u32) {
-        if query == 4 {
+    type Called = Delivery;
+
+    ghost delivery_of = { λ delivery. delivery };
+
+    fn holding<R: Wait>(&self, _rt: &R, delivery: Delivery) -> Delivery {
+        if delivery.query() == 4 {
             self.signs.fourth.fetch_add(1, Ordering::SeqCst);
         }
-        if query == 2 && !await_flag(&self.signs.begun) {
+        if delivery.query() == 2 && !await_flag(&self.signs.begun) {
             self.signs.late.fetch_add(1, Ordering::SeqCst);
         }
+        delivery
     }
 }
 

@@ -1,6 +1,6 @@
 // A gate at which one query works long on each chunk.
 
-use cscan::Gate;
+use cscan::{Delivery, Gate};
 use std::rt::Clock;
 use std::sync::Wait;
 use std::sync::atomic::{AtomicU64, Ordering};
@@ -37,13 +37,18 @@ impl<C: Clock + Drop> SlowGate<C> {
 }
 
 impl<C: Clock + Drop> Gate for SlowGate<C> {
-    fn holding<R: Wait>(&self, _rt: &R, _worker: u32, query: u32, _chunk: u32) {
-        if query != self.slow_query {
+    type Called = Delivery;
+
+    ghost delivery_of = { λ delivery. delivery };
+
+    fn holding<R: Wait>(&self, _rt: &R, delivery: Delivery) -> Delivery {
+        if delivery.query() != self.slow_query {
             self.others.fetch_add(1, Ordering::SeqCst);
-            return;
+            return delivery;
         }
         thread::sleep(&self.clock, Duration::from_micros(u64::from(self.slow_us)));
         let others = self.others.load(Ordering::SeqCst);
         self.others_at_last.store(others, Ordering::SeqCst);
+        delivery
     }
 }

@@ -11,6 +11,6 @@ invariant-loop g l = record {
   scan : IsScan g.S.Origin.origin g.C.Content.pieces l.scan;
   none : l.scan.out ≡ None;
   same : IsSameScan l.fn.scan l.scan;
-  went : WentFor l.query l.fn.scan.station.now.pass l.scan.station.now.pass;
-  gathered : Gathered l.shape l.plan g.S.Origin.origin.held g.C.Content.pieces (chunks_delivered l.scan.station.now.pass.mine l.query) l.partial;
+  went : WentFor l.fn.scan.query l.fn.scan.station.now.pass l.scan.station.now.pass;
+  gathered : Gathered l.shape l.plan g.S.Origin.origin.held g.C.Content.pieces (chunks_delivered l.scan.station.now.pass.mine l.fn.scan.query) l.partial;
 }

@@ -1,4 +1,5 @@
-use Rattle.std.proofs.Common.{rules, refl, ◌∙◌}
+use Rattle.std.proofs.Common.{ℕ, rules, refl, sym, subst, ◌∙◌}
+use Rattle.batch_run.specs.Parts.{ReadsPlan, WentFor}
 use Rattle.batch_run.proofs.Resting.{delivers_same, none_yet, over_same, ran_begun, ran_on, ran_stopped, scan_came, stopped_over}
 use Rattle.batch_run.proofs.scanning.run_scan.Goals as goal
 
@@ -12,6 +13,11 @@ returns-in_default-clause-ran g c =
     let made = c.begin-scan.ensures in
     let begun = ran_begun _ _ _ _ made.went in
     search (rules, ran_stopped _ _ _ _ _ _ _ made.query begun c.stop.ensures.cause)
+
+-- what the scan reads is what the plan reads
+pub scan_part-requires-clause-columns : goal.scan_part-requires-clause-columns
+scan_part-requires-clause-columns g c κs within =
+    subst (λ (q : ℕ). ReadsPlan g.S.Origin.origin.setting q c.args.job.now.plan.now) (sym c.begin-scan.ensures.query) c.requires.job.reads
 
 pub scan_part-requires-clause-just_begun : goal.scan_part-requires-clause-just_begun
 scan_part-requires-clause-just_begun g c κs within =
@@ -28,7 +34,8 @@ returns-in-Ok-scan_part-clause-over g c =
 pub returns-in-Ok-scan_part-clause-ran : goal.returns-in-Ok-scan_part-clause-ran
 returns-in-Ok-scan_part-clause-ran g c =
     let made = c.begin-scan.ensures in
-    search (rules, ran_on _ _ _ _ (ran_begun _ _ _ _ made.went) c.scan_part.ensures.went)
+    let went = subst (λ (q : ℕ). WentFor q c.begin-scan.result.station.now.pass c.scan_part.new.scan.station.now.pass) made.query c.scan_part.ensures.went in
+    search (rules, ran_on _ _ _ _ (ran_begun _ _ _ _ made.went) went)
 
 pub returns-in-Ok-scan_part-clause-came : goal.returns-in-Ok-scan_part-clause-came
 returns-in-Ok-scan_part-clause-came g c =
@@ -47,7 +54,8 @@ returns-in-Err-Stopped-clause-over g c =
 pub returns-in-Err-Stopped-clause-ran : goal.returns-in-Err-Stopped-clause-ran
 returns-in-Err-Stopped-clause-ran g c =
     let made = c.begin-scan.ensures in
-    search (rules, ran_on _ _ _ _ (ran_begun _ _ _ _ made.went) c.scan_part.ensures.went)
+    let went = subst (λ (q : ℕ). WentFor q c.begin-scan.result.station.now.pass c.scan_part.new.scan.station.now.pass) made.query c.scan_part.ensures.went in
+    search (rules, ran_on _ _ _ _ (ran_begun _ _ _ _ made.went) went)
 
 pub returns-in-Err-Memory-clause-over : goal.returns-in-Err-Memory-clause-over
 returns-in-Err-Memory-clause-over g c =
@@ -59,5 +67,6 @@ pub returns-in-Err-Memory-clause-ran : goal.returns-in-Err-Memory-clause-ran
 returns-in-Err-Memory-clause-ran g c =
     let made = c.begin-scan.ensures in
     let same = c.scan_part.ensures.same in
-    let on = ran_on _ _ _ _ (ran_begun _ _ _ _ made.went) c.scan_part.ensures.went in
+    let went = subst (λ (q : ℕ). WentFor q c.begin-scan.result.station.now.pass c.scan_part.new.scan.station.now.pass) made.query c.scan_part.ensures.went in
+    let on = ran_on _ _ _ _ (ran_begun _ _ _ _ made.went) went in
     search (rules, ran_stopped _ _ _ _ _ _ _ (same.query ∙ made.query) on c.stop-in-Err-Memory.ensures.cause)

@@ -1,4 +1,4 @@
-use Rattle.std.proofs.Common.{ℕ, Option, Some, sym, ap, subst}
+use Rattle.std.proofs.Common.{ℕ, Option, Some, refl, sym, ap, subst}
 use Rattle.scan_story.specs.Views.{past}
 use Rattle.frame_rows.specs.declared.given.Given.{Given}
 use Rattle.cscan.specs.Scans.{IsAt, IsAtRest, IsGiven, slots_out}
@@ -33,6 +33,7 @@ returns-in-Took-clause-answer g c =
         given = subst (λ (x : Given). IsGiven s c.args.self.now.shape.now h q x) same r.3;
       },
       r.0,
+      refl,
     )
 
 pub returns-in-Done-clause-answer : goal.returns-in-Done-clause-answer
