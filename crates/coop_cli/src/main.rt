@@ -1,19 +1,13 @@
-//! `coop_cli TABLE BATCH`: answers a batch of statements over a table. docs/COMMAND_LINE.md is its manual. `run_on`
-//! hands `run_with_four` the words, the files of the system and standard output, and that hands them to `run_boxed` of
-//! coop_run with the four policies that there are; the theorem is `run_boxed`'s.
+//! `coop_cli TABLE BATCH`: answers a batch of statements over a table. docs/COMMAND_LINE.md is its manual. `main`
+//! hands `run_boxed` of coop_run the words, the four policies that there are, the files of the system and standard
+//! output; the theorem is `run_boxed`'s.
 #![tactic(auto)]
 
-ghost use Rattle.std.specs.Prelude.{◌≡◌, ◌≤◌, ◌^◌, IfErr, IfOk};
-ghost use Rattle.command_words.specs.declared.call.Call.TheVariants.{RunBoxed};
-ghost use Rattle.run_inputs.specs.Asked.{asked_of};
-ghost use Rattle.run_ends.specs.Boxed.{KeepsPromisesOn};
-ghost use Rattle.run_ends.specs.Jobs.{job_of};
-ghost use Rattle.run_ends.specs.OverDevices.{devices};
-ghost use Rattle.run_ends.specs.Runs.{did_runs};
-ghost use Rattle.coop_cli.specs.Four.{four_policies};
+ghost use Rattle.std.specs.Prelude.{◌≤◌, ◌^◌};
+ghost use Rattle.coop_outside.specs.Either.{any_gets};
 
 use command_words::{all_words, behind_name};
-use coop_outside::{Depot, DiskShelf, Shelf, Sink, StdoutSink};
+use coop_outside::{AnyDepot, DiskShelf, StdoutSink};
 pub use coop_run::{BoxedEnd, Ended, PolicyRun, Settings, run, run_boxed, run_settings};
 use cscan::NoGate;
 use policy_box::Elevator;
@@ -28,22 +22,16 @@ use std::process::ExitCode;
 use std::sync::Wait;
 use std::thread::Threads;
 
-// Does what `run_boxed` does for these words, over these devices, with the four policies: relevance, elevator, normal
-// and attach, in this order. The error is that memory ran out for a box of a policy; then nothing was read or written.
-fn run_with_four<F: Shelf, D: Depot + Send, O: Sink, R: AllocGlobal + Threads + Wait + Sync>(
-    rt: &R,
+// Runs the program with the four policies, and answers its status; or memory ran out for a box.
+fn run_with_four<R: Threads + Wait + Sync>(
+    handle: &R,
+    rt: HostRuntime,
     keys: RandomState,
     words: &[String],
-    shelf: &mut F,
-    depot: D,
-    out: &mut O,
-) -> Result<BoxedEnd<D>, AllocError>
-    requires gets { D.gets depot ≤ 2 ^ 62 }
-    ensures promises { IfOk result (λ ended. KeepsPromisesOn
-        (job_of four_policies (asked_of RunBoxed words.now))
-        (devices F.Shelf shelf.old shelf.new D.Depot depot ended.depot O.Sink out.old out.new)
-        (did_runs ended.status ended.runs.items)) }
-    ensures nothing { IfErr result (λ _. (shelf.new ≡ shelf.old) × (out.new ≡ out.old)) }
+    depot: AnyDepot<HostRuntime>,
+    out: &mut StdoutSink<HostRuntime>,
+) -> Result<u8, AllocError>
+    requires gets { any_gets depot ≤ 2 ^ 62 }
 {
     let alloc = rt.alloc();
     let relevance: Box<dyn Policy + Send> = Box::new(alloc, Relevance)?;
@@ -51,11 +39,15 @@ fn run_with_four<F: Shelf, D: Depot + Send, O: Sink, R: AllocGlobal + Threads + 
     let normal: Box<dyn Policy + Send> = Box::new(alloc, Normal::new())?;
     let attach: Box<dyn Policy + Send> = Box::new(alloc, Attach::new())?;
     let policies = vec![in alloc; relevance, elevator, normal, attach]?;
-    Ok(run_boxed(rt, alloc, keys, words, shelf, depot, policies, &NoGate, out))
+    let mut shelf = DiskShelf::new(rt);
+    let ended = run_boxed(
+        handle, alloc, keys, words, &mut shelf, depot, policies, &NoGate, out,
+    );
+    Ok(ended.status)
 }
 
 // Runs the program over the devices of the system, and answers its status.
-fn run_on<R: AllocGlobal + Threads + Wait + Sync>(
+fn run_on<R: Threads + Wait + Sync>(
     handle: &R,
     rt: HostRuntime,
     out: &mut StdoutSink<HostRuntime>,
@@ -69,10 +61,8 @@ fn run_on<R: AllocGlobal + Threads + Wait + Sync>(
         Ok(keys) => keys,
         Err(error) => return Err(stop_of(error)),
     };
-    let mut shelf = DiskShelf::new(rt);
     let depot = depot_of(rt.alloc(), rt, words)?;
-    let ended = run_with_four(handle, keys, words, &mut shelf, depot, out)?;
-    Ok(ended.status)
+    Ok(run_with_four(handle, rt, keys, words, depot, out)?)
 }
 
 fn main(rt: HostRuntime) -> ExitCode {
