@@ -10,6 +10,9 @@ use std::time::Duration;
 // The microseconds of a sleep for others, for each of them that has a chunk to take.
 const FOR_EACH: u32 = 300;
 
+// The least of it, since on a busy machine the one that lags may have no processor for a while.
+const FOR_OTHERS: u32 = 1_200;
+
 // The microseconds after which a sleep for a load ends, whether or not it was rung for.
 const FOR_LOAD: u32 = 10_000;
 
@@ -43,7 +46,7 @@ impl Pause {
     {
         Pause::Sleep {
             rings: bell.lie_down(worker, query),
-            most: others * FOR_EACH,
+            most: (others * FOR_EACH).max(FOR_OTHERS),
         }
     }
 }
