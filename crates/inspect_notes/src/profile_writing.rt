@@ -1,6 +1,7 @@
 // The lines of a profile.
-ghost use Rattle.std.specs.Prelude.{◌≡◌, ◌≤◌, ◌<◌, ◌++◌, ℕ, All, IfOk, IfSome, OnOk, length, slice_index_or};
+ghost use Rattle.std.specs.Prelude.{◌≡◌, ◌≤◌, ◌<◌, ◌++◌, ℕ, All, IfOk, IfSome, OnErr, OnOk, length, slice_index_or};
 ghost use Rattle.table_core.specs.Value.{IsCellOf, places_of};
+ghost use Rattle.table_core.specs.Writing.{GrewByPrefix};
 ghost use Rattle.table_sets.specs.declared.limits.TheConstants.{MOST_COLUMNS, MOST_ROWS};
 ghost use Rattle.inspect_notes.specs.Written.{AreWritable, IsReadable, IsReasonOf};
 ghost use Rattle.inspect_notes.specs.declared.profile.ColumnProfile.{ColumnProfile};
@@ -16,9 +17,12 @@ use table_core::{
     Bytes, Cell, Column, Dict, Kind, Memory, write_number, write_quoted, write_value,
 };
 
-/// Puts a name in double quotes at the end, each double quote inside doubled. Out of memory may leave a part of it.
+/// Puts a name in double quotes at the end, each double quote inside doubled.
+///
+/// Out of memory leaves what was there and a prefix of it.
 pub fn write_name(out: &mut Bytes, name: &[u8]) -> Result<(), Memory>
-    ensures { OnOk result (out.new ≡ out.old ++ name_text name.now) }
+    ensures text { OnOk result (out.new ≡ out.old ++ name_text name.now) }
+    ensures memory { OnErr result (GrewByPrefix out.old out.new (name_text name.now)) }
 {
     out.append(b"\"")?;
     for byte in name {

@@ -1,6 +1,7 @@
 // The line of a policy's run.
-ghost use Rattle.std.specs.Prelude.{◌≡◌, ◌<◌, ◌++◌, ◌^◌, OnOk, length};
+ghost use Rattle.std.specs.Prelude.{◌≡◌, ◌<◌, ◌++◌, ◌^◌, OnErr, OnOk, length};
 ghost use Rattle.scan_story.specs.Views.{past};
+ghost use Rattle.table_core.specs.Writing.{GrewByPrefix};
 ghost use Rattle.run_ends.specs.Lines.{AreSmall, counted, name_text};
 
 use crate::counts::Counts;
@@ -22,10 +23,11 @@ fn name_text(name: PolicyName) -> &'static str
 
 /// Puts the line of a policy's run at the end. The numbers of its scans are below 1024.
 ///
-/// Out of memory, the bytes may have got a part of it.
+/// Out of memory leaves what was there and a prefix of it.
 pub fn write_line(out: &mut Bytes, name: PolicyName, story: &[Entry]) -> Result<(), Memory>
     requires small { AreSmall (past story.now) }
     ensures line { OnOk result (out.new ≡ out.old ++ counted name (past story.now)) }
+    ensures memory { OnErr result (GrewByPrefix out.old out.new (counted name (past story.now))) }
 {
     let counts = Counts::of(story);
     write_policy_line(
