@@ -15,6 +15,8 @@ mod reading;
 #[cfg(test)]
 mod real_devices;
 #[cfg(test)]
+mod setting_texts;
+#[cfg(test)]
 mod story_texts;
 #[cfg(test)]
 mod tables;

@@ -1,0 +1,5 @@
+pub mod Parts
+pub mod Wording
+pub mod Keeping
+pub mod Same
+pub mod Spelling
