@@ -2,4 +2,4 @@ pub mod Back
 pub mod Choosing
 pub mod Fields
 pub mod Going
-pub mod Worth
+pub mod Spelled

@@ -3,7 +3,7 @@ use Rattle.std.specs.Prelude.{◌≡◌, ◌==◌, ◌&&◌, ◌||◌, ℕ, Bool
 use Rattle.std.specs.Str.{bytes_eq}
 use Rattle.std.specs.Borrow.{Bor}
 use Rattle.csv.specs.Records.{trimmed}
-use Rattle.prepare_rules.specs.Numbers.{number_made}
+use Rattle.prepare_rules.specs.Numbers.{form_of, number_made}
 use Rattle.prepare_rules.specs.Records.{Record}
 use Rattle.prepare_rules.specs.declared.cause.Cause.{Cause}
 use Rattle.prepare_rules.specs.declared.cause.Cause.TheVariants as cause
@@ -21,7 +21,7 @@ bare rules field = if rules.trims then trimmed field else field
 
 -- a field of a column of numbers: a mark for a missing value is left out, and a number is spelled as coop_cli reads it
 abbrev pub number_field : Rules → List ℕ → List ℕ
-number_field rules field = if is_mark rules.missing.now field then [] else number_made rules.mark rules.parts field
+number_field rules field = if is_mark rules.missing.now field then [] else number_made (form_of rules) field
 
 -- WHAT BECOMES OF A FIELD
 abbrev pub field_made : Rules → Bool → List ℕ → List ℕ

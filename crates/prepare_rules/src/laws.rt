@@ -8,8 +8,8 @@ pub fn written_records_are_read_back()
     ensures { ReadsBack }
 {}
 
-/// A number that a rule spells anew has the value that it had: below zero or not, the same digits, and as many of them behind
-/// the mark.
+/// A number that a rule spells anew has the value that it had: below zero or not, and its digits as a whole number,
+/// times ten so often and a tenth so often.
 pub fn numbers_keep_their_value()
     ensures { KeepsWorth }
 {}

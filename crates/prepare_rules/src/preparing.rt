@@ -11,6 +11,7 @@ use crate::cause::{Cause, Refusal};
 use crate::columns::{Plan, picks_of};
 use crate::failure::Failure;
 use crate::names::{counted_names, make_names};
+use crate::room::Room;
 use crate::row::make_row;
 use crate::rules::Rules;
 use crate::writing::{finish, put};
@@ -164,9 +165,9 @@ fn copy_from<R: Read, W: Write + Drop>(
         Ok(plan) => plan,
         Err(cause) => return Ok(Some(refused(rules.skip, Some(line), cause))),
     };
-    let mut text = Vec::new(alloc);
+    let mut room = Room::new(alloc);
     let mut made = ByteRecord::new(alloc);
-    if let Some(cause) = make_row(rules, &plan, row, &mut text, &mut made)? {
+    if let Some(cause) = make_row(rules, &plan, row, &mut room, &mut made)? {
         return Ok(Some(refused(rules.skip, Some(line), cause)));
     }
     put(writer, &made)?;
@@ -215,13 +216,13 @@ fn copy_below<R: Read, W: Write + Drop>(
         refusal (text_written W.contents writer.old) (text_written W.contents writer.new)) }
 {
     let mut row = ByteRecord::new(alloc);
-    let mut text = Vec::new(alloc);
+    let mut room = Room::new(alloc);
     let mut made = ByteRecord::new(alloc);
     for done in 0..MOST_RECORDS {
         if !next_record(reader, &mut row)? {
             return Ok(None);
         }
-        if let Some(cause) = make_row(rules, plan, &row, &mut text, &mut made)? {
+        if let Some(cause) = make_row(rules, plan, &row, &mut room, &mut made)? {
             return Ok(Some(Refusal {
                 number: first + done,
                 line: Some(reader.line()),

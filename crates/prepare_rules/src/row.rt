@@ -1,15 +1,17 @@
 // What the rules make of a field and of a record.
-ghost use Rattle.std.specs.Prelude.{◌≡◌, ◌++◌, ◌∷◌, [], IfOk, OnOk};
+ghost use Rattle.std.specs.Prelude.{◌≡◌, ◌++◌, ◌∷◌, [], IfOk, Ok, OnOk, false, true};
 ghost use Rattle.csv.specs.Records.{fields_of, partial_of};
 ghost use Rattle.prepare_rules.specs.Made.{IsMade, bare, field_made, fields_made, is_mark, is_taken, number_field, row_made};
+ghost use Rattle.prepare_rules.specs.Numbers.{number_made};
 
 use crate::cause::Cause;
 use crate::columns::{Pick, Plan};
 use crate::field::field_or_none;
-use crate::number::{push_plain, spells};
+use crate::room::Room;
 use crate::rules::Rules;
 use crate::trimming::trimmed;
 use csv::ByteRecord;
+use prepare_numbers::{Form, push_number, spelling_of};
 use std::alloc::AllocError;
 
 /// Makes the record that is written of one that was read below so many names, in memory that is used again, or tells why it is
@@ -18,7 +20,7 @@ pub(crate) fn make_row(
     rules: &Rules<'_>,
     plan: &Plan,
     row: &ByteRecord,
-    text: &mut Vec<u8>,
+    room: &mut Room,
     made: &mut ByteRecord,
 ) -> Result<Option<Cause>, AllocError>
     ensures { IfOk result (λ refused. IsMade (row_made rules.now plan.now.names plan.now.picks.items (fields_of row.now)) refused (fields_of made.new)) }
@@ -29,7 +31,7 @@ pub(crate) fn make_row(
             names: plan.names,
         }));
     }
-    push_fields(rules, plan.picks.as_slice(), row, text, made)?;
+    push_fields(rules, plan.picks.as_slice(), row, room, made)?;
     Ok(None)
 }
 
@@ -47,7 +49,7 @@ fn push_fields(
     rules: &Rules<'_>,
     picks: &[Pick],
     row: &ByteRecord,
-    text: &mut Vec<u8>,
+    room: &mut Room,
     made: &mut ByteRecord,
 ) -> Result<(), AllocError>
     ensures { OnOk result (fields_of made.new ≡ fields_made rules.now picks.now (fields_of row.now)) }
@@ -55,7 +57,7 @@ fn push_fields(
     made.clear();
     for i in 0..picks.len() {
         let field = field_or_none(row, picks[i].place);
-        push_field(rules, picks[i].is_number, field, text, made)?;
+        push_field(rules, picks[i].is_number, field, room, made)?;
     }
     Ok(())
 }
@@ -65,7 +67,7 @@ fn push_field(
     rules: &Rules<'_>,
     is_number: bool,
     field: &[u8],
-    text: &mut Vec<u8>,
+    room: &mut Room,
     made: &mut ByteRecord,
 ) -> Result<(), AllocError>
     requires { partial_of made.old ≡ [] }
@@ -74,16 +76,16 @@ fn push_field(
 {
     let bare = bare(rules, field);
     if is_number {
-        return push_number(rules, bare, text, made);
+        return push_number_field(rules, bare, room, made);
     }
     made.push_field(bare)
 }
 
 // The same of a field of a column of numbers.
-fn push_number(
+fn push_number_field(
     rules: &Rules<'_>,
     field: &[u8],
-    text: &mut Vec<u8>,
+    room: &mut Room,
     made: &mut ByteRecord,
 ) -> Result<(), AllocError>
     requires { partial_of made.old ≡ [] }
@@ -93,12 +95,26 @@ fn push_number(
     if is_mark(rules.missing, field) {
         return made.push_field(&[]);
     }
-    if !spells(rules.mark.byte(), rules.parts, field) {
-        return made.push_field(field);
+    if make_number(rules.form(), field, room)? {
+        return made.push_field(room.text.as_slice());
     }
-    text.clear();
-    push_plain(rules.mark.byte(), field, text)?;
-    made.push_field(text.as_slice())
+    made.push_field(field)
+}
+
+// Makes the number that a field spells in memory that is used again, or tells that it spells none.
+#[tactic(auto, using(crate::proofs::Spelled::made_number))]
+fn make_number(form: Form, field: &[u8], room: &mut Room) -> Result<bool, AllocError>
+    ensures made { result ≡ Ok true → room.new.text.items ≡ number_made form field.now }
+    ensures none { result ≡ Ok false → field.now ≡ number_made form field.now }
+{
+    match spelling_of(form, field) {
+        Some(spelling) => {
+            room.text.clear();
+            push_number(&spelling, &mut room.digits, &mut room.text)?;
+            Ok(true)
+        }
+        None => Ok(false),
+    }
 }
 
 // The field without what stands around it.

@@ -1,6 +1,8 @@
 // The rules as values.
 ghost use Rattle.std.specs.Prelude.{◌≡◌};
-ghost use Rattle.prepare_rules.specs.Numbers.{mark_byte};
+ghost use Rattle.prepare_rules.specs.Numbers.{form_of, mark_byte};
+
+use prepare_numbers::Form;
 
 /// A column of the export.
 #[derive(Clone, Copy, Debug, PartialEq, Eq)]
@@ -53,7 +55,7 @@ pub struct Rules<'a> {
     pub columns: &'a [Column<'a>],
     /// Columns that are written under another name.
     pub renames: &'a [Rename<'a>],
-    /// The columns of numbers, in which marks for missing values and the two rules on numbers act.
+    /// The columns of numbers, in which marks for missing values and the rules on numbers act.
     pub numbers: &'a [Column<'a>],
     /// Marks for missing values: a field of a column of numbers that is one of them becomes empty.
     pub missing: &'a [&'a str],
@@ -61,8 +63,23 @@ pub struct Rules<'a> {
     pub mark: Mark,
     /// The byte that parts the whole digits of the numbers in groups of three, if there is one; it is left out.
     pub parts: Option<u8>,
+    /// A power of ten may stand behind the numbers, as in `1.5e3`; they are written out.
+    pub exponents: bool,
     /// ASCII white space around each field is left out.
     pub trims: bool,
     /// A record with fewer fields than there are names gets empty ones at its end, and isn't refused.
     pub pads: bool,
+}
+
+impl Rules<'_> {
+    // How the numbers are spelled.
+    pub(crate) fn form(&self) -> Form
+        ensures { result ≡ form_of self.now }
+    {
+        Form {
+            mark: self.mark.byte(),
+            parts: self.parts,
+            exponents: self.exponents,
+        }
+    }
 }

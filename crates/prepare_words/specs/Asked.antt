@@ -38,7 +38,8 @@ abbrev pub lone_word : List Row → Option Word
 lone_word rows = if is_there (codes "numbers") rows then None
     else if is_there (codes "missing") rows then Some word.Missing
     else if is_set (codes "decimal-comma") rows then Some word.DecimalComma
-    else if is_there (codes "thousands") rows then Some word.Thousands else None
+    else if is_there (codes "thousands") rows then Some word.Thousands
+    else if is_set (codes "exponents") rows then Some word.Exponents else None
 
 abbrev pub unless_alone : Option Word → Result WritingIs Faulty → Result WritingIs Faulty
 unless_alone (Some w) rest = Err (alone w)
@@ -69,6 +70,7 @@ writing_of rows = do
       missing = values_in (codes "missing") rows;
       mark = mark_of (is_set (codes "decimal-comma") rows);
       parts = parts;
+      exponents = is_set (codes "exponents") rows;
       trims = is_set (codes "trim") rows;
       pads = pads;
     }))

@@ -33,7 +33,7 @@ table_rules = options (codes "columns") ∷ options (codes "rename") ∷ flag (c
 -- what becomes of the fields of numbers
 abbrev pub number_rules : List Rule
 number_rules = options (codes "numbers") ∷ options (codes "missing")
-    ∷ flag (codes "decimal-comma") ∷ option (codes "thousands") ∷ []
+    ∷ flag (codes "decimal-comma") ∷ option (codes "thousands") ∷ flag (codes "exponents") ∷ []
 
 abbrev pub export_place : List Rule
 export_place = place (codes "FILE") ∷ []

@@ -62,6 +62,7 @@ pub record WritingIs : Type 0 where
   pub missing : List Text
   pub mark : Mark
   pub parts : Option ℕ
+  pub exponents : Bool
   pub trims : Bool
   pub pads : Bool
 
@@ -78,6 +79,7 @@ writing_view w = record {
   missing = texts_of w.missing.items;
   mark = w.mark;
   parts = w.parts;
+  exponents = w.exponents;
   trims = w.trims;
   pads = w.pads;
 }
@@ -94,5 +96,6 @@ pub record HasRules (w : Writing) (r : Rules) : Type 0 where
   pub missing : r.missing.now ≡ w.missing.items
   pub mark : r.mark ≡ w.mark
   pub parts : r.parts ≡ w.parts
+  pub exponents : r.exponents ≡ w.exponents
   pub trims : r.trims ≡ w.trims
   pub pads : r.pads ≡ w.pads

@@ -127,6 +127,11 @@ fn with_numbers<'a>(alloc: Global, command: Command<'a>) -> Result<Command<'a>, 
         ),
         flag(alloc, "decimal-comma", "The decimal mark is a comma"),
         option(alloc, "thousands", "BYTE", "The byte that parts thousands"),
+        flag(
+            alloc,
+            "exponents",
+            "A power of ten may stand behind a number, as in 1.5e3: it is written out"
+        ),
     ]?;
     command.args(rules)
 }

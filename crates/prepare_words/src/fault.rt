@@ -17,6 +17,7 @@ pub enum Word {
     Missing,
     DecimalComma,
     Thousands,
+    Exponents,
     Ragged,
     File,
 }
@@ -34,6 +35,7 @@ impl Word {
             Word::Missing => "--missing",
             Word::DecimalComma => "--decimal-comma",
             Word::Thousands => "--thousands",
+            Word::Exponents => "--exponents",
             Word::Ragged => "--ragged",
             Word::File => "FILE",
         }
@@ -52,7 +54,7 @@ impl Word {
             Word::Thousands => "a byte that isn't a digit, the decimal mark or a minus",
             Word::Ragged => "refuse or pad",
             Word::File => "the name of a file",
-            Word::Missing | Word::DecimalComma => "any",
+            Word::Missing | Word::DecimalComma | Word::Exponents => "any",
         }
     }
 }

@@ -28,6 +28,8 @@ pub struct Writing<'a> {
     pub mark: Mark,
     /// The byte that parts the thousands of the numbers.
     pub parts: Option<u8>,
+    /// A power of ten may stand behind the numbers.
+    pub exponents: bool,
     /// White space around fields is left out.
     pub trims: bool,
     /// Short records get empty fields.
@@ -50,6 +52,7 @@ impl Writing<'_> {
             missing: self.missing.as_slice(),
             mark: self.mark,
             parts: self.parts,
+            exponents: self.exponents,
             trims: self.trims,
             pads: self.pads,
         }

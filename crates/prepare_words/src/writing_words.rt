@@ -51,6 +51,7 @@ pub(crate) fn writing_of<'a>(
         missing,
         mark,
         parts,
+        exponents: is_set(found, "exponents"),
         trims: is_set(found, "trim"),
         pads,
     })
@@ -109,6 +110,9 @@ fn lone_word(found: &ArgMatches<'_>) -> Option<Word>
     }
     if is_there(found, "thousands") {
         return Some(Word::Thousands);
+    }
+    if is_set(found, "exponents") {
+        return Some(Word::Exponents);
     }
     None
 }

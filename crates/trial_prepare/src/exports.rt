@@ -15,6 +15,7 @@ pub(crate) const PLAIN: Rules<'static> = Rules {
     missing: &[],
     mark: Mark::Point,
     parts: None,
+    exponents: false,
     trims: false,
     pads: false,
 };
@@ -119,9 +120,29 @@ fn numbers_of_another_country(rt: HostRuntime) {
         &rt,
         rt.alloc(),
         &rules,
-        b"note;pay\n1.234,5;1.234.567,50\nx;-0,5\n;12\n;1234,5\n;1.5\n;12.34\n;1,2,3\n;1,\n;-\n;+4,5\n;1.234.56\n",
-        b"note,pay\n\"1.234,5\",1234567.50\nx,-0.5\n,12\n,1234.5\n,1.5\n,12.34\n,\"1,2,3\"\n,\"1,\"\n,-\n,\"+4,5\"\n,1.234.56\n",
+        b"note;pay\n1.234,5;1.234.567,50\nx;-0,5\n;12\n;1234,5\n;1.5\n;12.34\n;1,2,3\n;1,\n;-\n;+4,5\n;1.234.56\n;0.123\n",
+        b"note,pay\n\"1.234,5\",1234567.50\nx,-0.5\n,12\n,1234.5\n,1.5\n,12.34\n,\"1,2,3\"\n,1\n,-\n,4.5\n,1.234.56\n,0.123\n",
     );
+}
+
+#[test]
+fn numbers_of_other_programs(rt: HostRuntime) {
+    let plain = Rules {
+        numbers: &[Column::Placed(1)],
+        ..PLAIN
+    };
+    let raised = Rules {
+        exponents: true,
+        ..plain
+    };
+    let export = b"x\n.5\n-.50\n5.\n+5\n007\n-0\n-00.0\n.\n+\n--1\n1e\n";
+    let text = b"x\n0.5\n-0.50\n5\n5\n7\n0\n0.0\n.\n+\n--1\n1e\n";
+    expect(&rt, rt.alloc(), &plain, export, text);
+    expect(&rt, rt.alloc(), &raised, export, text);
+    let export = b"x\n1.50e3\n1.50E+1\n-1.5e-3\n0e9\n12e001\n1e0001\n1e1.5\ne5\n1e5e5\n.5e1\n";
+    let text = b"x\n1500\n15.0\n-0.0015\n0\n120\n1e0001\n1e1.5\ne5\n1e5e5\n5\n";
+    expect(&rt, rt.alloc(), &raised, export, text);
+    expect(&rt, rt.alloc(), &plain, export, export);
 }
 
 #[test]

@@ -1,27 +1,28 @@
-// Numbers as exports spell them.
-ghost use Rattle.std.specs.Prelude.{◌≡◌, ◌++◌, OnOk};
-ghost use Rattle.csv.specs.Machine.{is_byte};
-ghost use Rattle.prepare_rules.specs.Numbers.{after_byte, after_digit, after_mark, after_minus, after_part, is_whole, plain, spells};
+// Where a number stands that is read byte by byte.
+ghost use Rattle.std.specs.Prelude.{◌≡◌};
+ghost use Rattle.prepare_numbers.specs.Spells.{after_byte, after_digit, after_mark, after_part, after_sign, after_zero};
+ghost use Rattle.prepare_numbers.specs.Spells.{is_part, is_sign, is_whole};
 
-use std::alloc::AllocError;
-
-/// Where a number stands that is read byte by byte.
+/// Where a number stands that is read byte by byte, without a power of ten.
 #[derive(Clone, Copy, Debug, PartialEq, Eq)]
 pub(crate) enum Place {
     /// Before its first byte.
     Begin,
-    /// Behind its minus.
+    /// Behind its sign.
     Signed,
-    /// Behind so many digits, and no other byte but the minus.
+    /// Behind so many digits of which the first is no zero, and no other byte but the sign.
     One,
     Two,
     Three,
+    /// Behind digits that can't be parted any more: too many, or the first is a zero.
     Many,
     /// Behind what parts thousands, and so many digits more.
     Parted,
     PartOne,
     PartTwo,
     PartThree,
+    /// Behind a decimal mark that no digit stands before.
+    Bare,
     /// Behind the decimal mark.
     Marked,
     /// Behind digits behind the mark.
@@ -42,8 +43,17 @@ impl Place {
             Place::Parted => Place::PartOne,
             Place::PartOne => Place::PartTwo,
             Place::PartTwo => Place::PartThree,
-            Place::Marked | Place::Places => Place::Places,
+            Place::Bare | Place::Marked | Place::Places => Place::Places,
             Place::PartThree | Place::Wrong => Place::Wrong,
+        }
+    }
+
+    fn after_zero(self) -> Place
+        ensures { result ≡ after_zero self }
+    {
+        match self {
+            Place::Begin | Place::Signed => Place::Many,
+            _ => self.after_digit(),
         }
     }
 
@@ -51,6 +61,7 @@ impl Place {
         ensures { result ≡ after_mark self }
     {
         match self {
+            Place::Begin | Place::Signed => Place::Bare,
             Place::One | Place::Two | Place::Three | Place::Many | Place::PartThree =>
                 Place::Marked,
             _ => Place::Wrong,
@@ -66,8 +77,8 @@ impl Place {
         }
     }
 
-    fn after_minus(self) -> Place
-        ensures { result ≡ after_minus self }
+    fn after_sign(self) -> Place
+        ensures { result ≡ after_sign self }
     {
         match self {
             Place::Begin => Place::Signed,
@@ -75,20 +86,25 @@ impl Place {
         }
     }
 
-    fn is_whole(self) -> bool
+    /// Whether a number may end here.
+    pub(crate) fn is_whole(self) -> bool
         ensures { result ≡ is_whole self }
     {
         match self {
             Place::One | Place::Two | Place::Three | Place::Many => true,
-            Place::PartThree | Place::Places => true,
+            Place::PartThree | Place::Marked | Place::Places => true,
             _ => false,
         }
     }
 
-    fn after_byte(self, mark: u8, parts: Option<u8>, byte: u8) -> Place
+    /// The place behind one more byte.
+    pub(crate) fn after_byte(self, mark: u8, parts: Option<u8>, byte: u8) -> Place
         ensures { result ≡ after_byte mark parts self byte }
     {
         if byte.is_ascii_digit() {
+            if byte == b'0' {
+                return self.after_zero();
+            }
             return self.after_digit();
         }
         if byte == mark {
@@ -97,8 +113,8 @@ impl Place {
         if is_part(parts, byte) {
             return self.after_part();
         }
-        if byte == b'-' {
-            return self.after_minus();
+        if is_sign(byte) {
+            return self.after_sign();
         }
         Place::Wrong
     }
@@ -106,7 +122,7 @@ impl Place {
 
 // Whether the byte parts thousands.
 fn is_part(parts: Option<u8>, byte: u8) -> bool
-    ensures { result ≡ is_byte parts byte }
+    ensures { result ≡ is_part parts byte }
 {
     match parts {
         Some(part) => part == byte,
@@ -114,30 +130,9 @@ fn is_part(parts: Option<u8>, byte: u8) -> bool
     }
 }
 
-/// Whether the field spells a number.
-pub(crate) fn spells(mark: u8, parts: Option<u8>, field: &[u8]) -> bool
-    ensures { result ≡ spells mark parts field.now }
+// Whether the byte is a plus or a minus.
+fn is_sign(byte: u8) -> bool
+    ensures { result ≡ is_sign byte }
 {
-    let mut place = Place::Begin;
-    for i in 0..field.len() {
-        place = place.after_byte(mark, parts, field[i]);
-    }
-    place.is_whole()
-}
-
-/// Puts the number behind what is there, as `coop_cli` reads it.
-pub(crate) fn push_plain(mark: u8, field: &[u8], text: &mut Vec<u8>) -> Result<(), AllocError>
-    ensures { OnOk result (text.new.items ≡ text.old.items ++ plain mark field.now) }
-{
-    for i in 0..field.len() {
-        let byte = field[i];
-        if byte.is_ascii_digit() {
-            text.push(byte)?;
-        } else if byte == mark {
-            text.push(b'.')?;
-        } else if byte == b'-' {
-            text.push(byte)?;
-        }
-    }
-    Ok(())
+    byte == b'-' || byte == b'+'
 }

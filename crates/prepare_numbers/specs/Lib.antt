@@ -1,0 +1,3 @@
+pub mod Plain
+pub mod Spells
+pub mod Values
