@@ -1,6 +1,6 @@
 -- Where a statement is refused.
-use Rattle.std.specs.Prelude.{◌≡◌, ◌+◌, ◌-◌, ◌==◌, ◌++◌, ◌&&◌, ℕ, List, [], ◌∷◌, length, min, take, drop, codes, decimal}
-use Rattle.std.specs.Prelude.{Option, Some, None, if◌then◌else◌}
+use Rattle.std.specs.Prelude.{◌≡◌, ◌+◌, ◌-◌, ◌==◌, ◌++◌, ◌&&◌, ℕ, Bool, List, [], ◌∷◌, length, min, take, drop, codes}
+use Rattle.std.specs.Prelude.{decimal, Option, Some, None, if◌then◌else◌}
 use Rattle.inspect_places.specs.Foreign.{instead_of, name_of}
 use Rattle.inspect_places.specs.Lines.{column_of, line_of}
 use Rattle.inspect_places.specs.Spelled.{bytes_at}
@@ -36,13 +36,16 @@ foreign_line (Some f) = (((codes "  " ++ name_of f) ++ codes " is not in this la
     ++ codes " (docs/SQL.md)\n"
 
 -- the line that says what could stand there; none where the refusal isn't about the grammar
-abbrev pub stands_line : List Kind → List ℕ
-stands_line [] = []
-stands_line (k ∷ ks) = (codes "  could stand there: " ++ stands_text (k ∷ ks)) ++ codes "\n"
+abbrev pub list_line : Bool → Option ℕ → List Kind → List ℕ
+list_line is_table most [] = []
+list_line is_table most (k ∷ ks) = (codes "  could stand there: " ++ stands_text is_table most (k ∷ ks)) ++ codes "\n"
+
+abbrev pub stands_line : Place → List ℕ
+stands_line p = list_line p.is_table p.most p.stands.items
 
 -- the lines behind a place
 abbrev pub hint_lines : Place → List ℕ
-hint_lines place = stands_line place.stands.items ++ foreign_line place.foreign
+hint_lines place = stands_line place ++ foreign_line place.foreign
 
 -- the lines of a place: where it is in the batch, the token there, what could stand there, and what is known
 abbrev pub spot_lines : List ℕ → Span → Place → List ℕ

@@ -6,7 +6,7 @@ ghost use Rattle.inspect_calls.specs.Placing.{spot_lines, spot_text, stands_line
 
 use crate::lines::numbered;
 use inspect_places::{
-    Foreign, Kind, LineColumn, Place, bytes_at, line_and_column, statement_place, write_stands,
+    Foreign, LineColumn, Place, bytes_at, line_and_column, statement_place, write_stands,
 };
 use sql_bind::StatementRefusal;
 use sql_tokens::Span;
@@ -51,15 +51,15 @@ fn spot_told(
 }
 
 // The line that says what could stand there; none where the refusal isn't about the grammar.
-fn stands_told(alloc: Global, stands: &[Kind]) -> Result<Bytes, Memory>
-    ensures { IfOk result (λ line. line ≡ stands_line stands.now) }
+fn stands_told(alloc: Global, place: &Place) -> Result<Bytes, Memory>
+    ensures { IfOk result (λ line. line ≡ stands_line place.now) }
 {
     let mut line = Bytes::new(Vec::new(alloc));
-    match stands {
+    match place.stands.as_slice() {
         [] => Ok(line),
         [_, ..] => {
             line.append(b"  could stand there: ")?;
-            write_stands(&mut line, stands)?;
+            write_stands(&mut line, place)?;
             line.append(b"\n")?;
             Ok(line)
         }
@@ -88,7 +88,7 @@ fn foreign_told(alloc: Global, foreign: Option<Foreign>) -> Result<Bytes, Memory
 fn hints_told(alloc: Global, place: &Place) -> Result<Vec<u8>, Memory>
     ensures { IfOk result (λ lines. lines.items ≡ hint_lines place.now) }
 {
-    let mut lines = stands_told(alloc, &place.stands)?;
+    let mut lines = stands_told(alloc, place)?;
     let known = foreign_told(alloc, place.foreign)?;
     lines.append(known.as_slice())?;
     Ok(lines.into_vec())

@@ -1,11 +1,13 @@
 -- What stands in the way of leaving chunks out.
-use Rattle.std.specs.Prelude.{◌==◌, ◌&&◌, ℕ, Bool, true, not, nat_lt, List, [], ◌∷◌, map, length, Option, Some, None, if◌then◌else◌}
+use Rattle.std.specs.Prelude.{◌==◌, ◌&&◌, ℕ, Bool, true, false, not, nat_lt, List, [], ◌∷◌, map, length, Option, Some, None, if◌then◌else◌}
 use Rattle.filter_zones.specs.Possible.{needed}
 use Rattle.filter_zones.specs.declared.cond.Bound.{Bound}
 use Rattle.filter_zones.specs.declared.cond.Bound.TheVariants as bound
 use Rattle.filter_zones.specs.declared.cond.Cond.{Cond}
 use Rattle.filter_zones.specs.declared.cond.Cond.TheVariants as cond
 use Rattle.filter_zones.specs.declared.zone.ChunkZones.{ChunkZones}
+use Rattle.inspect_notes.specs.declared.obstacle.Choice.{Choice}
+use Rattle.inspect_notes.specs.declared.obstacle.Choice.TheVariants.{Either, NotBoth}
 use Rattle.inspect_notes.specs.declared.obstacle.Obstacle.{Obstacle}
 use Rattle.inspect_notes.specs.declared.obstacle.Obstacle.TheVariants.{NoWhere, Numbers, Texts, Nulls, Side, Sides}
 use Rattle.inspect_notes.specs.Parts.{Part, demanded, first_column, in_each}
@@ -16,11 +18,16 @@ comparison x (bound.Number h) = Numbers x
 comparison x (bound.Code k) = Texts x
 comparison x (bound.Gap place) = Texts x
 
+-- one of two sides is to be True, or one of them is to be False
+abbrev pub choice_of : Bool → Choice
+choice_of true = Either
+choice_of false = NotBoth
+
 -- a choice between two sides: one side alone may be had in each chunk, the first that may; or only both together
 abbrev pub choice : Bool → Cond → Cond → List ChunkZones → Obstacle
 choice want a b zones =
-    if in_each want a zones then Side (first_column a)
-    else (if in_each want b zones then Side (first_column b) else Sides)
+    if in_each want a zones then Side (first_column a) (choice_of want)
+    else (if in_each want b zones then Side (first_column b) (choice_of want) else Sides (choice_of want))
 
 -- what a part is that the zones of each chunk allow
 abbrev pub obstacle_at : List ChunkZones → Part → Obstacle

@@ -1,5 +1,5 @@
--- Why a column is one of texts where all but a few of its values spell numbers.
-use Rattle.std.specs.Prelude.{◌≡◌, ◌+◌, ◌-◌, ◌*◌, ◌<◌, ◌≤◌, ◌⊎◌, ℕ, Bool, false, not, List, [], length, filter, All, Option, Some, None, is_some, slice_index_or}
+-- Why a column is one of texts where some of its values spell numbers.
+use Rattle.std.specs.Prelude.{◌≡◌, ◌+◌, ◌-◌, ◌<◌, ◌≤◌, ℕ, Bool, false, not, List, [], length, filter, All, Option, Some, None, is_some, slice_index_or}
 use Rattle.table_core.specs.Value.{Value, none, number, text}
 use Rattle.table_core.specs.declared.schema.Kind.{Kind}
 use Rattle.table_core.specs.declared.schema.Kind.TheVariants.{Text}
@@ -30,13 +30,13 @@ pub record IsFirstStranger (dict : List (List ℕ)) (values : List Value) (row c
   pub spells : spells_number (slice_index_or dict code []) ≡ false
   pub before : (i : ℕ) → i + 1 < row → is_stranger (slice_index_or values i none) ≡ false
 
--- A FEW of the values spell no number: at most one in ten. So nine in ten do.
-abbrev pub AreFew : List Value → Type 0
-AreFew values = 10 * strangers_in values ≤ there_in values
+-- SOME of the values spell a number: not as many spell none as there are
+abbrev pub SomeSpell : List Value → Type 0
+SomeSpell values = strangers_in values < there_in values
 
--- THE REASON why a column is one of texts: a few values that spell no number; or each spells one, and no kind of numbers has
--- room for all. There is none where the column is one of numbers, has no value, or has more than a few such values
+-- THE REASON why a column is one of texts: some values spell no number, and some do; or each spells one, and no kind of
+-- numbers has room for all. There is none where the column is one of numbers, or none of its values spells a number
 abbrev pub IsReason : Kind → List (List ℕ) → List Value → Option Reason → Type 0
-IsReason kind dict values None = kind ≡ Text → (there_in values ≡ 0) ⊎ (there_in values < 10 * strangers_in values)
-IsReason kind dict values (Some (Strangers row code count)) = (kind ≡ Text) × IsFirstStranger dict values row code × (count ≡ strangers_in values) × AreFew values
+IsReason kind dict values None = kind ≡ Text → there_in values ≤ strangers_in values
+IsReason kind dict values (Some (Strangers row code count)) = (kind ≡ Text) × IsFirstStranger dict values row code × (count ≡ strangers_in values) × SomeSpell values
 IsReason kind dict values (Some Mixed) = (kind ≡ Text) × (0 < there_in values) × All (λ v. is_stranger v ≡ false) values

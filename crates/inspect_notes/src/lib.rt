@@ -1,6 +1,6 @@
 //! What is told of a loaded table and of the statements of a batch before they run. Of the table: its rows, and for each
-//! column its name, kind, NULLs, distinct texts, least and greatest value, and why it is one of texts where all but a few of
-//! its values spell numbers. Of a statement: the query in its one form, the columns that it reads, how many chunks it needs,
+//! column its name, kind, NULLs, distinct texts, least and greatest value, and why it is one of texts where some of its
+//! values spell numbers. Of a statement: the query in its one form, the columns that it reads, how many chunks it needs,
 //! and what stands in the way where it needs all of them.
 //!
 //!     let profiles = profile_of(alloc, &loaded)?;
@@ -35,7 +35,7 @@ pub use note::Note;
 pub use note_writing::write_note;
 pub use noting::{note_of, note_of_plan};
 pub use number::spells_number;
-pub use obstacle::Obstacle;
+pub use obstacle::{Choice, Obstacle};
 pub use part_demands::demanded_parts;
 pub use profile::ColumnProfile;
 pub use profile_writing::{write_name, write_profile};

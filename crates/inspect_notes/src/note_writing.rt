@@ -4,7 +4,7 @@ ghost use Rattle.std.specs.List.{flat_map};
 ghost use Rattle.inspect_notes.specs.NoteText as spec;
 
 use crate::note::Note;
-use crate::obstacle::Obstacle;
+use crate::obstacle::{Choice, Obstacle};
 use crate::profile_writing::write_name;
 use std::alloc::Global;
 use table_core::{Bytes, Column, Memory, Schema, write_number};
@@ -57,22 +57,116 @@ fn write_chunks(out: &mut Bytes, needed: u32, chunks: u32) -> Result<(), Memory>
     Ok(())
 }
 
-// Puts the line of what stands in the way at the end.
-fn write_obstacle(alloc: Global, out: &mut Bytes, obstacle: Obstacle) -> Result<(), Memory>
-    ensures { OnOk result (out.new ≡ out.old ++ spec.obstacle_line obstacle) }
+// Puts the name of a column between two texts at the end.
+fn write_named(
+    out: &mut Bytes,
+    columns: &[Column],
+    first: &[u8],
+    column: u32,
+    last: &[u8],
+) -> Result<(), Memory>
+    ensures { OnOk result (out.new ≡ out.old ++ spec.named_text columns.now first.now column last.now) }
 {
-    let Ok(line) = format!(in alloc; "  nothing is left out: {obstacle}\n") else {
-        return Err(Memory);
-    };
-    out.append(line.as_bytes())?;
+    out.append(first)?;
+    write_name(out, name_at(columns, column))?;
+    out.append(last)?;
     Ok(())
 }
 
-fn write_obstacles(alloc: Global, out: &mut Bytes, obstacles: &[Obstacle]) -> Result<(), Memory>
-    ensures { OnOk result (out.new ≡ out.old ++ flat_map spec.obstacle_line obstacles.now) }
+fn side_words(choice: Choice) -> &'static [u8]
+    ensures { result.now ≡ spec.side_words choice }
+{
+    match choice {
+        Choice::Either => b"one side of an OR, which begins with ",
+        Choice::NotBoth => b"one side of an AND below NOT, which begins with ",
+    }
+}
+
+fn side_end(choice: Choice) -> &'static [u8]
+    ensures { result.now ≡ spec.side_end choice }
+{
+    match choice {
+        Choice::Either => b", is allowed in each chunk",
+        Choice::NotBoth => b", may be false in each chunk",
+    }
+}
+
+fn sides_words(choice: Choice) -> &'static [u8]
+    ensures { result.now ≡ spec.sides_words choice }
+{
+    match choice {
+        Choice::Either => b"the sides of an OR together are allowed in each chunk",
+        Choice::NotBoth => {
+            b"the one side or the other of an AND below NOT may be false in each chunk"
+        }
+    }
+}
+
+// What is said of a column that a part compares or tests.
+fn zone_words(obstacle: Obstacle) -> &'static [u8]
+    ensures { result.now ≡ spec.zone_words obstacle }
+{
+    match obstacle {
+        Obstacle::Numbers { .. } => {
+            b" is compared with a number that its zone in each chunk allows"
+        }
+        Obstacle::Texts { .. } => b" is compared with a text that its zone in each chunk allows",
+        Obstacle::Nulls { .. } => b" is tested for NULL, which its zone in each chunk allows",
+        _ => b"",
+    }
+}
+
+// Puts what stands in the way at the end, in words.
+fn write_words(out: &mut Bytes, columns: &[Column], obstacle: Obstacle) -> Result<(), Memory>
+    ensures { OnOk result (out.new ≡ out.old ++ spec.obstacle_text columns.now obstacle) }
+{
+    match obstacle {
+        Obstacle::NoWhere => {
+            out.append(b"there is no WHERE")?;
+            Ok(())
+        }
+        Obstacle::Numbers { column } => {
+            write_named(out, columns, b"", column, zone_words(obstacle))
+        }
+        Obstacle::Texts { column } => {
+            write_named(out, columns, b"", column, zone_words(obstacle))
+        }
+        Obstacle::Nulls { column } => {
+            write_named(out, columns, b"", column, zone_words(obstacle))
+        }
+        Obstacle::Side { column, choice } => write_named(
+            out,
+            columns,
+            side_words(choice),
+            column,
+            side_end(choice),
+        ),
+        Obstacle::Sides { choice } => {
+            out.append(sides_words(choice))?;
+            Ok(())
+        }
+    }
+}
+
+// Puts the line of what stands in the way at the end.
+fn write_obstacle(out: &mut Bytes, columns: &[Column], obstacle: Obstacle) -> Result<(), Memory>
+    ensures { OnOk result (out.new ≡ out.old ++ spec.obstacle_line columns.now obstacle) }
+{
+    out.append(b"  nothing is left out: ")?;
+    write_words(out, columns, obstacle)?;
+    out.append(b"\n")?;
+    Ok(())
+}
+
+fn write_obstacles(
+    out: &mut Bytes,
+    columns: &[Column],
+    obstacles: &[Obstacle],
+) -> Result<(), Memory>
+    ensures { OnOk result (out.new ≡ out.old ++ flat_map (spec.obstacle_line columns.now) obstacles.now) }
 {
     for place in 0..obstacles.len() {
-        write_obstacle(alloc, out, obstacles[place])?;
+        write_obstacle(out, columns, obstacles[place])?;
     }
     Ok(())
 }
@@ -95,6 +189,6 @@ pub fn write_note(alloc: Global, number: u32, schema: &Schema, note: &Note) -> R
     write_statement(&mut out, number, note.text.as_slice())?;
     write_names(&mut out, schema.columns(), b"  reads ", &note.columns)?;
     write_chunks(&mut out, note.needed, note.chunks)?;
-    write_obstacles(alloc, &mut out, &note.obstacles)?;
+    write_obstacles(&mut out, schema.columns(), &note.obstacles)?;
     Ok(out)
 }

@@ -5,7 +5,7 @@ ghost use Rattle.table_sets.specs.declared.limits.TheConstants.{MOST_CHUNKS};
 ghost use Rattle.inspect_notes.specs.Parts as parts;
 ghost use Rattle.inspect_notes.specs.Obstacles as spec;
 
-use crate::obstacle::Obstacle;
+use crate::obstacle::{Choice, Obstacle};
 use filter_zones::{Bound, ChunkZones, Cond, may_be};
 use std::alloc::Global;
 use table_core::{MOST_CHUNKS, Memory};
@@ -61,6 +61,16 @@ fn comparison(column: u32, value: Bound) -> Obstacle
     }
 }
 
+fn choice_of(want: bool) -> Choice
+    ensures { result ≡ spec.choice_of want }
+{
+    if want {
+        Choice::Either
+    } else {
+        Choice::NotBoth
+    }
+}
+
 // Of a choice, the side that each chunk may have.
 fn choice(want: bool, a: &Cond, b: &Cond, zones: &[ChunkZones]) -> Obstacle
     requires a { All (λ chunk. FitsZones a.now chunk.zones) zones.now }
@@ -70,14 +80,18 @@ fn choice(want: bool, a: &Cond, b: &Cond, zones: &[ChunkZones]) -> Obstacle
     if in_each(want, a, zones) {
         return Obstacle::Side {
             column: first_column(a),
+            choice: choice_of(want),
         };
     }
     if in_each(want, b, zones) {
         return Obstacle::Side {
             column: first_column(b),
+            choice: choice_of(want),
         };
     }
-    Obstacle::Sides
+    Obstacle::Sides {
+        choice: choice_of(want),
+    }
 }
 
 fn add(obstacles: &mut Vec<Obstacle>, obstacle: Obstacle) -> Result<(), Memory>

@@ -12,6 +12,6 @@ pub struct ColumnProfile {
     pub texts: Option<u32>,
     /// The cells of its least and its greatest value, if a row has one.
     pub ends: Option<(Cell, Cell)>,
-    /// Why it is a column of texts, where all but a few of its values spell numbers.
+    /// Why it is a column of texts, where some of its values spell numbers.
     pub reason: Option<Reason>,
 }

@@ -28,7 +28,7 @@ fn texts_in(kind: Kind, dict: &Dict) -> Option<u32>
     }
 }
 
-// Why a column is one of texts, where all but a few of its values spell numbers.
+// Why a column is one of texts, where some of its values spell numbers.
 fn reason_of(table: &Table, kind: Kind, dict: &Dict, column: usize, there: u32) -> Option<Reason>
     requires few { length table.now.rows ≤ MOST_ROWS }
     requires wide { All (λ row. column < length row) table.now.rows }
@@ -47,7 +47,7 @@ fn reason_of(table: &Table, kind: Kind, dict: &Dict, column: usize, there: u32) 
         None => return Some(Reason::Mixed),
         Some((row, code)) => {
             let count = strangers_in(table, dict, column);
-            if count > there / 10 {
+            if count >= there {
                 return None;
             }
             return Some(Reason::Strangers { row, code, count });

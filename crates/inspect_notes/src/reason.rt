@@ -1,6 +1,6 @@
 // Why a column is one of texts.
 
-/// Why a column is one of texts where all but a few of its values spell numbers: at most one value in ten spells none.
+/// Why a column is one of texts where some of its values spell numbers.
 #[derive(Clone, Copy, Debug, PartialEq, Eq)]
 pub enum Reason {
     /// Some values spell no number.

@@ -8,6 +8,8 @@ mod Whole
 mod Forward
 mod KindLists
 mod Stops
+mod Bounds
+mod GrammarPlaces
 mod Opens
 mod Rests
 mod Columns

@@ -9,23 +9,20 @@ use Rattle.query_meaning.specs.Meaning.{or_else, first_some}
 use Rattle.table_sets.specs.Sets.{has}
 use Rattle.table_core.specs.declared.schema.Column.{Column}
 use Rattle.table_core.specs.declared.schema.Kind as column_kind
-use Rattle.sql_tokens.specs.Tokens.{HasTokens}
 use Rattle.sql_tokens.specs.declared.token.Token as tokens
 use Rattle.sql_tokens.proofs.TokenLists.{one_list}
 use Rattle.sql_text.specs.declared.condition.Literal.TheVariants as literal
 use Rattle.sql_text.specs.declared.query.QItem.{QItem}
 use Rattle.sql_text.specs.declared.query.QItem.TheVariants as item
 use Rattle.sql_text.specs.declared.query.QOrder.{QOrder}
-use Rattle.sql_text.specs.Grammar.{Token, Column as ColumnToken, Tree, Compare, NullTest, Both, Either, Negated, QueryTree, Reads}
+use Rattle.sql_text.specs.Grammar.{Token, Tree, Compare, NullTest, Both, Either, Negated, QueryTree, Reads}
 use Rattle.sql_text.specs.Words.{meaning_in}
 use Rattle.sql_bind.specs.Names.{column_of, kind_of}
 use Rattle.sql_bind.specs.Places.{Place, places, item_places, cond_places, where_places, key_place, order_place}
-use Rattle.sql_bind.specs.Refusals.{is_unknown, is_misused, misuses, misuses_some, plain_outside, not_grouped, unknown_table, first_wrong}
-use Rattle.sql_bind.specs.Statements.{TextCause}
+use Rattle.sql_bind.specs.Refusals.{is_unknown, is_misused, misuses_some, plain_outside, not_grouped, unknown_table, first_wrong}
 use Rattle.sql_bind.specs.declared.judging.Wrong.TheVariants as wrong
 use Rattle.sql_bind.specs.declared.refusal.BindRefusal.{BindRefusal}
 use Rattle.sql_bind.specs.declared.refusal.BindRefusal.TheVariants as bind
-use Rattle.sql_bind.specs.declared.statement.StatementRefusal.TheVariants as statement
 use Rattle.inspect_places.specs.Kinds.{kind_of as token_kind}
 use Rattle.inspect_places.specs.declared.role.Before.{Before}
 use Rattle.inspect_places.specs.declared.role.Before.TheVariants as before
@@ -35,7 +32,7 @@ use Rattle.inspect_places.specs.declared.role.About.{About}
 use Rattle.inspect_places.specs.declared.role.About.TheVariants as about
 use Rattle.inspect_places.specs.declared.place.Place as placed
 use Rattle.inspect_places.specs.Names.{Named, next, role_at, name_at, names_from, names_at, somes, item_names, cond_names, where_names, key_name, order_name, query_names, use_of, is_table, misused, fits, is_sought, is_called, first_index, is_about}
-use Rattle.inspect_places.specs.Places.{span_at, span_or}
+use Rattle.inspect_places.specs.Places.{span_or}
 use Rattle.inspect_places.specs.Refusals.{IsAt, IsQueryPlace}
 use Rattle.inspect_places.specs.Standing.{name_of, IsTokenOf, NamesStand}
 use Rattle.inspect_places.proofs.NameSteps.{sought_is}

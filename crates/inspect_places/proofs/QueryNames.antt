@@ -4,10 +4,10 @@ use Rattle.std.specs.List.{flat_map}
 use Rattle.std.proofs.lemmas.List.{append-nil}
 use Rattle.sql_tokens.specs.declared.keyword.Keyword.TheVariants as key
 use Rattle.table_core.specs.declared.op.Op.{Op}
-use Rattle.sql_text.specs.declared.word.Sign.TheVariants.{Open, Close, Comma}
+use Rattle.sql_text.specs.declared.word.Sign.TheVariants.{Close, Comma}
 use Rattle.sql_text.specs.declared.query.QItem.{QItem}
 use Rattle.sql_text.specs.declared.query.QItem.TheVariants as item
-use Rattle.sql_text.specs.Grammar.{Token, Key, Symbol, Compares, Column, Number, Tree, Either, Both, QueryTree, LiteralText, number, minus_number, decimal, minus_decimal, text, Ors, ors, OrTail, no_or, more_or, Ands, ands, AndTail, no_and, more_and, Nots, not_not, in_parentheses, compare, is_null, is_not_null, OrderText, bare, ascending, descending, Listed, QueryText, groups, rows, literal_tokens, or_tokens, or_tail_tokens, and_tokens, and_tail_tokens, not_tokens, item_tokens, column_tokens, order_tokens, list_tokens, where_tokens, group_tokens, order_by_tokens, query_tokens, or_tree, or_tail_tree, and_tree, and_tail_tree, not_tree, order_of, all_of, cond_of, query_tree, Reads}
+use Rattle.sql_text.specs.Grammar.{Token, Key, Symbol, Column, Tree, Either, Both, QueryTree, LiteralText, number, minus_number, decimal, minus_decimal, text, Ors, ors, OrTail, no_or, more_or, Ands, ands, AndTail, no_and, more_and, Nots, not_not, in_parentheses, compare, is_null, is_not_null, OrderText, bare, ascending, descending, Listed, QueryText, groups, rows, or_tokens, or_tail_tokens, and_tokens, and_tail_tokens, not_tokens, item_tokens, column_tokens, order_tokens, list_tokens, where_tokens, group_tokens, order_by_tokens, query_tokens, or_tree, or_tail_tree, and_tree, and_tail_tree, not_tree, order_of, all_of, cond_of, query_tree, Reads}
 use Rattle.inspect_places.specs.declared.role.Before.{Before}
 use Rattle.inspect_places.specs.declared.role.Before.TheVariants as before
 use Rattle.inspect_places.specs.declared.role.Role.TheVariants as role

@@ -1,5 +1,5 @@
 -- Going through tokens stops at the place, and a token may stand there where a step takes it.
-use Rattle.std.proofs.Common.{◌≡◌, ◌<◌, ◌≤◌, ℕ, suc, ◌+◌, Bool, true, false, List, [], ◌∷◌, ◌++◌, length, map, take, Option, Some, None, inl, inr, refl, sym, ap, ◌∙◌, subst, arith}
+use Rattle.std.proofs.Common.{◌≡◌, ◌<◌, ◌≤◌, ℕ, suc, ◌+◌, Bool, true, false, List, [], ◌∷◌, ◌++◌, length, take, Option, Some, None, inl, inr, refl, sym, ap, ◌∙◌, subst, arith}
 use Rattle.std.specs.Prelude.{if◌then◌else◌, is_some}
 use Rattle.std.proofs.lemmas.Bool.{false≢true}
 use Rattle.std.proofs.lemmas.List.{append-nil}
@@ -7,28 +7,22 @@ use Rattle.sql_text.specs.declared.word.Sign.TheVariants as sign
 use Rattle.table_core.specs.declared.op.Op.TheVariants as op
 use Rattle.sql_text.specs.Grammar.{Token, Key, Symbol, Compares, Column, Number, Decimal, Text}
 use Rattle.sql_text.specs.Reading.{choose}
-use Rattle.sql_text.specs.Words.{meaning_in}
-use Rattle.sql_tokens.specs.declared.token.Token as tokens
-use Rattle.std.specs.List.{Contains, filter}
-use Rattle.inspect_places.specs.declared.place.Place.{Place}
 use Rattle.sql_text.proofs.Tokens.{choose_ok, no_some}
 use Rattle.inspect_places.specs.declared.kind.Kind.{Kind}
 use Rattle.inspect_places.specs.declared.kind.Kind.TheVariants as kind
 use Rattle.inspect_places.specs.declared.state.State.{State}
 use Rattle.inspect_places.specs.declared.state.State.TheVariants as state
 use Rattle.inspect_places.specs.declared.word.Size.TheVariants as size
-use Rattle.inspect_places.specs.Foreign.{foreign_at, takes_text}
 use Rattle.inspect_places.specs.Kinds.{kind_of, size_of}
-use Rattle.inspect_places.specs.Places.{AreQuery, Begin, IsPlace, CanStand, span_at, IsGrammarPlace}
-use Rattle.inspect_places.specs.Steps.{step, takes, after, may_end, stands, stop_from, all_kinds}
-use Rattle.inspect_places.proofs.KindLists.{passes, listed}
+use Rattle.inspect_places.specs.Places.{AreQuery, Begin, IsPlace, CanStand}
+use Rattle.inspect_places.specs.Steps.{step, takes, after, may_end, stands, stop_from}
 use Rattle.inspect_places.proofs.Follow.{Follow}
 use Rattle.inspect_places.proofs.Back.{Back, back}
 use Rattle.inspect_places.proofs.Finish.{finish}
 use Rattle.inspect_places.proofs.Whole.{whole, end_follows}
 use Rattle.inspect_places.proofs.Forward.{run, query_runs}
 
-same_some : {A : Type 0} (x y : A) → Some x ≡ Some y → x ≡ y
+pub same_some : {A : Type 0} (x y : A) → Some x ≡ Some y → x ≡ y
 same_some x y e = cc
 
 -- ---- what is gone through begins a query, and nothing else does
@@ -43,7 +37,7 @@ back_run l s m (t ∷ ts) us e f = elim (choose_ok (after l s t) None (λ r. run
 pub run_begins : (l : Bool) (m : State) (ts : List Token) → run l state.Start ts ≡ Some m → Begin l ts
 run_begins l m ts e = let f = finish l m in (f.0, whole l (ts ++ f.0) (back_run l state.Start m ts f.0 e f.1))
 
-run_cut : (l : Bool) (s r : State) (ts us : List Token) → run l s (ts ++ us) ≡ Some r → (m : State) × (run l s ts ≡ Some m)
+pub run_cut : (l : Bool) (s r : State) (ts us : List Token) → run l s (ts ++ us) ≡ Some r → (m : State) × (run l s ts ≡ Some m)
 run_cut l s r [] us e = (s, refl)
 run_cut l s r (t ∷ ts) us e = elim (choose_ok (after l s t) None (λ r. run l r (ts ++ us)) r e) [
   | inl d ↦ absurd (no_some r d.1)
@@ -96,6 +90,10 @@ at_start l ts =
     let x = stop_from l 0 state.Start ts in let h = stopped l 0 state.Start ts in let e : h.0 ≡ x.0 = omega (arith, h.1) in
     subst (λ k. Stops l state.Start ts k x.1) e h.2
 
+-- the state behind the tokens before the place
+pub at_stop : (l : Bool) (ts : List Token) → run l state.Start (take (stop_from l 0 state.Start ts).0 ts) ≡ Some (stop_from l 0 state.Start ts).1
+at_stop l ts = (at_start l ts).before
+
 pub place_is : (l : Bool) (ts : List Token) → IsPlace l ts (stop_from l 0 state.Start ts).0
 place_is l ts =
     let x = stop_from l 0 state.Start ts in let h = at_start l ts in
@@ -103,12 +101,20 @@ place_is l ts =
 
 -- ---- what can stand there
 
-takes_small : (l : Bool) (s : State) → takes l s size.Limit ≡ true
+pub takes_small : (l : Bool) (s : State) → takes l s size.Limit ≡ true
 takes_small l (state.Compared p d) = refl
 takes_small l (state.Minus p d) = refl
 takes_small false state.Limit = refl
 takes_small true state.Limit = refl
 takes_small l s = refl
+
+abbrev pub Taken : Bool → List Token → State → Type 0
+Taken l before m = (t : Token) → Begin l (before ++ t ∷ [])
+    → (takes l m (size_of t) ≡ true) × (is_some (step l m (kind_of t)) ≡ true)
+
+abbrev pub GoesOn : Bool → List Token → State → Type 0
+GoesOn l before m = (t : Token) → takes l m (size_of t) ≡ true → is_some (step l m (kind_of t)) ≡ true
+    → Begin l (before ++ t ∷ [])
 
 abbrev Stand : Bool → List Token → Kind → Type 0
 Stand l before k = (t : Token) × (kind_of t ≡ k) × Begin l (before ++ t ∷ [])
@@ -118,26 +124,32 @@ module _ (l : Bool) (before : List Token) (m : State) (at : run l state.Start be
   some_step k None e h = absurd (false≢true h)
   some_step k (Some r) e h = (r, e)
 
-  stand_by : (k : Kind) (t : Token) → kind_of t ≡ k → size_of t ≡ size.Limit → is_some (step l m k) ≡ true → Stand l before k
-  stand_by k t e z h =
-      let r = some_step k (step l m k) refl h in
-      let small : takes l m (size_of t) ≡ true = ap (takes l m) z ∙ takes_small l m in
-      let goes : after l m t ≡ Some r.0 = rw small (ap (step l m) e ∙ r.1) in
-      let ran : run l m (t ∷ []) ≡ Some r.0 = rw goes refl in
-      (t, e, run_begins l r.0 (before ++ t ∷ []) (run_push l state.Start m before (t ∷ []) at ∙ ran))
+  sized : (b : Bool) (o : Option State) (r : State) → (if b then o else None) ≡ Some r → (b ≡ true) × (is_some o ≡ true)
+  sized true o r e = (refl, ap is_some e)
+  sized false o r e = absurd (no_some r e)
 
-  steps_sized : (t : Token) (r : State) (b : Bool) → takes l m (size_of t) ≡ b → (if b then step l m (kind_of t) else None) ≡ Some r → step l m (kind_of t) ≡ Some r
-  steps_sized t r true e h = h
-  steps_sized t r false e h = absurd (no_some r h)
-
-  by_stand : (k : Kind) → Stand l before k → is_some (step l m k) ≡ true
-  by_stand k s =
-      let t = s.0 in let r = begins_run l (before ++ t ∷ []) s.2 in
+  -- a query goes on with a token just where the state takes its size and its kind
+  pub is_taken : Taken l before m
+  is_taken t b =
+      let r = begins_run l (before ++ t ∷ []) b in
       let ran : run l m (t ∷ []) ≡ Some r.0 = sym (run_push l state.Start m before (t ∷ []) at) ∙ r.1 in
       elim (choose_ok (after l m t) None (λ r. run l r []) r.0 ran) [
         | inl d ↦ absurd (no_some r.0 d.1)
-        | inr d ↦ let h = steps_sized t d.0 (takes l m (size_of t)) refl d.1 in let g : step l m k ≡ Some d.0 = ap (step l m) (sym s.1) ∙ h in rw g refl
+        | inr d ↦ sized (takes l m (size_of t)) (step l m (kind_of t)) d.0 d.1
       ]
+
+  pub goes_on : GoesOn l before m
+  goes_on t z h =
+      let r = some_step (kind_of t) (step l m (kind_of t)) refl h in
+      let goes : after l m t ≡ Some r.0 = rw z r.1 in
+      let ran : run l m (t ∷ []) ≡ Some r.0 = rw goes refl in
+      run_begins l r.0 (before ++ t ∷ []) (run_push l state.Start m before (t ∷ []) at ∙ ran)
+
+  stand_by : (k : Kind) (t : Token) → kind_of t ≡ k → size_of t ≡ size.Limit → is_some (step l m k) ≡ true → Stand l before k
+  stand_by k t e z h = (t, e, goes_on t (ap (takes l m) z ∙ takes_small l m) (ap (λ k. is_some (step l m k)) e ∙ h))
+
+  by_stand : (k : Kind) → Stand l before k → is_some (step l m k) ≡ true
+  by_stand k s = ap (λ k. is_some (step l m k)) (sym s.1) ∙ (is_taken s.0 s.2).1
 
   end_stands : may_end m ≡ true → AreQuery l before
   end_stands h = subst (AreQuery l) (append-nil before) (whole l (before ++ []) (back_run l state.Start m before [] at (end_follows l m h)))
@@ -167,20 +179,7 @@ module _ (l : Bool) (before : List Token) (m : State) (at : run l state.Start be
   stands_if k h = by_stand k h
 
 pub can_stand_at : (l : Bool) (ts : List Token) (k : Kind) → stands l (stop_from l 0 state.Start ts).1 k ≡ true → CanStand l (take (stop_from l 0 state.Start ts).0 ts) k
-can_stand_at l ts k h = let x = stop_from l 0 state.Start ts in can_stand l (take x.0 ts) x.1 (at_start l ts).before k h
+can_stand_at l ts k h = let x = stop_from l 0 state.Start ts in can_stand l (take x.0 ts) x.1 (at_stop l ts) k h
 
 pub stands_at : (l : Bool) (ts : List Token) (k : Kind) → CanStand l (take (stop_from l 0 state.Start ts).0 ts) k → stands l (stop_from l 0 state.Start ts).1 k ≡ true
-stands_at l ts k h = let x = stop_from l 0 state.Start ts in stands_if l (take x.0 ts) x.1 (at_start l ts).before k h
-
-pub whole_place : (l : Bool) (bytes : List ℕ) (all : List tokens.Token) (p : Place) (r : ℕ × State) → r ≡ stop_from l 0 state.Start (map (meaning_in bytes) all) → p.span ≡ span_at (length bytes) all r.0 → p.stands.items ≡ filter (stands l r.1) all_kinds → p.foreign ≡ foreign_at bytes (takes_text p.stands.items) all r.0 → IsGrammarPlace l bytes all p
-whole_place l bytes all p r e s k f =
-    let ts = map (meaning_in bytes) all in let x = stop_from l 0 state.Start ts in
-    let same : p.stands.items ≡ filter (stands l x.1) all_kinds = k ∙ ap (λ y. filter (stands l y.1) all_kinds) e in
-    record {
-      number = x.0;
-      place = place_is l ts;
-      span = s ∙ ap (λ y. span_at (length bytes) all y.0) e;
-      foreign = f ∙ ap (λ y. foreign_at bytes (takes_text p.stands.items) all y.0) e;
-      listed = λ q h. can_stand_at l ts q (passes (stands l x.1) all_kinds q (subst (λ qs. Contains qs q) same h));
-      lists = λ q h. subst (λ qs. Contains qs q) (sym same) (listed (stands l x.1) q (stands_at l ts q h));
-    }
+stands_at l ts k h = let x = stop_from l 0 state.Start ts in stands_if l (take x.0 ts) x.1 (at_stop l ts) k h

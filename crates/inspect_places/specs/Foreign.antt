@@ -1,5 +1,5 @@
 -- What is known from other SQL and is not in this language, and what to write instead.
-use Rattle.std.specs.Prelude.{ℕ, ◌-◌, ◌==◌, Bool, true, false, if◌then◌else◌, List, [], ◌∷◌, slice_get, codes}
+use Rattle.std.specs.Prelude.{ℕ, ◌==◌, Bool, true, false, if◌then◌else◌, List, [], ◌∷◌, slice_get, codes}
 use Rattle.std.specs.Prelude.{Option, Some, None}
 use Rattle.std.specs.Str.{str_eq_ignore_ascii_case}
 use Rattle.sql_tokens.specs.declared.token.Token as tokens
@@ -9,6 +9,7 @@ use Rattle.inspect_places.specs.declared.foreign.Foreign.{Foreign}
 use Rattle.inspect_places.specs.declared.foreign.Foreign.TheVariants as foreign
 use Rattle.inspect_places.specs.declared.kind.Kind.{Kind}
 use Rattle.inspect_places.specs.declared.kind.Kind.TheVariants as kind
+use Rattle.inspect_places.specs.Near.{before_at}
 use Rattle.inspect_places.specs.Spelled.{bytes_at}
 
 -- THE LIST: each word or sign
@@ -69,10 +70,6 @@ here bytes takes_text (Some t) = foreign_as takes_text t.kind (bytes_at bytes t.
 abbrev pub word_at : List ℕ → Option tokens.Token → Option Foreign
 word_at bytes None = None
 word_at bytes (Some t) = word_as t.kind (bytes_at bytes t.span)
-
--- the token before the one of this number
-abbrev pub before_at : List tokens.Token → ℕ → Option tokens.Token
-before_at all number = if number == 0 then None else slice_get all (number - 1)
 
 abbrev pub or_else : Option Foreign → Option Foreign → Option Foreign
 or_else (Some f) o = Some f

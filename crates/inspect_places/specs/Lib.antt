@@ -2,6 +2,7 @@ pub mod Prefixes
 pub mod Kinds
 pub mod Stands
 pub mod Spelled
+pub mod Near
 pub mod Foreign
 pub mod Steps
 pub mod Places

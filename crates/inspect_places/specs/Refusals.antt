@@ -18,7 +18,8 @@ use Rattle.inspect_places.specs.Names.{first_index, is_about, names_at}
 
 -- the token of this number, or the end of the text; nothing is said of what could stand there
 abbrev pub IsAt : List ℕ → List tokens.Token → ℕ → Place → Type 0
-IsAt bytes all number p = (p.span ≡ span_at (length bytes) all number) × (p.stands.items ≡ []) × (p.foreign ≡ None)
+IsAt bytes all number p = (p.span ≡ span_at (length bytes) all number) × (p.stands.items ≡ [])
+    × (p.is_table ≡ false) × (p.most ≡ None) × (p.foreign ≡ None)
 
 -- the first token that is this name in a part that is refused
 abbrev pub IsNamePlace : List ℕ → List Column → List tokens.Token → About → List ℕ → Place → Type 0

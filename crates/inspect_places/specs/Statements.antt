@@ -1,5 +1,5 @@
 -- The place of a statement's refusal, among its tokens, or where it has none.
-use Rattle.std.specs.Prelude.{◌≡◌, ◌-◌, ◌==◌, ◌&&◌, ℕ, Bool, true, if◌then◌else◌, List, [], length, take}
+use Rattle.std.specs.Prelude.{◌≡◌, ◌-◌, ◌==◌, ◌&&◌, ℕ, Bool, true, false, if◌then◌else◌, List, [], length, take}
 use Rattle.std.specs.Prelude.{Option, Some, None, slice_get, slice_index}
 use Rattle.table_core.specs.declared.schema.Column.{Column}
 use Rattle.sql_tokens.specs.Tokens.{HasTokens}
@@ -36,6 +36,8 @@ pub record IsNoToken (bytes : List ℕ) (p : Place) : Type 0 where
   pub from : p.span.from ≡ opening bytes prefix before
   pub to : p.span.to ≡ char_end bytes p.span.from
   pub stands : p.stands.items ≡ []
+  pub is_table : p.is_table ≡ false
+  pub most : p.most ≡ None
   pub foreign : p.foreign ≡ None
 
 -- THE PLACE of a statement's refusal: that among its tokens, or else the byte at which no token begins.

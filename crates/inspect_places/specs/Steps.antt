@@ -1,6 +1,6 @@
 -- Token by token: what each state of the reader goes on with. It is just the grammar, as the clauses of `syntax_place`
 -- say.
-use Rattle.std.specs.Prelude.{ℕ, ◌+◌, ◌-◌, ◌==◌, Bool, true, false, if◌then◌else◌, List, [], ◌∷◌, Option, Some, None, option_map, is_some}
+use Rattle.std.specs.Prelude.{ℕ, ◌+◌, ◌-◌, ◌^◌, ◌==◌, Bool, true, false, if◌then◌else◌, List, [], ◌∷◌, Option, Some, None, option_map, is_some}
 use Rattle.sql_tokens.specs.declared.keyword.Keyword.TheVariants as key
 use Rattle.sql_text.specs.Grammar.{Token}
 use Rattle.sql_text.specs.Reading.{choose}
@@ -238,6 +238,13 @@ abbrev pub stands : Bool → State → Kind → Bool
 stands limited s End = may_end s
 stands limited s k = is_some (step limited s k)
 
+-- the greatest number that may stand there, if there is one
+abbrev pub most : Bool → State → Option ℕ
+most limited (state.Compared plain depth) = Some (2 ^ 63 - 1)
+most limited (state.Minus plain depth) = Some (2 ^ 63)
+most true state.Limit = Some 4096
+most _ _ = None
+
 -- ---- from a state to the first token with which no query goes on
 
 -- how many tokens were read, and the state behind them
@@ -259,6 +266,6 @@ opened _ = 0
 -- each kind once
 abbrev pub all_kinds : List Kind
 all_kinds =
-    Key key.Select ∷ Key key.From ∷ Key key.Where ∷ Key key.Group ∷ Key key.Order ∷ Key key.By ∷ Key key.Limit ∷ Key key.Count ∷ Key key.Sum ∷ Key key.Min
-    ∷ Key key.Max ∷ Key key.And ∷ Key key.Or ∷ Key key.Is ∷ Key key.Not ∷ Key key.Null ∷ Key key.Asc ∷ Key key.Desc ∷ Name ∷ Comparison
+    Name ∷ Key key.Select ∷ Key key.From ∷ Key key.Where ∷ Key key.Group ∷ Key key.Order ∷ Key key.By ∷ Key key.Limit ∷ Key key.Count ∷ Key key.Sum ∷ Key key.Min
+    ∷ Key key.Max ∷ Key key.And ∷ Key key.Or ∷ Key key.Is ∷ Key key.Not ∷ Key key.Null ∷ Key key.Asc ∷ Key key.Desc ∷ Comparison
     ∷ Number ∷ Decimal ∷ Text ∷ Minus ∷ Star ∷ Open ∷ Close ∷ Comma ∷ End ∷ []

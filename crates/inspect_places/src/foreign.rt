@@ -1,10 +1,11 @@
 // What is known from other SQL and is not in this language.
 
-ghost use Rattle.std.specs.Prelude.{◌≡◌, slice_get};
+ghost use Rattle.std.specs.Prelude.{◌≡◌};
 ghost use Rattle.std.specs.Str.{str_eq_ignore_ascii_case};
 ghost use Rattle.inspect_places.specs.Foreign as spec;
 
 use crate::kind::Kind;
+use crate::near::{before_at, token_at};
 use crate::spelled::bytes_at;
 use sql_tokens::{Token, TokenKind};
 
@@ -132,25 +133,6 @@ fn foreign_as(takes_text: bool, kind: TokenKind, spelling: &[u8]) -> Option<Fore
         TokenKind::Symbol => star_of(spelling),
         _ => word_as(kind, spelling),
     }
-}
-
-fn token_at(tokens: &[Token], number: usize) -> Option<Token>
-    ensures { result ≡ slice_get tokens.now number }
-{
-    match tokens.get(number) {
-        Some(token) => Some(*token),
-        None => None,
-    }
-}
-
-// The token before the one of this number.
-fn before_at(tokens: &[Token], number: usize) -> Option<Token>
-    ensures { result ≡ spec.before_at tokens.now number }
-{
-    if number == 0 {
-        return None;
-    }
-    token_at(tokens, number - 1)
 }
 
 fn here(bytes: &[u8], takes_text: bool, token: Option<Token>) -> Option<Foreign>

@@ -4,15 +4,16 @@ ghost use Rattle.std.specs.Prelude.{◌≡◌, ◌<◌, ◌≤◌, ◌^◌, IfOk
 ghost use Rattle.std.specs.List.{filter};
 ghost use Rattle.sql_text.specs.Words.{StandIn, meaning_in};
 ghost use Rattle.sql_tokens.specs.Tokens.{AreInOrder};
-ghost use Rattle.inspect_places.specs.Places.{IsGrammarPlace, span_at};
+ghost use Rattle.inspect_places.specs.Places.{IsGrammarPlace, span_at, told_most};
 ghost use Rattle.inspect_places.specs.Steps as spec;
 ghost use Rattle.inspect_places.specs.declared.state.State.TheVariants as state;
 
 use crate::foreign::{foreign_at, takes_text};
 use crate::kind::{KINDS, Kind};
+use crate::near::{is_limit_at, is_number_at, is_table_at};
 use crate::place::Place;
 use crate::state::State;
-use crate::steps::{after, stands};
+use crate::steps::{after, most, stands};
 use crate::word::word_at;
 use sql_tokens::{Span, Token};
 use std::alloc::{AllocError, Global};
@@ -64,6 +65,19 @@ pub fn span_of(end: u32, tokens: &[Token], number: usize) -> Span
     }
 }
 
+/// The greatest number that is told: that of the limits, or where a number is refused the one of the grammar.
+fn most_at(limited: bool, state: State, is_limit: bool, is_number: bool) -> Option<u64>
+    ensures { result ≡ told_most is_limit is_number (spec.most limited state) }
+{
+    if is_limit {
+        return most(true, State::Limit);
+    }
+    if is_number {
+        return most(limited, state);
+    }
+    None
+}
+
 /// The first of the tokens with which no query goes on, or the end of the text, what could stand there, and what is
 /// known there from other SQL.
 ///
@@ -87,9 +101,13 @@ pub fn grammar_place(
     let stands = kinds_at(alloc, limited, state)?;
     let span = span_of(bytes.len() as u32, tokens, number);
     let foreign = foreign_at(bytes, takes_text(&stands), tokens, number);
+    let is_limit = is_limit_at(bytes, tokens, number);
+    let is_number = is_number_at(tokens, number);
     Ok(Place {
         span,
         stands,
+        is_table: is_table_at(bytes, tokens, number),
+        most: most_at(limited, state, is_limit, is_number),
         foreign,
     })
 }

@@ -36,6 +36,7 @@ pub enum Kind {
 
 /// Each kind once, in the order in which a message lists them.
 pub const KINDS: [Kind; 29] = [
+    Kind::Name,
     Kind::Key(Keyword::Select),
     Kind::Key(Keyword::From),
     Kind::Key(Keyword::Where),
@@ -54,7 +55,6 @@ pub const KINDS: [Kind; 29] = [
     Kind::Key(Keyword::Null),
     Kind::Key(Keyword::Asc),
     Kind::Key(Keyword::Desc),
-    Kind::Name,
     Kind::Comparison,
     Kind::Number,
     Kind::Decimal,
@@ -70,7 +70,7 @@ pub const KINDS: [Kind; 29] = [
 impl Kind {
     /// The kind in the words of a message: `FROM`, `','`, `a name`, `the end`.
     pub fn words(self) -> &'static [u8]
-        ensures { result.now ≡ spec.kind_text self }
+        ensures { result.now ≡ spec.plain_text self }
     {
         match self {
             Kind::Key(keyword) => keyword.spelling(),

@@ -6,7 +6,7 @@
 //!         Err(refusal) => {
 //!             let place = statement_place(alloc, text, schema.columns(), &refusal)?;
 //!             let spot = line_and_column(batch, start + place.span.from as usize);
-//!             write_stands(&mut text, &place.stands)?;                // FROM or ','
+//!             write_stands(&mut text, &place)?;                       // FROM or ','
 //!         }
 //!     }
 //!     let at = longest_prefix(b"SELECT 'a");             // 7: the quote is open
@@ -20,6 +20,7 @@ mod grammar;
 mod kind;
 mod lines;
 mod names;
+mod near;
 mod nesting;
 mod pieces;
 mod place;

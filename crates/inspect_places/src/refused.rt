@@ -23,6 +23,8 @@ fn place_at(alloc: Global, bytes: &[u8], tokens: &[Token], number: usize) -> Pla
     Place {
         span: span_of(bytes.len() as u32, tokens, number),
         stands: Vec::new(alloc),
+        is_table: false,
+        most: None,
         foreign: None,
     }
 }

@@ -70,6 +70,8 @@ fn no_token(alloc: Global, text: &[u8]) -> Result<Place, Memory>
             to: to as u32,
         },
         stands: Vec::new(alloc),
+        is_table: false,
+        most: None,
         foreign: None,
     })
 }

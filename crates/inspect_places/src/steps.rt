@@ -403,3 +403,20 @@ pub fn stands(limited: bool, state: State, kind: Kind) -> bool
         _ => step(limited, state, kind).is_some(),
     }
 }
+
+/// The greatest number that may stand there, if there is one.
+pub fn most(limited: bool, state: State) -> Option<u64>
+    ensures { result ≡ spec.most limited state }
+{
+    match state {
+        State::Compared { .. } => Some((1 << 63) - 1),
+        State::Minus { .. } => Some(1 << 63),
+        State::Limit => {
+            if limited {
+                return Some(4096);
+            }
+            None
+        }
+        _ => None,
+    }
+}

@@ -210,7 +210,7 @@ column 3 \"pay\": INT, 1 NULL, least 10, greatest 20
 1: SELECT SUM ( \"pay\" ) FROM \"t\" WHERE \"id\" > 1
   reads \"id\", \"pay\"
   chunks 1 of 1
-  nothing is left out: column 1 is compared with a number that its zone in each chunk allows
+  nothing is left out: \"id\" is compared with a number that its zone in each chunk allows
 ",
         "",
     ),
@@ -255,7 +255,7 @@ refused 8: syntax
   JOIN is not in this language: a batch is over one table, which is made before (docs/SQL.md)
 refused 9: syntax
   at 9:8 *
-  could stand there: COUNT, SUM, MIN, MAX or a name
+  could stand there: a column's name, COUNT, SUM, MIN or MAX
   * for all columns is not in this language: name the columns; COUNT(*) counts rows (docs/SQL.md)
 refused 10: syntax
   at 10:31 \"a\"

@@ -31,23 +31,33 @@ nothing is left out: there is no WHERE\n",
         b"SELECT SUM(b), MIN(b) FROM t WHERE b = 9 AND c > 'a'",
         b"7: SELECT SUM ( \"b\" ) , MIN ( \"b\" ) FROM \"t\" WHERE \"b\" = 9 AND \"c\" > 'a'\n  \
 reads \"b\", \"c\"\n  chunks 3 of 3\n  \
-nothing is left out: column 2 is compared with a number that its zone in each chunk allows\n  \
-nothing is left out: column 3 is compared with a text that its zone in each chunk allows\n",
+nothing is left out: \"b\" is compared with a number that its zone in each chunk allows\n  \
+nothing is left out: \"c\" is compared with a text that its zone in each chunk allows\n",
     ),
     (
         b"SELECT a FROM t WHERE a < 2 OR b IS NOT NULL LIMIT 1",
         b"7: SELECT \"a\" FROM \"t\" WHERE \"a\" < 2 OR \"b\" IS NOT NULL LIMIT 1\n  reads \"a\", \"b\"\n  chunks 3 of 3\n  \
-nothing is left out: one side of an OR, which begins with column 2, is allowed in each chunk\n",
+nothing is left out: one side of an OR, which begins with \"b\", is allowed in each chunk\n",
     ),
     (
         b"SELECT a FROM t WHERE NOT (a >= 3 AND a < 3) LIMIT 1",
         b"7: SELECT \"a\" FROM \"t\" WHERE NOT ( \"a\" >= 3 AND \"a\" < 3 ) LIMIT 1\n  reads \"a\"\n  chunks 3 of 3\n  \
+nothing is left out: the one side or the other of an AND below NOT may be false in each chunk\n",
+    ),
+    (
+        b"SELECT a FROM t WHERE NOT (b IS NULL AND a < 3) LIMIT 1",
+        b"7: SELECT \"a\" FROM \"t\" WHERE NOT ( \"b\" IS NULL AND \"a\" < 3 ) LIMIT 1\n  reads \"a\", \"b\"\n  chunks 3 of 3\n  \
+nothing is left out: one side of an AND below NOT, which begins with \"b\", may be false in each chunk\n",
+    ),
+    (
+        b"SELECT a FROM t WHERE a < 3 OR a >= 3 LIMIT 1",
+        b"7: SELECT \"a\" FROM \"t\" WHERE \"a\" < 3 OR \"a\" >= 3 LIMIT 1\n  reads \"a\"\n  chunks 3 of 3\n  \
 nothing is left out: the sides of an OR together are allowed in each chunk\n",
     ),
     (
         b"SELECT a FROM t WHERE NOT b IS NULL LIMIT 1",
         b"7: SELECT \"a\" FROM \"t\" WHERE NOT \"b\" IS NULL LIMIT 1\n  reads \"a\", \"b\"\n  chunks 3 of 3\n  \
-nothing is left out: column 2 is tested for NULL, which its zone in each chunk allows\n",
+nothing is left out: \"b\" is tested for NULL, which its zone in each chunk allows\n",
     ),
     (
         b"SELECT a FROM t WHERE a < 0 OR a > 5 LIMIT 1",

@@ -14,15 +14,21 @@ use table_core::{Bytes, Column, Dict, Kind, Schema, places_of_kind};
 // A batch, and of each refused statement LINE:COLUMN, the token and, behind a colon, what could stand there.
 const PLACES: &[(&[u8], &[u8])] = &[
     // each clause cut short
-    (b"SELECT", b"1:7 : COUNT, SUM, MIN, MAX or a name"),
+    (b"SELECT", b"1:7 : a column's name, COUNT, SUM, MIN or MAX"),
     (b"SELECT id", b"1:10 : FROM or ','"),
     (b"SELECT COUNT", b"1:13 : '('"),
-    (b"SELECT COUNT(", b"1:14 : a name or '*'"),
-    (b"SELECT SUM(", b"1:12 : a name"),
+    (b"SELECT COUNT(", b"1:14 : a column's name or '*'"),
+    (b"SELECT SUM(", b"1:12 : a column's name"),
     (b"SELECT MAX(id", b"1:14 : ')'"),
-    (b"SELECT id,", b"1:11 : COUNT, SUM, MIN, MAX or a name"),
-    (b"SELECT id FROM", b"1:15 : a name"),
-    (b"SELECT id FROM t WHERE", b"1:23 : NOT, a name or '('"),
+    (
+        b"SELECT id,",
+        b"1:11 : a column's name, COUNT, SUM, MIN or MAX",
+    ),
+    (b"SELECT id FROM", b"1:15 : the table's name, t"),
+    (
+        b"SELECT id FROM t WHERE",
+        b"1:23 : a column's name, NOT or '('",
+    ),
     (b"SELECT id FROM t WHERE id", b"1:26 : IS or a comparison"),
     (
         b"SELECT id FROM t WHERE id <",
@@ -37,27 +43,29 @@ const PLACES: &[(&[u8], &[u8])] = &[
     (b"SELECT id FROM t WHERE (id = 1", b"1:31 : AND, OR or ')'"),
     (
         b"SELECT id FROM t WHERE id = 1 AND",
-        b"1:34 : NOT, a name or '('",
+        b"1:34 : a column's name, NOT or '('",
     ),
     (b"SELECT id FROM t GROUP", b"1:23 : BY"),
-    (b"SELECT id FROM t GROUP BY", b"1:26 : a name"),
-    (b"SELECT id FROM t GROUP BY id,", b"1:30 : a name"),
+    (b"SELECT id FROM t GROUP BY", b"1:26 : a column's name"),
+    (b"SELECT id FROM t GROUP BY id,", b"1:30 : a column's name"),
     (
         b"SELECT id FROM t ORDER BY id",
         b"1:29 : LIMIT, ASC, DESC or ','",
     ),
-    (b"SELECT id FROM t LIMIT", b"1:23 : a number"),
     // a wrong word, a missing one, a wrong order
     (b"UPDATE t", b"1:1 UPDATE: SELECT"),
     (
         b"SELECT FROM t",
-        b"1:8 FROM: COUNT, SUM, MIN, MAX or a name",
+        b"1:8 FROM: a column's name, COUNT, SUM, MIN or MAX",
     ),
-    (b"SELECT * FROM t", b"1:8 *: COUNT, SUM, MIN, MAX or a name"),
+    (
+        b"SELECT * FROM t",
+        b"1:8 *: a column's name, COUNT, SUM, MIN or MAX",
+    ),
     (b"SELECT id FORM t", b"1:11 FORM: FROM or ','"),
     (b"SELECT id WHERE id = 1", b"1:11 WHERE: FROM or ','"),
-    (b"SELECT SUM(*) FROM t", b"1:12 *: a name"),
-    (b"SELECT id FROM 't'", b"1:16 't': a name"),
+    (b"SELECT SUM(*) FROM t", b"1:12 *: a column's name"),
+    (b"SELECT id FROM 't'", b"1:16 't': the table's name, t"),
     (
         b"SELECT id FROM t, u",
         b"1:17 ,: WHERE, GROUP, ORDER, LIMIT or the end",
@@ -68,7 +76,7 @@ const PLACES: &[(&[u8], &[u8])] = &[
     ),
     (
         b"SELECT id FROM t WHERE 1 = id",
-        b"1:24 1: NOT, a name or '('",
+        b"1:24 1: a column's name, NOT or '('",
     ),
     (
         b"SELECT id FROM t WHERE id = NULL",
@@ -90,7 +98,18 @@ const PLACES: &[(&[u8], &[u8])] = &[
         b"SELECT id FROM t ORDER BY id ASC DESC LIMIT 1",
         b"1:34 DESC: LIMIT or ','",
     ),
-    (b"SELECT id FROM t LIMIT -1", b"1:24 -: a number"),
+    // behind LIMIT the bound is told, whatever stands there
+    (b"SELECT id FROM t LIMIT", b"1:23 : a number up to 4096"),
+    (b"SELECT id FROM t LIMIT x", b"1:24 x: a number up to 4096"),
+    (b"SELECT id FROM t LIMIT -1", b"1:24 -: a number up to 4096"),
+    (
+        b"SELECT id FROM t ORDER BY id LIMIT 2.5",
+        b"1:36 2.5: a number up to 4096",
+    ),
+    (
+        b"SELECT id FROM t ORDER BY \"limit\" 1",
+        b"1:35 1: LIMIT, ASC, DESC or ','",
+    ),
     (
         b"SELECT id FROM t LIMIT 1 ORDER BY id",
         b"1:26 ORDER: the end",
@@ -115,18 +134,21 @@ const PLACES: &[(&[u8], &[u8])] = &[
     // numbers out of range
     (
         b"SELECT id FROM t WHERE id = 9223372036854775808",
-        b"1:29 9223372036854775808: a number, a decimal, a text or '-'",
+        b"1:29 9223372036854775808: a number up to 9223372036854775807, a decimal with at most 9 places, a text or '-'",
     ),
     (
         b"SELECT id FROM t WHERE id = -9223372036854775809",
-        b"1:30 9223372036854775809: a number or a decimal",
+        b"1:30 9223372036854775809: a number up to 9223372036854775808 or a decimal with at most 9 places",
     ),
     (
         b"SELECT id FROM t WHERE id = 0.1234567890",
-        b"1:29 0.1234567890: a number, a decimal, a text or '-'",
+        b"1:29 0.1234567890: a number up to 9223372036854775807, a decimal with at most 9 places, a text or '-'",
     ),
     // limits
-    (b"SELECT id FROM t LIMIT 4097", b"1:24 4097: a number"),
+    (
+        b"SELECT id FROM t LIMIT 4097",
+        b"1:24 4097: a number up to 4096",
+    ),
     (
         b"SELECT a,b,c,d,e,f,g,h,i,j,k,l,m,n,o,p,q,r,s,t,u,v,w,x,y,z,a,b,c,d,e,f,g FROM t",
         b"1:71 ,: FROM",
@@ -157,7 +179,7 @@ const PLACES: &[(&[u8], &[u8])] = &[
     ),
     (
         b"\n\nSELECT id FROM t\n;SELECT",
-        b"3:8 id: \n4:8 : COUNT, SUM, MIN, MAX or a name",
+        b"3:8 id: \n4:8 : a column's name, COUNT, SUM, MIN or MAX",
     ),
 ];
 
@@ -252,7 +274,7 @@ fn show(
     out.extend_from_slice(format!(in alloc; "{spot} ")?.as_bytes())?;
     out.extend_from_slice(token)?;
     let mut stands = Bytes::new(Vec::new(alloc));
-    write_stands(&mut stands, &place.stands)?;
+    write_stands(&mut stands, &place)?;
     out.extend_from_slice(b": ")?;
     out.extend_from_slice(stands.as_slice())?;
     Ok(())

@@ -23,17 +23,23 @@ column 1 \"a \"\"b\"\"\": INT, 3 NULL, no value\n\
 column 2 \"\": TEXT, 0 NULL, 2 distinct, least 'it''s', greatest 'x'\n",
     ),
     (b"n\n", b"rows 0\ncolumn 1 \"n\": INT, 0 NULL, no value\n"),
-    // one value in ten is a few, and a NULL is no value
+    // some values are numbers: those that are none are counted, and a NULL is no value
     (
         b"n\n1\n2\n\"\"\n3\nn/a\n5\n6\n7\n8\n9\n10\n",
         b"rows 11\n\
 column 1 \"n\": TEXT, 1 NULL, 10 distinct, least '1', greatest 'n/a', \
 TEXT for 1 that are no numbers, first 'n/a' in row 5\n",
     ),
-    // one in nine isn't
+    // one value alone is a number
     (
-        b"n\n1\n2\n\"\"\n3\nn/a\n5\n6\n7\n8\n9\n",
-        b"rows 10\ncolumn 1 \"n\": TEXT, 1 NULL, 9 distinct, least '1', greatest 'n/a'\n",
+        b"n\na\n\"\"\nb\n3\n",
+        b"rows 4\n\
+column 1 \"n\": TEXT, 1 NULL, 3 distinct, least '3', greatest 'b', TEXT for 2 that are no numbers, first 'a' in row 1\n",
+    ),
+    // none is
+    (
+        b"n\na\n\"\"\nb\n",
+        b"rows 3\ncolumn 1 \"n\": TEXT, 1 NULL, 2 distinct, least 'a', greatest 'b'\n",
     ),
     (
         b"n\n1\n-0\n",

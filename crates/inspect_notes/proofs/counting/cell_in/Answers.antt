@@ -1,4 +1,4 @@
-use Rattle.std.proofs.Common.{[], ◌<◌, arith}
+use Rattle.std.proofs.Common.{[], arith}
 use Rattle.inspect_notes.proofs.counting.cell_in.Goals as goal
 
 pub cell-requires-clause-column : goal.cell-requires-clause-column

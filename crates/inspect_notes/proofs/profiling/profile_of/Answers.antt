@@ -1,4 +1,4 @@
-use Rattle.std.proofs.Common.{◌≡◌, ◌+◌, ◌∙◌, ◌∷◌, [], List, ap, arith, length, length-append, subst}
+use Rattle.std.proofs.Common.{◌+◌, ◌∙◌, ◌∷◌, [], List, ap, arith, length, length-append, subst}
 use Rattle.std.specs.Prelude.{All}
 use Rattle.table_core.specs.declared.cell.Cell.{Cell}
 use Rattle.filter_zones.specs.Zone.{CoversRow, IsZone, column_of, zone_at}
