@@ -1,6 +1,6 @@
-//! `coop_inspect`: explains a batch of coop_cli, judges the output of a run, or draws it. docs/INSPECT.md is its manual.
-//! `main` hands `inspect` of inspect_calls the words, the files of the system, standard output and standard error; the
-//! theorem is `inspect`'s.
+//! `coop_inspect`: explains a batch of coop_cli, judges the output of a run, tells its setting, or draws it.
+//! docs/INSPECT.md is its manual. `main` hands `inspect` of inspect_calls the words, the files of the system, standard
+//! output and standard error; the theorem is `inspect`'s.
 #![tactic(auto)]
 
 mod words;

@@ -36,8 +36,12 @@ pub(crate) fn broken(alloc: Global, file: &str, failure: Failure) -> Reply
     }
 }
 
-// The line of a refusal.
-fn refused(alloc: Global, writing: &Writing<'_>, refusal: &Refusal) -> Result<String, AllocError> {
+/// The line of a refusal.
+pub(crate) fn refused(
+    alloc: Global,
+    writing: &Writing<'_>,
+    refusal: &Refusal,
+) -> Result<String, AllocError> {
     let number = refusal.number;
     match refusal.cause {
         Cause::NoColumn { word } => lacking(alloc, "--columns", writing.columns.as_slice(), word),

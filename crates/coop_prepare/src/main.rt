@@ -1,11 +1,14 @@
 //! `coop_prepare`: tells what an export is, and makes of it the CSV that coop_cli takes. docs/EXPORT.md is its manual.
-//! `main` hands the words to prepare_words, the export and standard output to `prepare` of prepare_rules, and a text to
+//! `main` hands the words to prepare_words, the export and standard output to `prepare` of prepare_rules or to
+//! `write_auto` of prepare_auto, behind `with_tabs` of prepare_blanks where blanks part its columns, and a text to
 //! `look_at` of prepare_page; the theorems are theirs.
 #![tactic(auto)]
 
 mod ending;
+mod guessing;
 mod looking;
 mod reply;
+mod text;
 mod words;
 mod writing;
 

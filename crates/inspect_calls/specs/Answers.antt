@@ -2,13 +2,14 @@
 use Rattle.std.specs.Prelude.{◌≡◌, ◌⊎◌, ℕ, List, Some}
 use Rattle.clap.specs.Walk.{Text}
 use Rattle.coop_outside.specs.Held.{Held}
-use Rattle.inspect_words.specs.Asked.{AskedIs, IsRefusedFor, asked_of, draw_is, explain_is, judge_is}
+use Rattle.inspect_words.specs.Asked.{AskedIs, IsRefusedFor, asked_of, draw_is, explain_is, judge_is, setting_is}
 use Rattle.inspect_words.specs.Refusals.{is_fault, status_of}
 use Rattle.inspect_words.specs.declared.refused.Refused.{Refused}
 use Rattle.inspect_calls.specs.Drawing.{IsDrawing}
 use Rattle.inspect_calls.specs.Explaining.{IsExplanation}
 use Rattle.inspect_calls.specs.Judging.{IsJudgement}
 use Rattle.inspect_calls.specs.Replies.{IsMemory}
+use Rattle.inspect_calls.specs.Settings.{IsSettingSaid}
 use Rattle.inspect_calls.specs.declared.reply.Reply.{Reply}
 
 -- help or the version on standard output with status 0, or what is wrong with the words on standard error; or memory
@@ -22,9 +23,10 @@ IsRefusal refused reply = IsToldBy refused reply ⊎ IsMemory reply
 
 -- what is said to what is asked for, where the shelf holds this and counted so many faults before and after
 abbrev pub Answers : AskedIs → Held → ℕ → ℕ → Reply → Type 0
-Answers (draw_is output window) held before now reply = IsDrawing window held output before now reply
+Answers (draw_is output window form) held before now reply = IsDrawing form window held output before now reply
 Answers (explain_is r) held before now reply = IsExplanation r held before now reply
 Answers (judge_is r output) held before now reply = IsJudgement r held output before now reply
+Answers (setting_is r) held before now reply = IsSettingSaid r held before now reply
 
 -- the words are refused for this, and it is told
 pub record IsRefusing (words : List Text) (reply : Reply) : Type 0 where

@@ -9,4 +9,5 @@ pub mod Explaining
 pub mod Reasons
 pub mod Verdicts
 pub mod Judging
+pub mod Settings
 pub mod Answers

@@ -9,6 +9,7 @@ use crate::drawing::drawing;
 use crate::explaining::explanation;
 use crate::judging::judgement;
 use crate::reply::{Reply, say};
+use crate::settings::setting_said;
 use coop_outside::{Shelf, Sink};
 use inspect_words::{Asked, Refused, asked_of};
 use std::alloc::Global;
@@ -63,7 +64,12 @@ fn answered<F: Shelf, R: Threads + Sync>(
     match asked {
         Asked::Explain { run } => explanation(rt, alloc, keys, &run, shelf),
         Asked::Judge { run, output } => judgement(rt, alloc, keys, &run, output, shelf),
-        Asked::Draw { output, window } => drawing(alloc, output, window, shelf),
+        Asked::Setting { run } => setting_said(rt, alloc, keys, &run, shelf),
+        Asked::Draw {
+            output,
+            window,
+            form,
+        } => drawing(alloc, output, window, form, shelf),
     }
 }
 

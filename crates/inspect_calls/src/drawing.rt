@@ -1,35 +1,43 @@
-// The picture of the story in OUTPUT.
-ghost use Rattle.std.specs.Prelude.{◌≤◌, ◌^◌, length};
-ghost use Rattle.inspect_calls.specs.Drawing.{IsDrawing, IsDrawnAs, IsGroupsIn, IsNoEntry, IsPartDrawn, IsPicture};
+// The story in OUTPUT, drawn.
+ghost use Rattle.std.specs.Prelude.{◌≡◌, ◌≤◌, ◌^◌, IfOk, length};
+ghost use Rattle.inspect_calls.specs.Drawing.{IsDrawing, IsDrawn, IsDrawnAs, IsGroupsIn, IsNoEntry};
+ghost use Rattle.inspect_calls.specs.Drawing.{IsPartDrawn, drawn_as};
 
 use crate::lines::numbered;
 use crate::output::read_output;
 use crate::reply::Reply;
 use crate::showing::{behind_of, past_end, view_of};
 use coop_outside::Shelf;
+use inspect_page::page_of;
 use inspect_picture::{TraceRefusal, View, draw_part, groups_of, story_of_output};
-use inspect_words::Window;
-use scan_story::Entry;
+use inspect_words::{Form, Window};
+use scan_story::{Bytes, Entry, Memory};
 use std::alloc::Global;
 
-/// What is said to `draw`: the picture of the trace at the end of the file of this name, or of some of its entries; or
-/// why there is none.
-pub(crate) fn drawing<F: Shelf>(alloc: Global, name: &str, window: Window, shelf: &mut F) -> Reply
-    ensures { IsDrawing window (F.held shelf.old) name.now (F.faults shelf.old) (F.faults shelf.new) result }
+/// What is said to `draw`: the trace at the end of the file of this name, or some of its entries, drawn in this form;
+/// or why it isn't.
+pub(crate) fn drawing<F: Shelf>(
+    alloc: Global,
+    name: &str,
+    window: Window,
+    form: Form,
+    shelf: &mut F,
+) -> Reply
+    ensures { IsDrawing form window (F.held shelf.old) name.now (F.faults shelf.old) (F.faults shelf.new) result }
 {
     match read_output(alloc, name, shelf) {
-        Ok(text) => picture_in(alloc, text.as_slice(), window),
+        Ok(text) => drawn_from(alloc, text.as_slice(), window, form),
         Err(reply) => reply,
     }
 }
 
-// The picture of the trace at the end of a text.
-fn picture_in(alloc: Global, text: &[u8], window: Window) -> Reply
+// The trace at the end of a text, drawn.
+fn drawn_from(alloc: Global, text: &[u8], window: Window, form: Form) -> Reply
     requires small { length text.now ≤ 2 ^ 28 }
-    ensures { IsPicture window text.now result }
+    ensures { IsDrawn form window text.now result }
 {
     match story_of_output(alloc, text) {
-        Ok(entries) => picture_of(alloc, &entries, window),
+        Ok(entries) => story_drawn(alloc, &entries, window, form),
         Err(TraceRefusal::NoTrace) => {
             Reply::fault(alloc, 3, b"stopped 3: no trace in the output\n")
         }
@@ -38,26 +46,44 @@ fn picture_in(alloc: Global, text: &[u8], window: Window) -> Reply
     }
 }
 
-// The picture of the entries that are asked for, or the word that names one past the end.
-fn picture_of(alloc: Global, entries: &[Entry], window: Window) -> Reply
+// The entries that are asked for, drawn; or the word that names one past the end.
+fn story_drawn(alloc: Global, entries: &[Entry], window: Window, form: Form) -> Reply
     requires size { length entries.now ≤ 2 ^ 30 }
-    ensures { IsDrawnAs window entries.now result }
+    ensures { IsDrawnAs form window entries.now result }
 {
     let count = entries.len() as u32;
     match behind_of(window, count) {
         Some(behind) => past_end(alloc, behind, count),
-        None => part_of(alloc, entries, view_of(window, count)),
+        None => part_drawn(alloc, entries, view_of(window, count), form),
     }
 }
 
-// The picture of these entries.
-fn part_of(alloc: Global, entries: &[Entry], view: View) -> Reply
+// These entries, drawn.
+fn part_drawn(alloc: Global, entries: &[Entry], view: View, form: Form) -> Reply
     requires size { length entries.now ≤ 2 ^ 30 }
-    ensures { IsPartDrawn view entries.now result }
+    ensures { IsPartDrawn form view entries.now result }
 {
-    match draw_part(alloc, entries, groups_in(entries), view) {
-        Ok(picture) => Reply::answer(0, picture.into_vec()),
+    match text_of(alloc, entries, groups_in(entries), view, form) {
+        Ok(text) => Reply::answer(0, text.into_vec()),
         Err(_) => Reply::memory(alloc),
+    }
+}
+
+// The text of what is drawn.
+fn text_of(
+    alloc: Global,
+    entries: &[Entry],
+    groups: u32,
+    view: View,
+    form: Form,
+) -> Result<Bytes, Memory>
+    requires groups { 1 ≤ groups }
+    requires size { length entries.now ≤ 2 ^ 30 }
+    ensures { IfOk result (λ text. text ≡ drawn_as form groups view entries.now) }
+{
+    match form {
+        Form::Picture => draw_part(alloc, entries, groups, view),
+        Form::Page => page_of(alloc, entries, groups, view),
     }
 }
 

@@ -16,6 +16,7 @@ mod ranks;
 mod reasons;
 mod refusals;
 mod reply;
+mod settings;
 mod showing;
 mod statements;
 mod stderr_sink;

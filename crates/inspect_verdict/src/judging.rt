@@ -6,7 +6,7 @@ ghost use Rattle.inspect_verdict.specs.Judged as spec;
 ghost use Rattle.inspect_verdict.specs.Told.{run_setting};
 
 use crate::apart::reads_apart;
-use crate::terms::terms_of;
+use crate::terms_given::terms_with;
 use crate::unfit::Unfit;
 use crate::wording::{Fitting, fits_of};
 use batch_plan::Task;
@@ -77,9 +77,14 @@ pub(crate) fn judge_run(
 {
     let loaded = &inputs.loaded;
     let options = &inputs.options;
-    let (table, dicts) = (&loaded.table, &loaded.dicts);
-    let terms = terms_of(alloc, table, dicts, tasks, options, policy)?;
-    let shape = shape_of(alloc, table, dicts, options.layout, options.per)?;
+    let terms = terms_with(alloc, inputs, tasks, policy)?;
+    let shape = shape_of(
+        alloc,
+        &loaded.table,
+        &loaded.dicts,
+        options.layout,
+        options.per,
+    )?;
     let ruling = judge(alloc, &terms, story)?;
     let fits = fits_of(alloc, &terms, &shape, scratch, legal_front(ruling, story))?;
     Ok(judged_by(ruling, fits, reads_apart(&terms)))

@@ -11,9 +11,10 @@ use Rattle.clap.proofs.WalkLemmas.{first_value-rows}
 use Rattle.command_words.specs.Matched.{texts}
 use Rattle.command_words.specs.Options.{Request, options_of}
 use Rattle.command_words.specs.declared.call.Call.TheVariants.{RunBoxed}
-use Rattle.inspect_words.specs.Asked.{AskedIs, IsRefusedFor, IsRunRefused, asked_by, asked_in, asked_of, draw_from, draw_is, draw_of, judge_is, judge_of, parted}
+use Rattle.inspect_words.specs.Asked.{AskedIs, IsRefusedFor, IsRunRefused, asked_by, asked_in, asked_of, draw_from, draw_is, draw_of, form_of, judge_is, judge_of, parted}
 use Rattle.inspect_words.specs.Command.{inspect}
 use Rattle.inspect_words.specs.Windows.{window_of}
+use Rattle.inspect_words.specs.declared.form.Form.{Form}
 use Rattle.inspect_words.specs.declared.window.Window.{Window}
 use Rattle.inspect_words.specs.declared.refused.Refused.{Refused}
 use Rattle.inspect_words.specs.declared.refused.Refused.TheVariants as refused
@@ -64,10 +65,11 @@ judges words before x o is run =
 pub draws : (f : Found) (o : Option Text) → o ≡ first_value f (codes "OUTPUT") → draw_of (rows_of f) ≡ option_and_then (λ x. draw_from x (rows_of f)) o
 draws f o is = ap (option_and_then (λ x. draw_from x (rows_of f))) (sym (first_value-rows f (codes "OUTPUT")) ∙ sym is)
 
--- which entries are to be drawn
-pub windows : (f : Found) (o : Text) (from to : Option Text) (w : Option Window) → from ≡ first_value f (codes "from") → to ≡ first_value f (codes "to")
-    → w ≡ window_of from to → draw_from o (rows_of f) ≡ option_map (draw_is o) w
-windows f o from to w begins ends is =
-    ap (λ x. option_map (draw_is o) (window_of x (first_of (codes "to") (rows_of f)))) (sym (first_value-rows f (codes "from")) ∙ sym begins)
-    ∙ ap (λ x. option_map (draw_is o) (window_of from x)) (sym (first_value-rows f (codes "to")) ∙ sym ends)
-    ∙ ap (option_map (draw_is o)) (sym is)
+-- which entries are to be drawn, and as what
+pub windows : (f : Found) (o : Text) (from to html : Option Text) (w : Option Window) (form : Form) → from ≡ first_value f (codes "from") → to ≡ first_value f (codes "to")
+    → html ≡ first_value f (codes "html") → w ≡ window_of from to → form ≡ form_of html → draw_from o (rows_of f) ≡ option_map (λ w. draw_is o w form) w
+windows f o from to html w form begins ends named is formed =
+    ap (λ x. option_map (λ w. draw_is o w (form_of (first_of (codes "html") (rows_of f)))) (window_of x (first_of (codes "to") (rows_of f)))) (sym (first_value-rows f (codes "from")) ∙ sym begins)
+    ∙ ap (λ x. option_map (λ w. draw_is o w (form_of (first_of (codes "html") (rows_of f)))) (window_of from x)) (sym (first_value-rows f (codes "to")) ∙ sym ends)
+    ∙ ap (option_map (λ w. draw_is o w (form_of (first_of (codes "html") (rows_of f))))) (sym is)
+    ∙ ap (λ k. option_map (λ w. draw_is o w k) w) (ap form_of (sym (first_value-rows f (codes "html")) ∙ sym named) ∙ sym formed)

@@ -44,6 +44,10 @@ table_places = place (codes "TABLE") ∷ place (codes "BATCH") ∷ []
 abbrev pub window_rules : List Rule
 window_rules = number MOST_ENTRIES (codes "from") ∷ number MOST_ENTRIES (codes "to") ∷ []
 
+-- as what they are drawn
+abbrev pub form_rules : List Rule
+form_rules = flag (codes "html") ∷ []
+
 abbrev pub output_place : List Rule
 output_place = place (codes "OUTPUT") ∷ []
 
@@ -57,8 +61,11 @@ explain = sub (codes "explain") (cut_rules ++ table_places)
 abbrev pub judge : Shape
 judge = sub (codes "judge") (work_rules ++ (cut_rules ++ (side_rules ++ (table_places ++ output_place))))
 
+abbrev pub setting : Shape
+setting = sub (codes "setting") (work_rules ++ (cut_rules ++ (side_rules ++ table_places)))
+
 abbrev pub draw : Shape
-draw = sub (codes "draw") (window_rules ++ output_place)
+draw = sub (codes "draw") (window_rules ++ (form_rules ++ output_place))
 
 abbrev pub top : Shape
 top = record (new_shape (codes "coop_inspect")) {
@@ -72,7 +79,7 @@ top = record (new_shape (codes "coop_inspect")) {
 
 -- THE COMMAND: one subcommand has to be there; `--help`, `-h`, `--version` and `-V` are clap's own
 abbrev pub inspect : App
-inspect = record { top = top; subs = explain ∷ judge ∷ draw ∷ [] }
+inspect = record { top = top; subs = explain ∷ judge ∷ setting ∷ draw ∷ [] }
 
 -- the command with further rules
 abbrev pub with_rules : App → List Rule → App

@@ -1,4 +1,5 @@
 // What the words ask for.
+use crate::form::Form;
 use crate::window::Window;
 use command_words::Request;
 
@@ -7,9 +8,22 @@ use command_words::Request;
 pub enum Asked<'a> {
     /// What a table holds, and what becomes of each statement of a batch, where the table is cut as the request says. All
     /// else of the request is usual: `explain`.
-    Explain { run: Request<'a> },
+    Explain {
+        run: Request<'a>,
+    },
     /// Whether the file OUTPUT holds the output of a legal run of the request: `judge`.
-    Judge { run: Request<'a>, output: &'a str },
-    /// The picture of the story in the file OUTPUT, or of some of its entries: `draw`.
-    Draw { output: &'a str, window: Window },
+    Judge {
+        run: Request<'a>,
+        output: &'a str,
+    },
+    /// The text of the setting in which the story of the request's run is judged: `setting`.
+    Setting {
+        run: Request<'a>,
+    },
+    /// The story in the file OUTPUT, or some of its entries, drawn: `draw`.
+    Draw {
+        output: &'a str,
+        window: Window,
+        form: Form,
+    },
 }

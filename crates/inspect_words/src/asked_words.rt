@@ -5,12 +5,13 @@ ghost use Rattle.clap.specs.Matches.{found_of};
 ghost use Rattle.clap.specs.Simple.{subcommand_of, subcommand_rows_of};
 ghost use Rattle.clap.specs.Walk.{rows_of};
 ghost use Rattle.command_words.specs.Matched.{texts};
-ghost use Rattle.inspect_words.specs.Asked.{HasLimits, IsRefusedFor, IsRunRefused, asked_by, asked_of, asked_view, draw_from, draw_of, explain_of, judge_of};
+ghost use Rattle.inspect_words.specs.Asked.{HasLimits, IsRefusedFor, IsRunRefused, asked_by, asked_of, asked_view, draw_from, draw_of, explain_of, judge_of, setting_of};
 ghost use Rattle.inspect_words.specs.Command.{inspect};
 
 use crate::asked::Asked;
 use crate::command::command;
 use crate::culprit::{Culprit, bare_in, order_culprit, value_in};
+use crate::form::form_of;
 use crate::refused::Refused;
 use crate::window::window_of;
 use clap::ArgMatches;
@@ -53,6 +54,9 @@ fn asked_by<'a>(
     }
     if name == "judge" {
         return judged(alloc, found, words);
+    }
+    if name == "setting" {
+        return setting_told(alloc, found, words);
     }
     drawn(found)
 }
@@ -120,6 +124,22 @@ fn judged<'a>(
     }
 }
 
+fn setting_told<'a>(
+    alloc: Global,
+    found: &ArgMatches<'a>,
+    words: &'a [String],
+) -> Result<Asked<'a>, Refused<'a>>
+    ensures asked { IfOk result (λ a. setting_of (texts words.now) ≡ Some (asked_view a)) }
+    ensures limits { IfOk result (λ a. HasLimits (asked_view a)) }
+    ensures refused { IfErr result (IsRunRefused (setting_of (texts words.now))) }
+{
+    match options_of(alloc, Call::RunBoxed, words) {
+        Ok(run) => Ok(Asked::Setting { run }),
+        Err(RunRefused::Usage) => Err(Refused::Run(culprit_in(found, words))),
+        Err(RunRefused::Memory) => Err(Refused::Memory),
+    }
+}
+
 fn drawn<'a>(found: &ArgMatches<'a>) -> Result<Asked<'a>, Refused<'a>>
     ensures asked { IfOk result (λ a. draw_of (rows_of (found_of found.now)) ≡ Some (asked_view a)) }
     ensures limits { IfOk result (λ a. HasLimits (asked_view a)) }
@@ -138,8 +158,13 @@ fn drawn_from<'a>(found: &ArgMatches<'a>, output: &'a str) -> Result<Asked<'a>, 
     ensures refused { IfErr result (IsRunRefused (draw_from output.now (rows_of (found_of found.now)))) }
 {
     let (from, to) = (found.get_str("from"), found.get_str("to"));
+    let form = form_of(found.get_str("html"));
     match window_of(from, to) {
-        Some(window) => Ok(Asked::Draw { output, window }),
+        Some(window) => Ok(Asked::Draw {
+            output,
+            window,
+            form,
+        }),
         None => Err(Refused::Run(order_culprit(from, to))),
     }
 }

@@ -1,7 +1,7 @@
 // The command, as clap has it.
 ghost use Rattle.std.specs.Prelude.{◌≡◌, IfOk};
 ghost use Rattle.clap.specs.Simple.{App, app_of};
-ghost use Rattle.inspect_words.specs.Command.{IsCommand, cut_rules, draw, explain, inspect, judge, output_place, side_rules, table_places, window_rules, with_rules, work_rules};
+ghost use Rattle.inspect_words.specs.Command.{IsCommand, cut_rules, draw, explain, form_rules, inspect, judge, output_place, setting, side_rules, table_places, window_rules, with_rules, work_rules};
 
 use crate::places::{flag, number, option, place};
 use crate::version::VERSION;
@@ -17,8 +17,9 @@ pub(crate) fn command<'a>(alloc: Global) -> Result<Command<'a>, AllocError>
 {
     let first = explain(alloc)?;
     let second = judge(alloc)?;
-    let third = draw(alloc)?;
-    let subcommands = vec![in alloc; first, second, third]?;
+    let third = setting(alloc)?;
+    let last = draw(alloc)?;
+    let subcommands = vec![in alloc; first, second, third, last]?;
     let named = Command::new(alloc, "coop_inspect").bin_name("coop_inspect")?;
     named
         .no_binary_name(true)
@@ -55,7 +56,20 @@ fn judge<'a>(alloc: Global) -> Result<Command<'a>, AllocError>
     with_output(alloc, table)
 }
 
-// `draw [--from N] [--to M] OUTPUT`
+// `setting [the words of the run] TABLE BATCH`
+fn setting<'a>(alloc: Global) -> Result<Command<'a>, AllocError>
+    ensures { IfOk result (λ c. (a : App) × IsCommand a c × (a.top ≡ setting)) }
+{
+    let start = Command::new(alloc, "setting").version(VERSION).about(
+        "Prints the setting in which the story of a run of coop_cli with these words is judged",
+    );
+    let work = with_work(alloc, start)?;
+    let cut = with_cut(alloc, work)?;
+    let side = with_side(alloc, cut)?;
+    with_table(alloc, side)
+}
+
+// `draw [--from N] [--to M] [--html] OUTPUT`
 fn draw<'a>(alloc: Global) -> Result<Command<'a>, AllocError>
     ensures { IfOk result (λ c. (a : App) × IsCommand a c × (a.top ≡ draw)) }
 {
@@ -63,7 +77,8 @@ fn draw<'a>(alloc: Global) -> Result<Command<'a>, AllocError>
         "Draws the trace at the end of OUTPUT as an SVG picture on standard output",
     );
     let window = with_window(alloc, start)?;
-    with_output(alloc, window)
+    let form = with_form(alloc, window)?;
+    with_output(alloc, form)
 }
 
 // Which entries are drawn.
@@ -85,6 +100,17 @@ fn with_window<'a>(alloc: Global, command: Command<'a>) -> Result<Command<'a>, A
         ),
     ]?;
     command.args(options)
+}
+
+// As what they are drawn.
+fn with_form<'a>(alloc: Global, command: Command<'a>) -> Result<Command<'a>, AllocError>
+    ensures { (a : App) → IsCommand a command.entry → IfOk result (IsCommand (with_rules a form_rules)) }
+{
+    command.arg(flag(
+        alloc,
+        "html",
+        "A page of HTML with the picture and a table of its scans",
+    ))
 }
 
 // How the table is cut.
@@ -145,17 +171,13 @@ fn with_side<'a>(alloc: Global, command: Command<'a>) -> Result<Command<'a>, All
             alloc,
             "scratch",
             "FILE",
-            "The scratch file of the run; it changes nothing here",
+            "The scratch file of the run, which isn't touched",
         ),
-        flag(
-            alloc,
-            "summary",
-            "OUTPUT has the summary behind the answers"
-        ),
+        flag(alloc, "summary", "The run prints the summary"),
         flag(
             alloc,
             "trace",
-            "OUTPUT has the trace, as it must; the word may stand here",
+            "The run prints the trace, as it must to be judged; the word may be left out",
         ),
     ]?;
     command.args(options)

@@ -2,17 +2,12 @@
 use Rattle.std.proofs.Common.{◌≡◌, ◌∙◌, ◌+◌, ◌-◌, ◌*◌, ◌^◌, ℕ, zero, suc, Bool, true, false, List, [], ◌∷◌, ◌++◌, take, drop, refl, sym, ap, inl, inr, arith, pow-suc}
 use Rattle.std.proofs.lemmas.Bool.{cases_Bool, eqb-true}
 use Rattle.std.proofs.lemmas.Bool.Decides.{nat_tests}
-use Rattle.std.specs.Prelude.{◌==◌, ◌&&◌, ◌||◌, ⊤, not}
+use Rattle.std.specs.Prelude.{◌==◌, ◌&&◌, ◌||◌, not}
 use Rattle.std.specs.Char.{is_ascii_digit}
 use Rattle.std.specs.List.{list_any}
 use Rattle.prepare_numbers.specs.Plain.{is_nonzero, spread, stripped, zeros}
 use Rattle.prepare_numbers.specs.Spells.{is_e, is_minus, mantissa, number, number_after, power}
-use Rattle.prepare_numbers.specs.Values.{behind, digits_in}
-
--- all bytes are digits
-abbrev pub AreDigits : List ℕ → Type 0
-AreDigits [] = ⊤
-AreDigits (d ∷ ds) = (is_ascii_digit d ≡ true) × AreDigits ds
+use Rattle.prepare_numbers.specs.Values.{AreDigits, behind, digits_in}
 
 pub found-digits : (xs : List ℕ) → AreDigits (digits_in xs)
 found-digits [] = tt

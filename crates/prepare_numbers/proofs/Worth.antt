@@ -6,8 +6,8 @@ use Rattle.std.specs.Prelude.{◌==◌, ◌&&◌, not, if◌then◌else◌}
 use Rattle.std.specs.List.{list_any}
 use Rattle.prepare_numbers.specs.Plain.{KeepsValue, is_nonzero, moved, plain, pointed, spread, stripped, written, zeros}
 use Rattle.prepare_numbers.specs.Spells.{is_minus, mantissa, number, power}
-use Rattle.prepare_numbers.specs.Values.{IsSame, Value, digits_in, lowered, places_in, raised, value_of}
-use Rattle.prepare_numbers.proofs.Digits.{AreDigits, behind-digits, drop-digits, found-digits, in-digits, mantissa-digits, minus-digits, number-stripped, number-zero, power-digits, spread-digits, spread-number, stripped-digits, take-digits}
+use Rattle.prepare_numbers.specs.Values.{AreDigits, IsSame, Value, digits_in, lowered, places_in, raised, value_of}
+use Rattle.prepare_numbers.proofs.Digits.{behind-digits, drop-digits, found-digits, in-digits, mantissa-digits, minus-digits, number-stripped, number-zero, power-digits, spread-digits, spread-number, stripped-digits, take-digits}
 
 -- a text of digits, perhaps with a point
 pub record IsPointed (places : ℕ) (digits text : List ℕ) : Type 0 where
@@ -64,7 +64,8 @@ value-same a b c d e f g h p q r s = rw (p, q, r, s) refl
 plus-none : (p : ℕ) → p + 0 ≡ p
 plus-none p = omega arith
 
-abbrev simple : Bool → ℕ → ℕ → Value
+-- digits with so many places
+abbrev pub simple : Bool → ℕ → ℕ → Value
 simple below units places = record { below = below; units = units; up = 0; down = places }
 
 signed-value : (b : Bool) (p : ℕ) (ds text : List ℕ) → IsPointed p ds text
@@ -114,11 +115,11 @@ moved-value m up down ds a =
     written-value m (down - up) (spread up down ds) (spread-digits up down ds a) (long-enough up down ds)
     ∙ ap (λ (u : ℕ). simple (m && not (u == 0)) u (down - up)) (spread-number up down ds)
 
-ten-pos : (k : ℕ) → 1 ≤ 10 ^ k
+pub ten-pos : (k : ℕ) → 1 ≤ 10 ^ k
 ten-pos zero = omega arith
 ten-pos (suc k) = omega (arith, pow-suc 10 k, ten-pos k)
 
-times-zero : (u k : ℕ) → (u * 10 ^ k == 0) ≡ (u == 0)
+pub times-zero : (u k : ℕ) → (u * 10 ^ k == 0) ≡ (u == 0)
 times-zero zero k = let e : 0 * 10 ^ k ≡ 0 = grind arith in rw e refl
 times-zero (suc u) k = grind (arith, nat_tests, ten-pos k)
 

@@ -1,3 +1,4 @@
 pub mod Plain
+pub mod Rounding
 pub mod Spells
 pub mod Values

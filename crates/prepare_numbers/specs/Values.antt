@@ -1,5 +1,5 @@
 -- What a field is worth.
-use Rattle.std.specs.Prelude.{◌≡◌, ◌+◌, ◌*◌, ◌^◌, ◌==◌, ◌&&◌, ℕ, Bool, true, false, not, if◌then◌else◌}
+use Rattle.std.specs.Prelude.{◌≡◌, ◌+◌, ◌*◌, ◌^◌, ◌==◌, ◌&&◌, ⊤, ℕ, Bool, true, false, not, if◌then◌else◌}
 use Rattle.std.specs.Prelude.{List, [], ◌∷◌, length, Option, Some, None}
 use Rattle.std.specs.Char.{is_ascii_digit}
 use Rattle.prepare_numbers.specs.Spells.{is_minus, is_power, mantissa, number, power, spells, unsigned}
@@ -10,6 +10,11 @@ use Rattle.prepare_numbers.specs.declared.spelling.Spelling.{Spelling}
 abbrev pub digits_in : List ℕ → List ℕ
 digits_in [] = []
 digits_in (b ∷ bytes) = if is_ascii_digit b then b ∷ digits_in bytes else digits_in bytes
+
+-- all bytes are digits
+abbrev pub AreDigits : List ℕ → Type 0
+AreDigits [] = ⊤
+AreDigits (d ∷ ds) = (is_ascii_digit d ≡ true) × AreDigits ds
 
 abbrev pub behind : ℕ → List ℕ → List ℕ
 behind mark [] = []

@@ -1,9 +1,12 @@
 // Numbers as coop_cli reads them.
-ghost use Rattle.std.specs.Prelude.{◌≡◌, ◌<◌, ◌^◌, ◌++◌, OnOk, ◌-◌};
+ghost use Rattle.std.specs.Prelude.{◌≡◌, ◌<◌, ◌^◌, ◌++◌, IfOk, OnOk, ◌-◌};
 ghost use Rattle.std.specs.List.{list_any};
-ghost use Rattle.prepare_numbers.specs.Plain.{is_nonzero, moved, pointed, sign_of, spread, stripped, zeros};
+ghost use Rattle.prepare_numbers.specs.Plain.{is_nonzero, moved, pointed, sign_of, spread, stripped, written, zeros};
+ghost use Rattle.prepare_numbers.specs.Rounding.{moved_fit, moved_within, unless_long};
 ghost use Rattle.prepare_numbers.specs.Values.{digits_in};
 
+use crate::limit::{Fit, Limit};
+use crate::rounding::round;
 use crate::spelling::Spelling;
 use std::alloc::AllocError;
 
@@ -18,12 +21,46 @@ pub fn push_number(
         ++ moved spelling.now.is_minus spelling.now.up spelling.now.down (digits_in spelling.now.mantissa.now)) }
 {
     spread(spelling, digits)?;
-    push_sign(spelling.is_minus, digits.as_slice(), text)?;
-    push_pointed(
-        spelling.down.saturating_sub(spelling.up),
-        digits.as_slice(),
-        text,
-    )
+    let places = spelling.down.saturating_sub(spelling.up);
+    push_written(spelling.is_minus, places, digits.as_slice(), text)
+}
+
+/// The same with no digit past the limit: a number that has more of them is rounded, or nothing is put.
+pub fn push_within(
+    spelling: &Spelling<'_>,
+    limit: Limit,
+    digits: &mut Vec<u8>,
+    text: &mut Vec<u8>,
+) -> Result<Fit, AllocError>
+    requires { spelling.now.down < 2 ^ 64 - 1 }
+    ensures fits { IfOk result (λ fit. fit
+        ≡ moved_fit limit spelling.now.up spelling.now.down (digits_in spelling.now.mantissa.now)) }
+    ensures text { IfOk result (λ fit. text.new.items ≡ text.old.items ++ unless_long fit (moved_within limit
+        spelling.now.is_minus spelling.now.up spelling.now.down (digits_in spelling.now.mantissa.now))) }
+{
+    spread(spelling, digits)?;
+    let places = spelling.down.saturating_sub(spelling.up);
+    let fit = limit.fit_of(places, digits.as_slice());
+    if fit == Fit::TooLong {
+        return Ok(fit);
+    }
+    let excess = limit.excess(places);
+    round(excess, digits);
+    push_written(spelling.is_minus, places - excess, digits.as_slice(), text)?;
+    Ok(fit)
+}
+
+// Puts digits behind what is there, so many of them behind a point, and a minus before a number below zero.
+fn push_written(
+    is_minus: bool,
+    places: usize,
+    digits: &[u8],
+    text: &mut Vec<u8>,
+) -> Result<(), AllocError>
+    ensures { OnOk result (text.new.items ≡ text.old.items ++ written is_minus places digits.now) }
+{
+    push_sign(is_minus, digits, text)?;
+    push_pointed(places, digits, text)
 }
 
 // Makes the digits written out.
@@ -72,7 +109,8 @@ fn push_sign(is_minus: bool, digits: &[u8], text: &mut Vec<u8>) -> Result<(), Al
     Ok(())
 }
 
-fn has_nonzero(digits: &[u8]) -> bool
+/// Whether some digit is no zero.
+pub(crate) fn has_nonzero(digits: &[u8]) -> bool
     ensures { result ≡ list_any is_nonzero digits.now }
 {
     for i in 0..digits.len() {

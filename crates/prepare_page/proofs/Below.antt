@@ -1,9 +1,9 @@
--- One of the first columns is such.
+-- Some of the first columns are such.
 use Rattle.std.proofs.Common.{◌≡◌, ◌+◌, ◌<◌, ℕ, zero, suc, Bool, true, false, refl, sym, ap, ◌∙◌, arith, inl, inr, add-one}
 use Rattle.std.specs.Prelude.{◌||◌}
-use Rattle.std.proofs.lemmas.Bool.{cases_Bool}
 use Rattle.std.proofs.lemmas.Bool.Decides.{eqb_tells}
-use Rattle.prepare_page.specs.Columns.{some_below}
+use Rattle.prepare_look.specs.Lines.{one_if}
+use Rattle.prepare_page.specs.Columns.{count_below, some_below}
 
 or-true : (b : Bool) → b || true ≡ true
 or-true true = refl
@@ -24,3 +24,13 @@ some-none is = refl
 pub some-next : (is : ℕ → Bool) (n : ℕ) → some_below is n ≡ false → is n ≡ false → some_below is (n + 1) ≡ false
 unfolding some_below
 some-next is n h e = rw add-one (rw (h, e) refl)
+
+-- ---- how many
+
+pub none-counted : (is : ℕ → Bool) → 0 ≡ count_below is 0
+unfolding count_below
+none-counted is = refl
+
+pub next-counted : (is : ℕ → Bool) (n : ℕ) → count_below is (n + 1) ≡ count_below is n + one_if (is n)
+unfolding count_below
+next-counted is n = rw add-one refl

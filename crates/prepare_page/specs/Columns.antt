@@ -1,6 +1,7 @@
 -- What the fields of a column are, taken together.
-use Rattle.std.specs.Prelude.{◌&&◌, ◌||◌, ℕ, zero, suc, Bool, false, not, nat_lt, List}
+use Rattle.std.specs.Prelude.{◌+◌, ◌&&◌, ◌||◌, ℕ, zero, suc, Bool, false, not, nat_lt, List}
 use Rattle.std.specs.List.{list_any}
+use Rattle.prepare_look.specs.Lines.{one_if}
 use Rattle.prepare_look.specs.Surveys.{seen_of}
 use Rattle.prepare_look.specs.declared.kind.Kind.{Kind}
 use Rattle.prepare_look.specs.declared.survey.Survey.{Survey}
@@ -24,3 +25,11 @@ some_below is (suc n) = some_below is n || is n
 
 abbrev pub some_column : Survey → List Kind → List Kind → ℕ → Bool
 some_column s some none n = some_below (λ column. is_of s column some none) n
+
+-- how many of the first columns are such
+unfoldable pub count_below : (ℕ → Bool) → ℕ → ℕ
+count_below is zero = 0
+count_below is (suc n) = count_below is n + one_if (is n)
+
+abbrev pub count_columns : Survey → List Kind → List Kind → ℕ → ℕ
+count_columns s some none n = count_below (λ column. is_of s column some none) n

@@ -1,7 +1,7 @@
 pub mod Advice
+pub mod Blanks
 pub mod Columns
 pub mod Delimiters
-pub mod Encodings
 pub mod Headers
 pub mod Looks
 pub mod Titles

@@ -1,5 +1,5 @@
 -- Records above the names.
-use Rattle.std.specs.Prelude.{◌+◌, ◌*◌, ◌&&◌, ℕ, Bool, not, nat_le, List, [], ◌∷◌, length, if◌then◌else◌}
+use Rattle.std.specs.Prelude.{◌+◌, ◌*◌, ◌&&◌, ℕ, Bool, not, nat_le, Option, Some, None, List, [], ◌∷◌, length, if◌then◌else◌}
 use Rattle.prepare_look.specs.Lines.{one_if}
 use Rattle.prepare_look.specs.Rows.{Row}
 
@@ -17,3 +17,8 @@ unfoldable pub titles_from : ℕ → ℕ → List Row → ℕ
 titles_from width before [] = 0
 titles_from width before (row ∷ rows) = if names_in width row.fields then before
     else titles_from width (before + 1) rows
+
+-- so many records stand above the names as is known, or else guessed
+abbrev pub titles_by : Option ℕ → ℕ → List Row → ℕ
+titles_by None width rows = titles_from width 0 rows
+titles_by (Some titles) width rows = titles

@@ -1,7 +1,8 @@
 // What the fields of a column are, taken together.
-ghost use Rattle.std.specs.Prelude.{◌≡◌, ◌&&◌, not};
+ghost use Rattle.std.specs.Prelude.{◌≡◌, ◌≤◌, ◌&&◌, not};
 ghost use Rattle.std.specs.List.{list_any};
-ghost use Rattle.prepare_page.specs.Columns.{has, is_of, some_column};
+ghost use Rattle.prepare_look.specs.Lines.{one_if};
+ghost use Rattle.prepare_page.specs.Columns.{count_columns, has, is_of, some_column};
 
 use prepare_look::{Kind, Survey};
 
@@ -46,4 +47,27 @@ pub(crate) fn some_column(survey: &Survey, sort: &Sort<'_>) -> bool
         }
     }
     false
+}
+
+// One where it holds.
+fn one_if(holds: bool) -> usize
+    ensures value { result ≡ one_if holds }
+    ensures low { result ≤ 1 }
+{
+    if holds {
+        return 1;
+    }
+    0
+}
+
+/// How many columns are such.
+pub(crate) fn count_columns(survey: &Survey, sort: &Sort<'_>) -> usize
+    ensures value { result ≡ count_columns survey.now sort.now.some.now sort.now.none.now survey.now.width }
+    ensures low { result ≤ survey.now.width }
+{
+    let mut count = 0;
+    for column in 0..survey.width {
+        count += one_if(is_of(survey, column, sort));
+    }
+    count
 }

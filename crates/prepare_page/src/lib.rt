@@ -2,12 +2,13 @@
 #![tactic(auto)]
 
 mod advice;
+mod blanks;
 mod column;
 mod columns_told;
 mod counts;
 mod delimiter;
-mod encoding;
 mod header;
+mod hint;
 mod look;
 mod marks;
 mod needs;
@@ -19,12 +20,15 @@ mod usual;
 mod widths;
 
 pub use advice::{Reading, needs_rules, reading_of};
+pub use blanks::tabs_in;
 pub use counts::{WIDEST, Widths};
 pub use delimiter::{Guess, delimiter_of};
-pub use encoding::{Encoding, encoding_of};
 pub use header::has_names;
-pub use look::{First, Look, look_at};
-pub use page::{Page, Wide, page_of};
+pub use hint::Hint;
+pub use look::{First, Look, look_at, look_by};
+pub use marks::MARKS;
+pub use needs::Advice;
+pub use page::{Page, page_of};
 pub use titles::titles_of;
 pub use usual::{Usual, usual_of};
 pub use widths::widths_of;

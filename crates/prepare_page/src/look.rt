@@ -1,14 +1,14 @@
 // All that is seen of an export.
-ghost use Rattle.std.specs.Prelude.{◌≡◌, ◌+◌, [], ◌∷◌, ◌<◌, ◌^◌, false, IfOk, drop, if◌then◌else◌};
+ghost use Rattle.std.specs.Prelude.{◌≡◌, ◌&&◌, not, ◌+◌, [], ◌∷◌, ◌<◌, ◌^◌, false, IfOk, drop, if◌then◌else◌};
 ghost use Rattle.csv.specs.Records.{fields_of};
 ghost use Rattle.prepare_look.specs.Rows.{Row, rows_of};
-ghost use Rattle.prepare_page.specs.Looks.{AreLines, AreNames, IsFirst, IsLook, below, looked_at};
+ghost use Rattle.prepare_page.specs.Looks.{AreLines, AreNames, IsFirst, IsLook, IsLookBy, below, looked_at, marks_of};
 
 use crate::counts::WIDEST;
-use crate::delimiter::{Guess, delimiter_of};
-use crate::encoding::{Encoding, encoding_of};
+use crate::delimiter::{Guess, guess_by};
 use crate::header::has_names;
-use crate::titles::titles_of;
+use crate::hint::Hint;
+use crate::titles::titles_by;
 use csv::ByteRecord;
 use prepare_look::{
     Failure, Lines, Marks, Rows, Survey, count_lines, open_quote, skip_rows, survey_of,
@@ -27,11 +27,12 @@ pub struct First {
 /// All that is seen of an export.
 #[derive(Drop)]
 pub struct Look {
-    pub encoding: Encoding,
     pub lines: Lines,
     /// The line of the quotes that are open at the end.
     pub open: Option<usize>,
     pub guess: Guess,
+    /// The byte around a field.
+    pub quote: u8,
     /// How many records stand above the names, or above the first record where there are no names.
     pub titles: usize,
     pub first: First,
@@ -41,6 +42,18 @@ pub struct Look {
     pub below: usize,
     /// What is seen in the records behind these.
     pub survey: Survey,
+}
+
+impl Look {
+    /// The marks of the export.
+    pub fn marks(&self) -> Marks
+        ensures { result ≡ marks_of self.now }
+    {
+        Marks {
+            delimiter: self.guess.delimiter,
+            quote: self.quote,
+        }
+    }
 }
 
 // The record behind the titles.
@@ -96,6 +109,13 @@ fn is_named(
     Ok(has_names(first, &under))
 }
 
+// There are no names where that is known.
+fn are_named(is_nameless: bool, told: bool) -> bool
+    ensures { result ≡ (not is_nameless && told) }
+{
+    !is_nameless && told
+}
+
 // The line ends of a text.
 fn lines_of(text: &[u8]) -> Lines
     ensures { AreLines text.now result }
@@ -103,22 +123,33 @@ fn lines_of(text: &[u8]) -> Lines
     count_lines(text)
 }
 
-/// All that is seen of a text that isn't UTF-16. More than 2^62 records are a failure, `TooLong`.
+/// All that is seen of a text in UTF-8 or the like. More than 2^62 records are a failure, `TooLong`.
 pub fn look_at(alloc: Global, text: &[u8]) -> Result<Look, Failure>
     ensures { IfOk result (IsLook text.now) }
 {
-    let guess = delimiter_of(alloc, text)?;
-    let marks = guess.marks();
-    let titles = titles_of(alloc, marks, text, guess.usual.width)?;
+    look_by(alloc, Hint::nothing(), text)
+}
+
+/// The same of a text of which something is known, which isn't guessed then.
+pub fn look_by(alloc: Global, hint: Hint, text: &[u8]) -> Result<Look, Failure>
+    ensures { IfOk result (IsLookBy hint text.now) }
+{
+    let guess = guess_by(alloc, hint, text)?;
+    let marks = Marks {
+        delimiter: guess.delimiter,
+        quote: hint.quote,
+    };
+    let titles = titles_by(alloc, hint.titles, marks, text, guess.usual.width)?;
     let first = first_of(alloc, marks, text, titles)?;
-    let has_names = is_named(alloc, marks, text, titles, &first.fields)?;
+    let told = is_named(alloc, marks, text, titles, &first.fields)?;
+    let has_names = are_named(hint.is_nameless, told);
     let below = below(titles, has_names);
     let survey = survey_of(alloc, marks, text, below, looked_at(first.fields.len()))?;
     Ok(Look {
-        encoding: encoding_of(text),
         lines: lines_of(text),
         open: open_quote(marks, without_mark(text)),
         guess,
+        quote: hint.quote,
         titles,
         first,
         has_names,

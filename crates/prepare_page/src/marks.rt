@@ -5,7 +5,7 @@ use prepare_look::{Failure, Marks, Rows, Survey, field_or_none, skip_rows};
 use std::alloc::{AllocError, Global};
 
 /// The marks for missing values that are known without being asked for.
-pub(crate) const MARKS: [&str; 14] = [
+pub const MARKS: [&str; 14] = [
     "-", "--", ".", "?", "#N/A", "NA", "N/A", "n/a", "NaN", "nan", "NULL", "null", "None", "none",
 ];
 

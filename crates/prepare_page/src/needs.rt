@@ -2,6 +2,7 @@
 use crate::marks::{MARKS, MOST_COLUMNS};
 use crate::page::{Page, records};
 use crate::quoting::Quoted;
+use prepare_decode::Encoding;
 use prepare_look::Kind;
 use std::fmt;
 
@@ -16,6 +17,27 @@ pub(crate) struct Needs<'a> {
 struct Words<'a> {
     page: &'a Page<'a>,
     is_asked: bool,
+}
+
+/// The rules that change no value and leave out no record, as words of `write`, each with a blank before it.
+#[derive(Clone, Copy)]
+pub struct Advice<'a> {
+    page: &'a Page<'a>,
+    has_numbers: bool,
+}
+
+impl fmt::Display for Advice<'_> {
+    fn fmt<W: fmt::Write>(&self, f: &mut fmt::Formatter<W>) -> fmt::Result {
+        let words = Words {
+            page: self.page,
+            is_asked: false,
+        };
+        words.write_records(f)?;
+        if self.has_numbers {
+            words.write_numbers(f)?;
+        }
+        Ok(())
+    }
 }
 
 // The columns of numbers, by their places from 1.
@@ -45,6 +67,16 @@ fn delimiter_word(delimiter: u8) -> &'static str {
     }
 }
 
+// The encoding as a word.
+fn encoding_word(encoding: Encoding) -> &'static str {
+    match encoding {
+        Encoding::Utf8 => "utf-8",
+        Encoding::Latin1 => "latin-1",
+        Encoding::Windows1252 => "windows-1252",
+        Encoding::Utf16 => "utf-16",
+    }
+}
+
 // The byte between thousands as a word.
 fn parts_word(parts: u8) -> &'static str {
     match parts {
@@ -55,10 +87,22 @@ fn parts_word(parts: u8) -> &'static str {
 }
 
 impl Words<'_> {
+    // What stands between fields, as a word.
+    fn delimiter(&self) -> &'static str {
+        if self.page.by_blanks {
+            return "blanks";
+        }
+        delimiter_word(self.page.look.guess.delimiter)
+    }
+
     fn write_records<W: fmt::Write>(&self, f: &mut fmt::Formatter<W>) -> fmt::Result {
         let look = self.page.look;
+        if self.page.is_recoded() {
+            let word = encoding_word(self.page.encoding);
+            write!(f, " --encoding {word}")?;
+        }
         if look.guess.delimiter != b',' {
-            let word = delimiter_word(look.guess.delimiter);
+            let word = self.delimiter();
             write!(f, " --delimiter {word}")?;
         }
         if look.titles > 0 {
@@ -122,9 +166,22 @@ impl fmt::Display for Words<'_> {
 }
 
 impl Page<'_> {
+    /// The rules that the page names first, with those on numbers or without.
+    pub fn advice(&self, has_numbers: bool) -> Advice<'_> {
+        Advice {
+            page: self,
+            has_numbers,
+        }
+    }
+
     /// Whether there are more columns than `coop_cli` takes.
     pub(crate) fn has_many(&self) -> bool {
         self.look.first.fields.len() > MOST_COLUMNS
+    }
+
+    // Whether the text isn't UTF-8.
+    fn is_recoded(&self) -> bool {
+        self.encoding != Encoding::Utf8
     }
 
     // Whether something has to be asked for.
@@ -158,6 +215,9 @@ impl Needs<'_> {
     fn write_plain<W: fmt::Write>(&self, f: &mut fmt::Formatter<W>) -> fmt::Result {
         let look = self.page.look;
         let (titles, line) = (look.titles as u64, look.first.line);
+        if self.page.is_recoded() {
+            f.write_str("needed: --encoding, since the text isn't UTF-8\n")?;
+        }
         if look.guess.delimiter != b',' {
             f.write_str("needed: --delimiter, since coop_cli takes commas\n")?;
         }

@@ -1,11 +1,11 @@
 // The page that tells of an export.
 use crate::advice::{Reading, reading_of};
 use crate::columns_told::ColumnTold;
-use crate::encoding::Encoding;
 use crate::look::Look;
 use crate::marks::{columns_of, marks_in};
 use crate::needs::Needs;
 use crate::quoting::Quoted;
+use prepare_decode::Encoding;
 use prepare_look::{Failure, Seen};
 use std::alloc::Global;
 use std::fmt;
@@ -14,6 +14,10 @@ use std::fmt;
 #[derive(Drop)]
 pub struct Page<'a> {
     pub(crate) file: &'a str,
+    // How its characters are written.
+    pub(crate) encoding: Encoding,
+    // Runs of blanks part the columns, and a text with tabs in their place was looked at.
+    pub(crate) by_blanks: bool,
     pub(crate) look: &'a Look,
     pub(crate) reading: Reading,
     // The columns, from 0, in which the rules on numbers have to act.
@@ -22,33 +26,30 @@ pub struct Page<'a> {
     pub(crate) marks: Vec<bool>,
 }
 
-/// The page of an export, by its text and all that is seen of it. More than 2^62 records are a failure, `TooLong`.
+/// The page of an export whose characters are written so, by its text in UTF-8 and all that is seen of it; where runs of
+/// blanks part its columns, by the text with tabs in their place, as `tabs_in` gives it. More than 2^62 records are a
+/// failure, `TooLong`.
 pub fn page_of<'a>(
     alloc: Global,
     file: &'a str,
+    encoding: Encoding,
+    by_blanks: bool,
     text: &[u8],
     look: &'a Look,
 ) -> Result<Page<'a>, Failure> {
     let reading = reading_of(&look.survey);
     let columns = columns_of(alloc, &look.survey, reading)?;
     let skip = look.below;
-    let marks = marks_in(alloc, look.guess.marks(), text, skip, columns.as_slice())?;
+    let marks = marks_in(alloc, look.marks(), text, skip, columns.as_slice())?;
     Ok(Page {
         file,
+        encoding,
+        by_blanks,
         look,
         reading,
         columns,
         marks,
     })
-}
-
-fn encoding_name(encoding: Encoding) -> &'static str {
-    match encoding {
-        Encoding::Utf16 => "UTF-16",
-        Encoding::Utf8 => "UTF-8",
-        Encoding::Windows1252 => "Windows-1252",
-        Encoding::Latin1 => "Latin-1",
-    }
 }
 
 fn delimiter_name(delimiter: u8) -> &'static str {
@@ -69,10 +70,18 @@ pub(crate) fn records(count: u64) -> &'static str {
 }
 
 impl Page<'_> {
+    // What stands between two fields.
+    fn delimiter_name(&self) -> &'static str {
+        if self.by_blanks {
+            return "blanks";
+        }
+        delimiter_name(self.look.guess.delimiter)
+    }
+
     // The lines of the text.
     fn write_lines<W: fmt::Write>(&self, f: &mut fmt::Formatter<W>) -> fmt::Result {
         let look = self.look;
-        let (encoding, ends) = (encoding_name(look.encoding), look.lines.ends);
+        let (encoding, ends) = (self.encoding, look.lines.ends);
         let (feeds, returns, pairs) = (look.lines.feeds, look.lines.returns, look.lines.pairs);
         let file = Quoted(self.file);
         writeln!(f, "file {file}: {encoding}, {ends} line ends")?;
@@ -93,7 +102,7 @@ impl Page<'_> {
     // How the records are parted.
     fn write_records<W: fmt::Write>(&self, f: &mut fmt::Formatter<W>) -> fmt::Result {
         let guess = self.look.guess;
-        let (name, usual) = (delimiter_name(guess.delimiter), guess.usual);
+        let (name, usual) = (self.delimiter_name(), guess.usual);
         let (count, records, width) = (usual.count, usual.records, usual.width);
         if count == 0 {
             writeln!(f, "delimiter: none; {records} records of one field")?;
@@ -171,20 +180,5 @@ impl fmt::Display for Page<'_> {
         self.write_names(f)?;
         self.write_columns(f)?;
         write!(f, "{}", Needs { page: self })
-    }
-}
-
-/// What is told of a file in UTF-16, which is read as bytes by nothing here.
-#[derive(Clone, Copy)]
-pub struct Wide<'a> {
-    pub file: &'a str,
-}
-
-impl fmt::Display for Wide<'_> {
-    fn fmt<W: fmt::Write>(&self, f: &mut fmt::Formatter<W>) -> fmt::Result {
-        let file = Quoted(self.file);
-        writeln!(f, "file {file}: UTF-16")?;
-        f.write_str("needed: UTF-8, and then another look\n\n")?;
-        writeln!(f, "iconv -f UTF-16 -t UTF-8 {file} > utf8.csv")
     }
 }

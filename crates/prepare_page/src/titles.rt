@@ -3,7 +3,7 @@ ghost use Rattle.std.specs.Prelude.{◌≡◌, ◌≤◌, ◌*◌, ◌^◌, IfOk
 ghost use Rattle.csv.specs.Records.{fields_of};
 ghost use Rattle.prepare_look.specs.Lines.{one_if};
 ghost use Rattle.prepare_look.specs.Rows.{rows_of};
-ghost use Rattle.prepare_page.specs.Titles.{filled, names_in, titles_from};
+ghost use Rattle.prepare_page.specs.Titles.{filled, names_in, titles_by, titles_from};
 
 use csv::ByteRecord;
 use prepare_look::{Failure, Marks, Rows, field_or_none};
@@ -61,4 +61,21 @@ pub fn titles_of(alloc: Global, marks: Marks, text: &[u8], width: usize) -> Resu
         }
     }
     Err(Failure::TooLong)
+}
+
+/// How many records stand above the names, where it is known, or as `titles_of` has it.
+pub(crate) fn titles_by(
+    alloc: Global,
+    known: Option<u32>,
+    marks: Marks,
+    text: &[u8],
+    width: usize,
+) -> Result<usize, Failure>
+    ensures low { IfOk result (λ n. n ≤ 2 ^ 62) }
+    ensures above { IfOk result (λ n. n ≡ titles_by known width (rows_of marks text.now)) }
+{
+    match known {
+        Some(titles) => Ok(titles as usize),
+        None => titles_of(alloc, marks, text, width),
+    }
 }

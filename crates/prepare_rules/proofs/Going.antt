@@ -1,12 +1,14 @@
 -- Records that are read, made and written one behind the other come to what the rules make of all.
-use Rattle.std.proofs.Common.{◌≡◌, ◌+◌, ◌≤◌, ℕ, zero, suc, true, false, Option, Some, None, List, [], ◌∷◌, ◌++◌, length, drop, refl, sym, ap, ◌∙◌, arith, append-nil, append_assoc}
+use Rattle.std.proofs.Common.{◌≡◌, ◌+◌, ◌==◌, ◌≤◌, ℕ, zero, suc, true, false, Option, Some, None, List, [], ◌∷◌, ◌++◌, length, drop, refl, sym, ap, ◌∙◌, arith, append-nil, append_assoc, inl, inr}
+use Rattle.std.proofs.lemmas.Bool.{cases_Bool, ne_eqb}
 use Rattle.std.proofs.lemmas.List.{drop-drop}
 use Rattle.std.specs.Io.KnownBytes.{Appends, Keeps}
 use Rattle.std.specs.Prelude.{IfOk, Result, Ok, Err, option_map}
 use Rattle.csv.specs.Writing.{default_writer, row_text}
+use Rattle.prepare_rules.proofs.Choosing.{first-of, second-of}
 use Rattle.prepare_rules.specs.Columns.{names_written}
 use Rattle.prepare_rules.specs.Made.{IsMade, row_made}
-use Rattle.prepare_rules.specs.Outcome.{Becomes, Begins, IsPrepared, Outcome, below, counted_names, from_first, marks_of, prepared, rows_text, under}
+use Rattle.prepare_rules.specs.Outcome.{Becomes, Begins, IsPrepared, Outcome, below, counted_names, from_first, marks_of, number_past, prepared, rows_text, under}
 use Rattle.prepare_rules.specs.Records.{IsLeft, Record}
 use Rattle.prepare_text.specs.Source.{IsOver, Stays, Takes}
 use Rattle.prepare_text.specs.Walk.{Lined, text_records}
@@ -17,6 +19,7 @@ use Rattle.prepare_rules.specs.declared.columns.Pick.{Pick}
 use Rattle.prepare_rules.specs.declared.columns.Plan.{Plan}
 use Rattle.prepare_rules.specs.declared.failure.Failure.{Failure}
 use Rattle.prepare_rules.specs.declared.rules.Rules.{Rules}
+use Rattle.table_sets.specs.declared.limits.TheConstants.{MOST_ROWS}
 
 -- ---- records that are left out
 
@@ -73,13 +76,22 @@ stays (Some t) = sym (append-nil t)
 
 -- one record is read, made and written
 pub below-next : (rules : Rules) (names : ℕ) (picks : List Pick) (at : ℕ) (old now : Option (List Lined)) (f : Lined) (row : Record) (refusal : Option Refusal) (text mid new : Option (List ℕ))
-    → Takes old f now → row_made rules names picks f.fields ≡ Ok row → Appends text mid (row_text default_writer row)
+    → (at == number_past rules) ≡ false → Takes old f now → row_made rules names picks f.fields ≡ Ok row → Appends text mid (row_text default_writer row)
     → Becomes (below rules names picks (at + 1)) now refusal mid new → Becomes (below rules names picks at) old refusal text new
 unfolding rows_text
-below-next rules names picks at None now f row refusal text mid new t e a b = tt
-below-next rules names picks at (Some rows) None f row refusal text mid new t e a b = absurd t
-below-next rules names picks at (Some rows) (Some rest) f row refusal text mid new t e a b =
-    rw (t, e) (b.0, grows text mid new (row_text default_writer row) (rows_text (below rules names picks (at + 1) rest).rows) a b.1)
+below-next rules names picks at None now f row refusal text mid new more t e a b = tt
+below-next rules names picks at (Some rows) None f row refusal text mid new more t e a b = absurd t
+below-next rules names picks at (Some rows) (Some rest) f row refusal text mid new more t e a b =
+    rw (t, e, more) (b.0, grows text mid new (row_text default_writer row) (rows_text (below rules names picks (at + 1) rest).rows) a b.1)
+
+-- one record is read, made and written, and is one row too many
+pub below-full : (rules : Rules) (names : ℕ) (picks : List Pick) (at : ℕ) (old now : Option (List Lined)) (f : Lined) (row : Record) (text new : Option (List ℕ))
+    → (at == number_past rules) ≡ true → Takes old f now → row_made rules names picks f.fields ≡ Ok row → Appends text new (row_text default_writer row)
+    → Becomes (below rules names picks at) old (Some (record { number = at; line = Some f.line; cause = cause.TooManyRows })) text new
+unfolding rows_text
+below-full rules names picks at None now f row text new full t e a = tt
+below-full rules names picks at (Some rows) None f row text new full t e a = absurd t
+below-full rules names picks at (Some rows) (Some rest) f row text new full t e a = rw (t, e, full) (refl, grows text new new (row_text default_writer row) [] a (stays new))
 
 -- one record is read and refused
 pub below-refused : (rules : Rules) (names : ℕ) (picks : List Pick) (at : ℕ) (old now : Option (List Lined)) (f : Lined) (c : Cause) (text : Option (List ℕ))
@@ -88,6 +100,13 @@ unfolding rows_text
 below-refused rules names picks at None now f c text t e = tt
 below-refused rules names picks at (Some rows) None f c text t e = absurd t
 below-refused rules names picks at (Some rows) (Some rest) f c text t e = rw (t, e) (refl, stays text)
+
+-- the first record that is kept is no row too many
+pub first-counts : (rules : Rules) → ((rules.skip + 1) == number_past rules) ≡ false
+first-counts rules = elim (cases_Bool rules.has_names) [
+  | inl so ↦ rw so (ne_eqb (rules.skip + 1) ((rules.skip + 2) + MOST_ROWS) (λ e. omega (arith, e)))
+  | inr not ↦ rw not (ne_eqb (rules.skip + 1) ((rules.skip + 1) + MOST_ROWS) (λ e. omega (arith, e)))
+]
 
 -- there is no more record
 pub below-over : (rules : Rules) (names : ℕ) (picks : List Pick) (at : ℕ) (old : Option (List Lined)) (text : Option (List ℕ))
@@ -151,14 +170,16 @@ pub kept-under : (rules : Rules) (first : Lined) (rows left : Option (List Lined
     → Becomes (under rules first.fields first.line (rules.skip + 2)) left refusal old new → Becomes (prepared rules) rows refusal old new
 kept-under rules first None left refusal old new t has b = tt
 kept-under rules first (Some rows) None refusal old new t has b = absurd t
-kept-under rules first (Some rows) (Some left) refusal old new t has b = rw (t, has) b
+kept-under rules first (Some rows) (Some left) refusal old new t has b =
+    rw (t, first-of rules.has_names (under rules first.fields first.line (rules.skip + 2) left) (from_first rules first left) has) b
 
 pub kept-from : (rules : Rules) (first : Lined) (rows left : Option (List Lined)) (refusal : Option Refusal) (old new : Option (List ℕ))
     → Takes (option_map (drop rules.skip) rows) first left → rules.has_names ≡ false
     → Becomes (from_first rules first) left refusal old new → Becomes (prepared rules) rows refusal old new
 kept-from rules first None left refusal old new t has b = tt
 kept-from rules first (Some rows) None refusal old new t has b = absurd t
-kept-from rules first (Some rows) (Some left) refusal old new t has b = rw (t, has) b
+kept-from rules first (Some rows) (Some left) refusal old new t has b =
+    rw (t, second-of rules.has_names (under rules first.fields first.line (rules.skip + 2) left) (from_first rules first left) has) b
 
 -- what comes of a call comes of its caller
 pub then-ok : (ideal whole : List Lined → Outcome) (rows all : Option (List Lined)) (mid old new : Option (List ℕ)) (r : Result (Option Refusal) Failure)

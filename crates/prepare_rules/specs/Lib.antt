@@ -1,5 +1,6 @@
 pub mod Columns
 pub mod Made
+pub mod Names
 pub mod Numbers
 pub mod Outcome
 pub mod Records

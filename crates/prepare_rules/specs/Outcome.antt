@@ -1,11 +1,13 @@
 -- What the rules make of all records of an export.
-use Rattle.std.specs.Prelude.{◌≡◌, ◌+◌, ⊤, ℕ, false, List, [], ◌∷◌, ◌++◌, length, drop, map, Option, Some, None, Result, Ok, Err, if◌then◌else◌, codes, decimal}
+use Rattle.std.specs.Prelude.{◌≡◌, ◌≢◌, ◌+◌, ◌==◌, ⊤, ℕ, Bool, true, false, nat_lt, if◌then◌else◌, codes, decimal}
+use Rattle.std.specs.Prelude.{List, [], ◌∷◌, ◌++◌, length, drop, map, Option, Some, None, Result, Ok, Err}
 use Rattle.std.specs.Io.KnownBytes.{Appends}
 use Rattle.csv.specs.Reading.{default_config, records}
 use Rattle.csv.specs.Writing.{default_writer, fields_written, has_written, row_text, writer_setup}
 use Rattle.csv.specs.declared.writer.Writer.{Writer}
-use Rattle.prepare_rules.specs.Columns.{from_on, names_written, picks_of}
+use Rattle.prepare_rules.specs.Columns.{from_on, is_few, names_written, picks_of}
 use Rattle.prepare_rules.specs.Made.{row_made}
+use Rattle.prepare_rules.specs.Names.{named_picks, names_refusal}
 use Rattle.prepare_rules.specs.Records.{Record}
 use Rattle.prepare_text.specs.Walk.{Lined, text_records}
 use Rattle.prepare_text.specs.declared.place.Marks.{Marks}
@@ -15,6 +17,7 @@ use Rattle.prepare_rules.specs.declared.cause.Refusal.{Refusal}
 use Rattle.prepare_rules.specs.declared.columns.Pick.{Pick}
 use Rattle.prepare_rules.specs.declared.columns.Plan.{Plan}
 use Rattle.prepare_rules.specs.declared.rules.Rules.{Rules}
+use Rattle.table_sets.specs.declared.limits.TheConstants.{MOST_ROWS}
 
 -- the records that are written, and the one that isn't taken, if there is one
 pub record Outcome : Type 0 where
@@ -36,10 +39,20 @@ abbrev pub made_first : ℕ → ℕ → Result Record Cause → Outcome → Outc
 made_first at line (Err c) rest = refused at (Some line) c
 made_first at line (Ok row) rest = with_row row rest
 
--- the records below the names, of which the first has this number
+-- the number of the first record below the names
+abbrev pub first_row : Rules → ℕ
+first_row rules = if rules.has_names then rules.skip + 2 else rules.skip + 1
+
+-- the number of the record that is one row more than a table has
+abbrev pub number_past : Rules → ℕ
+number_past rules = first_row rules + MOST_ROWS
+
+-- the records below the names, of which the first has this number; a row more than a table has is written, and refused
 abbrev pub below : Rules → ℕ → List Pick → ℕ → List Lined → Outcome
 below rules names picks at [] = all_done
-below rules names picks at (r ∷ rows) = made_first at r.line (row_made rules names picks r.fields) (below rules names picks (at + 1) rows)
+below rules names picks at (r ∷ rows) = made_first at r.line (row_made rules names picks r.fields)
+    (if at == number_past rules then refused at (Some r.line) cause.TooManyRows
+    else below rules names picks (at + 1) rows)
 
 -- the names that are written, and the records below them; the names were found on this line
 abbrev pub under_picks : Rules → Record → ℕ → ℕ → List Lined → Result (List Pick) Cause → Outcome
@@ -47,7 +60,7 @@ under_picks rules names line at rows (Err c) = refused (rules.skip + 1) (Some li
 under_picks rules names line at rows (Ok picks) = with_row (names_written rules names picks) (below rules (length names) picks at rows)
 
 abbrev pub under : Rules → Record → ℕ → ℕ → List Lined → Outcome
-under rules names line at rows = under_picks rules names line at rows (picks_of rules names)
+under rules names line at rows = under_picks rules names line at rows (named_picks rules names (picks_of rules names))
 
 -- so many names: c1, c2, ..
 abbrev pub counted_names : ℕ → Record
@@ -84,9 +97,10 @@ pub record IsWriting {W : Type 0} (writer : Writer W) : Type 0 where
 
 -- the columns that are written were found, and their names written; or why there are none
 abbrev pub Begins : Rules → Record → Result Plan Cause → Option (List ℕ) → Option (List ℕ) → Type 0
-Begins rules names (Ok plan) old new = (picks_of rules names ≡ Ok plan.picks.items) × (plan.names ≡ length names)
+Begins rules names (Ok plan) old new = (named_picks rules names (picks_of rules names) ≡ Ok plan.picks.items)
+    × (plan.names ≡ length names)
     × Appends old new (row_text default_writer (names_written rules names plan.picks.items))
-Begins rules names (Err c) old new = (picks_of rules names ≡ Err c) × (new ≡ old)
+Begins rules names (Err c) old new = (named_picks rules names (picks_of rules names) ≡ Err c) × (new ≡ old)
 
 abbrev pub marks_of : Rules → Marks
 marks_of rules = record { delimiter = rules.delimiter; quote = rules.quote }
@@ -95,6 +109,27 @@ marks_of rules = record { delimiter = rules.delimiter; quote = rules.quote }
 abbrev pub IsPrepared : Rules → Option (List ℕ) → Option Refusal → Option (List ℕ) → Option (List ℕ) → Type 0
 IsPrepared rules None refusal old new = ⊤
 IsPrepared rules (Some text) refusal old new = Becomes (prepared rules) (Some (text_records (marks_of rules) text)) refusal old new
+
+-- these records have so many fields
+abbrev pub AreWide : ℕ → List Record → Type 0
+AreWide width [] = ⊤
+AreWide width (row ∷ rows) = (length row ≡ width) × AreWide width rows
+
+-- this is the refusal of a row too many
+abbrev pub is_full_for : Cause → Bool
+is_full_for cause.TooManyRows = true
+is_full_for _ = false
+
+abbrev pub is_full : Option Refusal → Bool
+is_full None = false
+is_full (Some refusal) = is_full_for refusal.cause
+
+-- names that are all taken, as many as a table has, and rows as wide, too many only where this is told; nothing stands
+-- there only where a record is refused
+abbrev pub IsTable : List Record → Option Refusal → Type 0
+IsTable [] refusal = refusal ≢ None
+IsTable (names ∷ rows) refusal = (is_few (length names) ≡ true) × (names_refusal [] names ≡ None)
+    × AreWide (length names) rows × (nat_lt MOST_ROWS (length rows) ≡ is_full refusal)
 
 -- the records that are written are those of the text that is written
 abbrev pub ReadsBack : Type 0

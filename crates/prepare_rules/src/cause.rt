@@ -31,6 +31,23 @@ pub enum Cause {
         /// How many there are.
         columns: usize,
     },
+    /// The first name that would be written begins with a byte order mark, which a reader of the text skips.
+    #[error("the first name begins with a byte order mark")]
+    MarkedName,
+    /// A name that would be written has more than 128 bytes.
+    #[error("name {column} has more than 128 bytes")]
+    LongName {
+        /// Its number among the names that would be written, from 1.
+        column: usize,
+    },
+    /// A name that would be written stands before it already.
+    #[error("names {first} and {second} are equal")]
+    TwiceNamed {
+        /// The number of the first name that it equals, from 1.
+        first: usize,
+        /// Its own number.
+        second: usize,
+    },
     /// The record has another number of fields than there are names.
     #[error("{fields} fields, where {names} are expected")]
     Fields {
@@ -39,6 +56,10 @@ pub enum Cause {
         /// How many names there are.
         names: usize,
     },
+    /// The record is one row more than a table has. It is written, alone of all that are refused, so that coop_cli
+    /// refuses the table too.
+    #[error("more than 2097152 rows")]
+    TooManyRows,
 }
 
 /// The first record that is refused, and why. Those before it are written, whole.

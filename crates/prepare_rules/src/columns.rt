@@ -57,8 +57,8 @@ fn is_few(columns: usize) -> bool
     1 <= columns && columns <= MOST_COLUMNS as usize
 }
 
-// Where a name stands first.
-fn place_of_name(names: &ByteRecord, name: &[u8]) -> Option<usize>
+/// Where a name stands first.
+pub(crate) fn place_of_name(names: &ByteRecord, name: &[u8]) -> Option<usize>
     ensures { result ≡ place_from 0 (fields_of names.now) name.now }
 {
     for at in 0..names.len() {

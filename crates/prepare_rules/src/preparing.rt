@@ -3,7 +3,7 @@ ghost use Rattle.std.specs.Prelude.{◌≡◌, ◌<◌, ◌+◌, ◌^◌, IfOk, 
 ghost use Rattle.csv.specs.Records.{fields_of};
 ghost use Rattle.csv.specs.Writing.{text_written};
 ghost use Rattle.prepare_rules.specs.Outcome.{Becomes, Begins, IsPrepared, IsWriting};
-ghost use Rattle.prepare_rules.specs.Outcome.{below, from_first, marks_of, prepared, under};
+ghost use Rattle.prepare_rules.specs.Outcome.{below, from_first, marks_of, number_past, prepared, under};
 ghost use Rattle.prepare_text.specs.Source.{IsOver, Stays, Takes, begun, left, record_of};
 ghost use Rattle.prepare_text.specs.Walk.{text_records};
 
@@ -19,6 +19,7 @@ use csv::{ByteRecord, Writer, WriterBuilder};
 use prepare_text::{Marks, Source};
 use std::alloc::Global;
 use std::io::{Read, Write};
+use table_sets::MOST_ROWS;
 
 /// The most records below the names.
 const MOST_RECORDS: u64 = 1 << 62;
@@ -124,6 +125,25 @@ fn refused(skip: u32, line: Option<u64>, cause: Cause) -> Refusal
     }
 }
 
+// The refusal of the record of this number, which begins on this line.
+fn refused_at(number: u64, line: u64, cause: Cause) -> Refusal
+    ensures { result ≡ record { number = number; line = Some line; cause = cause } }
+{
+    Refusal {
+        number,
+        line: Some(line),
+        cause,
+    }
+}
+
+// The number of the record that is one row more than a table has.
+fn number_past(rules: &Rules<'_>) -> u64
+    ensures { result ≡ number_past rules.now }
+{
+    let first = if rules.has_names { 2 } else { 1 };
+    rules.skip as u64 + first + MOST_ROWS as u64
+}
+
 // Copies the records below the one that holds the names.
 fn copy_under<R: Read, W: Write + Drop>(
     alloc: Global,
@@ -192,7 +212,9 @@ fn begin<W: Write + Drop>(
         Err(cause) => return Ok(Err(cause)),
     };
     let mut made = ByteRecord::new(alloc);
-    make_names(rules, names, picks.as_slice(), &mut made)?;
+    if let Some(cause) = make_names(rules, names, picks.as_slice(), &mut made)? {
+        return Ok(Err(cause));
+    }
     put(writer, &made)?;
     Ok(Ok(Plan {
         names: names.len(),
@@ -200,7 +222,8 @@ fn begin<W: Write + Drop>(
     }))
 }
 
-// Copies the records that are left, of which the first has this number.
+// Copies the records that are left, of which the first has this number. One row more than a table has is written and
+// then refused, so that coop_cli refuses the table too, and doesn't answer over a part of it.
 fn copy_below<R: Read, W: Write + Drop>(
     alloc: Global,
     rules: &Rules<'_>,
@@ -215,6 +238,7 @@ fn copy_below<R: Read, W: Write + Drop>(
         (below rules.now plan.now.names plan.now.picks.items first) (left R.remaining reader.old)
         refusal (text_written W.contents writer.old) (text_written W.contents writer.new)) }
 {
+    let past = number_past(rules);
     let mut row = ByteRecord::new(alloc);
     let mut room = Room::new(alloc);
     let mut made = ByteRecord::new(alloc);
@@ -222,14 +246,15 @@ fn copy_below<R: Read, W: Write + Drop>(
         if !next_record(reader, &mut row)? {
             return Ok(None);
         }
+        let number = first + done;
         if let Some(cause) = make_row(rules, plan, &row, &mut room, &mut made)? {
-            return Ok(Some(Refusal {
-                number: first + done,
-                line: Some(reader.line()),
-                cause,
-            }));
+            return Ok(Some(refused_at(number, reader.line(), cause)));
         }
         put(writer, &made)?;
+        if number == past {
+            let cause = Cause::TooManyRows;
+            return Ok(Some(refused_at(number, reader.line(), cause)));
+        }
     }
     Err(Failure::TooLong)
 }

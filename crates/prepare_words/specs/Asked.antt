@@ -11,9 +11,9 @@ use Rattle.clap.specs.Walk.{Row, Text, first_of}
 use Rattle.prepare_rules.specs.declared.rules.Mark.{Mark}
 use Rattle.prepare_rules.specs.declared.rules.Mark.TheVariants as mark
 use Rattle.prepare_words.specs.Command.{prepare}
-use Rattle.prepare_words.specs.Reading.{◌>>=◌, Fails, Faulty, alone, byte_or, columns_in, pads_of, parts_of, quote_of}
-use Rattle.prepare_words.specs.Reading.{renames_in, skip_of, wrong}
-use Rattle.prepare_words.specs.Views.{WritingIs, is_set, is_there, values_in, writing_view}
+use Rattle.prepare_words.specs.Reading.{◌>>=◌, Fails, Faulty, alone, columns_in, pads_of, parts_of, quote_of}
+use Rattle.prepare_words.specs.Reading.{delimiter_of, encoding_of, renames_in, skip_of, wrong}
+use Rattle.prepare_words.specs.Views.{WritingIs, byte_of, is_set, is_there, values_in, writing_view}
 use Rattle.prepare_words.specs.declared.asked.Asked.{Asked}
 use Rattle.prepare_words.specs.declared.asked.Asked.TheVariants as asked
 use Rattle.prepare_words.specs.declared.fault.Fault.{Fault}
@@ -49,8 +49,9 @@ unless_alone None rest = rest
 unfoldable pub writing_of : List Row → Result WritingIs Faulty
 writing_of rows = do
   file ← file_of (first_of (codes "FILE") rows)
-  delimiter ← byte_or word.Delimiter 44 (first_of (codes "delimiter") rows)
-  quote ← quote_of delimiter (first_of (codes "quote") rows)
+  delimiter ← delimiter_of (first_of (codes "delimiter") rows)
+  quote ← quote_of (byte_of delimiter) (first_of (codes "quote") rows)
+  encoding ← encoding_of (first_of (codes "encoding") rows)
   skip ← skip_of (first_of (codes "skip") rows)
   pads ← pads_of (first_of (codes "ragged") rows)
   parts ← parts_of (mark_of (is_set (codes "decimal-comma") rows)) (first_of (codes "thousands") rows)
@@ -60,8 +61,13 @@ writing_of rows = do
     numbers ← columns_in word.Numbers (values_in (codes "numbers") rows)
     Ok (record {
       file = file;
+      is_auto = is_set (codes "auto") rows;
+      has_encoding = is_there (codes "encoding") rows;
+      has_delimiter = is_there (codes "delimiter") rows;
+      has_skip = is_there (codes "skip") rows;
       delimiter = delimiter;
       quote = quote;
+      encoding = encoding;
       skip = skip;
       has_names = not (is_set (codes "no-header") rows);
       columns = columns;

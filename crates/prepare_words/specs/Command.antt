@@ -23,8 +23,8 @@ place name = record (new_rule name) { action = Some Set; required = true }
 
 -- how the records of the export are found
 abbrev pub record_rules : List Rule
-record_rules = option (codes "delimiter") ∷ option (codes "quote") ∷ option (codes "skip")
-    ∷ flag (codes "no-header") ∷ option (codes "ragged") ∷ []
+record_rules = flag (codes "auto") ∷ option (codes "delimiter") ∷ option (codes "quote")
+    ∷ option (codes "encoding") ∷ option (codes "skip") ∷ flag (codes "no-header") ∷ option (codes "ragged") ∷ []
 
 -- which columns are written
 abbrev pub table_rules : List Rule

@@ -1,15 +1,19 @@
 -- How the values of options are read.
 use Rattle.std.specs.Prelude.{◌≡◌, ◌==◌, ◌+◌, ◌-◌, ◌&&◌, ◌||◌, ◌^◌, ⊤, ℕ, zero, suc, Bool, true, false, not, nat_le}
 use Rattle.std.specs.Prelude.{nat_lt, List, [], ◌∷◌, ◌++◌, length, Option, Some, None, Result, Ok, Err, codes}
-use Rattle.std.specs.Prelude.{if◌then◌else◌}
+use Rattle.std.specs.Prelude.{if◌then◌else◌, option_map}
 use Rattle.std.specs.Char.{digit_value, is_ascii_digit}
 use Rattle.std.specs.List.{after_first, before_first, list_all, list_any}
 use Rattle.std.specs.Str.{bytes_eq}
 use Rattle.std.specs.Str.Parse.{digits_value}
 use Rattle.clap.specs.Walk.{Text}
+use Rattle.prepare_decode.specs.declared.encoding.Encoding.{Encoding}
+use Rattle.prepare_decode.specs.declared.encoding.Encoding.TheVariants as encoding
 use Rattle.prepare_rules.specs.Numbers.{mark_byte}
 use Rattle.prepare_rules.specs.declared.rules.Mark.{Mark}
 use Rattle.prepare_words.specs.Views.{ColumnIs, named, placed}
+use Rattle.prepare_words.specs.declared.delimiter.Delimiter.{Delimiter}
+use Rattle.prepare_words.specs.declared.delimiter.Delimiter.TheVariants as by
 use Rattle.prepare_words.specs.declared.fault.Fault.{Fault}
 use Rattle.prepare_words.specs.declared.fault.Fault.TheVariants as fault
 use Rattle.prepare_words.specs.declared.fault.Word.{Word}
@@ -57,9 +61,14 @@ only_byte _ = None
 abbrev pub byte_named : Text → Option ℕ
 byte_named text = if bytes_eq text (codes "tab") then Some 9 else only_byte text
 
-abbrev pub byte_or : Word → ℕ → Option Text → Result ℕ Faulty
-byte_or w default None = Ok default
-byte_or w default (Some text) = or_wrong w text (byte_named text)
+-- what stands between two fields, as a word names it: a byte, or runs of blanks
+abbrev pub delimiter_named : Text → Option Delimiter
+delimiter_named text = if bytes_eq text (codes "blanks") then Some by.Blanks
+    else option_map by.Byte (byte_named text)
+
+abbrev pub delimiter_of : Option Text → Result Delimiter Faulty
+delimiter_of None = Ok (by.Byte 44)
+delimiter_of (Some text) = or_wrong word.Delimiter text (delimiter_named text)
 
 abbrev pub but : Text → ℕ → Option ℕ → Result ℕ Faulty
 but text delimiter None = Err (wrong word.Quote text)
@@ -82,6 +91,20 @@ free_byte mark text (Some b) = if is_free mark b then Ok (Some b) else Err (wron
 abbrev pub parts_of : Mark → Option Text → Result (Option ℕ) Faulty
 parts_of mark None = Ok None
 parts_of mark (Some text) = free_byte mark text (byte_named text)
+
+-- ---- encodings
+
+-- the encoding that a word names
+abbrev pub encoding_named : Text → Option Encoding
+encoding_named text = if bytes_eq text (codes "utf-8") then Some encoding.Utf8
+    else if bytes_eq text (codes "latin-1") then Some encoding.Latin1
+    else if bytes_eq text (codes "windows-1252") then Some encoding.Windows1252
+    else if bytes_eq text (codes "utf-16") then Some encoding.Utf16 else None
+
+-- how the characters of the export are written; without a word, in UTF-8
+abbrev pub encoding_of : Option Text → Result Encoding Faulty
+encoding_of None = Ok encoding.Utf8
+encoding_of (Some text) = or_wrong word.Encoding text (encoding_named text)
 
 -- ---- numbers
 

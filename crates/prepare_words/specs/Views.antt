@@ -4,11 +4,14 @@ use Rattle.std.specs.Borrow.{Bor}
 use Rattle.std.specs.Option.{option_map_or}
 use Rattle.std.specs.Str.{bytes_eq}
 use Rattle.clap.specs.Walk.{Row, Text, all_of, first_of}
+use Rattle.prepare_decode.specs.declared.encoding.Encoding.{Encoding}
 use Rattle.prepare_rules.specs.declared.rules.Column.{Column}
 use Rattle.prepare_rules.specs.declared.rules.Column.TheVariants.{Named, Placed}
 use Rattle.prepare_rules.specs.declared.rules.Mark.{Mark}
 use Rattle.prepare_rules.specs.declared.rules.Rename.{Rename}
 use Rattle.prepare_rules.specs.declared.rules.Rules.{Rules}
+use Rattle.prepare_words.specs.declared.delimiter.Delimiter.{Delimiter}
+use Rattle.prepare_words.specs.declared.delimiter.Delimiter.TheVariants as by
 use Rattle.prepare_words.specs.declared.writing.Writing.{Writing}
 
 -- ---- what clap found
@@ -50,10 +53,20 @@ columns_view = map column_view
 abbrev pub rename_view : Rename → Text × Text
 rename_view r = (r.from.now, r.to.now)
 
+-- the byte between two fields; for blanks a tab is put there
+abbrev pub byte_of : Delimiter → ℕ
+byte_of (by.Byte b) = b
+byte_of by.Blanks = 9
+
 pub record WritingIs : Type 0 where
   pub file : Text
-  pub delimiter : ℕ
+  pub is_auto : Bool
+  pub has_encoding : Bool
+  pub has_delimiter : Bool
+  pub has_skip : Bool
+  pub delimiter : Delimiter
   pub quote : ℕ
+  pub encoding : Encoding
   pub skip : ℕ
   pub has_names : Bool
   pub columns : List ColumnIs
@@ -69,8 +82,13 @@ pub record WritingIs : Type 0 where
 abbrev pub writing_view : Writing → WritingIs
 writing_view w = record {
   file = w.file.now;
+  is_auto = w.is_auto;
+  has_encoding = w.has_encoding;
+  has_delimiter = w.has_delimiter;
+  has_skip = w.has_skip;
   delimiter = w.delimiter;
   quote = w.quote;
+  encoding = w.encoding;
   skip = w.skip;
   has_names = w.has_names;
   columns = columns_view w.columns.items;
@@ -86,7 +104,7 @@ writing_view w = record {
 
 -- the rules are those that the words ask for
 pub record HasRules (w : Writing) (r : Rules) : Type 0 where
-  pub delimiter : r.delimiter ≡ w.delimiter
+  pub delimiter : r.delimiter ≡ byte_of w.delimiter
   pub quote : r.quote ≡ w.quote
   pub skip : r.skip ≡ w.skip
   pub has_names : r.has_names ≡ w.has_names

@@ -1,6 +1,6 @@
 // Bytes as words.
 ghost use Rattle.std.specs.Prelude.{◌≡◌, option_map};
-ghost use Rattle.prepare_words.specs.Reading.{Gives, but, byte_named, byte_or, is_free, is_line_end, parts_of};
+ghost use Rattle.prepare_words.specs.Reading.{Gives, but, byte_named, is_free, is_line_end, parts_of};
 ghost use Rattle.prepare_words.specs.Reading.{quote_of};
 ghost use Rattle.prepare_rules.specs.Numbers.{mark_byte};
 
@@ -13,8 +13,8 @@ fn is_line_end(byte: u8) -> bool
     byte == b'\n' || byte == b'\r'
 }
 
-// The byte that a word names: itself, or a tab. No line end can be named.
-fn byte_named(text: &str) -> Option<u8>
+/// The byte that a word names: itself, or a tab. No line end can be named.
+pub(crate) fn byte_named(text: &str) -> Option<u8>
     ensures { result ≡ byte_named text.now }
 {
     if text == "tab" {
@@ -28,19 +28,6 @@ fn byte_named(text: &str) -> Option<u8>
             Some(*byte)
         }
         _ => None,
-    }
-}
-
-/// The byte that the value of an option names, or its default.
-pub(crate) fn byte_or<'a>(word: Word, text: Option<&'a str>, default: u8) -> Result<u8, Fault<'a>>
-    ensures { Gives (λ b. b) result (byte_or word default (option_map (λ s. s.now) text.entry)) }
-{
-    let Some(value) = text else {
-        return Ok(default);
-    };
-    match byte_named(value) {
-        Some(byte) => Ok(byte),
-        None => Err(Fault::Value { word, value }),
     }
 }
 

@@ -53,17 +53,28 @@ fn with_records<'a>(alloc: Global, command: Command<'a>) -> Result<Command<'a>, 
     ensures { (a : App) → IsCommand a command.entry → IfOk result (IsCommand (with_rules a record_rules)) }
 {
     let rules = vec![in alloc;
+        flag(
+            alloc,
+            "auto",
+            "What isn't asked for is done as look says, but for what changes a value or leaves out a record"
+        ),
         option(
             alloc,
             "delimiter",
             "BYTE",
-            "The byte between two fields, or tab [default: ,]"
+            "The byte between two fields, tab, or blanks for runs of them [default: ,]"
         ),
         option(
             alloc,
             "quote",
             "BYTE",
             "The byte around a field [default: \"]"
+        ),
+        option(
+            alloc,
+            "encoding",
+            "NAME",
+            "How characters are written: utf-8, latin-1, windows-1252 or utf-16 [default: utf-8]"
         ),
         option(
             alloc,

@@ -10,6 +10,7 @@ use std::fmt;
 pub enum Word {
     Delimiter,
     Quote,
+    Encoding,
     Skip,
     Columns,
     Rename,
@@ -28,6 +29,7 @@ impl Word {
         match self {
             Word::Delimiter => "--delimiter",
             Word::Quote => "--quote",
+            Word::Encoding => "--encoding",
             Word::Skip => "--skip",
             Word::Columns => "--columns",
             Word::Rename => "--rename",
@@ -44,8 +46,9 @@ impl Word {
     // What its values are.
     fn values(self) -> &'static str {
         match self {
-            Word::Delimiter => "a byte, or tab",
+            Word::Delimiter => "a byte, tab or blanks",
             Word::Quote => "a byte that isn't the delimiter",
+            Word::Encoding => "utf-8, latin-1, windows-1252 or utf-16",
             Word::Skip => "a number of records",
             Word::Columns | Word::Numbers => {
                 "names, places from 1 and ranges such as 4-9, parted by commas, 16 columns at most"

@@ -14,6 +14,8 @@ mod asked_words;
 mod bytes;
 mod columns;
 mod command;
+mod delimiter;
+mod encodings;
 mod fault;
 mod found;
 mod numbers;
@@ -25,6 +27,7 @@ mod writing_words;
 
 pub use asked::Asked;
 pub use asked_words::asked_of;
+pub use delimiter::Delimiter;
 pub use fault::{Fault, Word};
 pub use refused::Refused;
 pub use writing::Writing;

@@ -1,6 +1,8 @@
 // What is made of an export.
 ghost use Rattle.prepare_words.specs.Views.{HasRules};
 
+use crate::delimiter::Delimiter;
+use prepare_decode::Encoding;
 use prepare_rules::{Column, Mark, Rename, Rules};
 
 /// What is made of an export.
@@ -8,10 +10,20 @@ use prepare_rules::{Column, Mark, Rename, Rules};
 pub struct Writing<'a> {
     /// The export's file.
     pub file: &'a str,
-    /// The byte between two fields.
-    pub delimiter: u8,
-    /// The byte around a field, another one than the delimiter.
+    /// What isn't asked for is done as a look at the export says.
+    pub is_auto: bool,
+    /// The encoding is asked for.
+    pub has_encoding: bool,
+    /// What stands between two fields is asked for.
+    pub has_delimiter: bool,
+    /// How many records are left out is asked for.
+    pub has_skip: bool,
+    /// What stands between two fields.
+    pub delimiter: Delimiter,
+    /// The byte around a field, another one than the delimiter's.
     pub quote: u8,
+    /// How the characters of the export are written.
+    pub encoding: Encoding,
     /// So many records at the begin are left out.
     pub skip: u32,
     /// The next record holds the names.
@@ -37,12 +49,12 @@ pub struct Writing<'a> {
 }
 
 impl Writing<'_> {
-    /// The rules as `prepare` takes them.
+    /// The rules as `prepare` takes them; where blanks stand between fields, of a text with tabs in their place.
     pub fn rules(&self) -> Rules<'_>
         ensures { HasRules self.now result }
     {
         Rules {
-            delimiter: self.delimiter,
+            delimiter: self.delimiter.byte(),
             quote: self.quote,
             skip: self.skip,
             has_names: self.has_names,

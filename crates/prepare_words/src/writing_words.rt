@@ -6,8 +6,10 @@ ghost use Rattle.prepare_words.specs.Reading.{Gives};
 ghost use Rattle.prepare_words.specs.Asked.{file_of, lone_word, mark_of, writing_of};
 ghost use Rattle.prepare_words.specs.Views.{texts_given, texts_of, writing_view};
 
-use crate::bytes::{byte_or, parts_of, quote_of};
+use crate::bytes::{parts_of, quote_of};
 use crate::columns::columns_given;
+use crate::delimiter::delimiter_of;
+use crate::encodings::encoding_of;
 use crate::fault::{Fault, Word};
 use crate::found::{is_set, is_there, value_in, values_in};
 use crate::numbers::{pads_of, skip_of};
@@ -26,8 +28,9 @@ pub(crate) fn writing_of<'a>(
     ensures { Gives (λ w. (writing_view w)) result (writing_of (rows_of (found_of found.now))) }
 {
     let file = file_of(value_in(found, "FILE"))?;
-    let delimiter = byte_or(Word::Delimiter, value_in(found, "delimiter"), b',')?;
-    let quote = quote_of(delimiter, value_in(found, "quote"))?;
+    let delimiter = delimiter_of(value_in(found, "delimiter"))?;
+    let quote = quote_of(delimiter.byte(), value_in(found, "quote"))?;
+    let encoding = encoding_of(value_in(found, "encoding"))?;
     let skip = skip_of(value_in(found, "skip"))?;
     let pads = pads_of(value_in(found, "ragged"))?;
     let mark = mark_of(is_set(found, "decimal-comma"));
@@ -41,8 +44,13 @@ pub(crate) fn writing_of<'a>(
     let missing = marks_given(alloc, values_in(found, "missing"))?;
     Ok(Writing {
         file,
+        is_auto: is_set(found, "auto"),
+        has_encoding: is_there(found, "encoding"),
+        has_delimiter: is_there(found, "delimiter"),
+        has_skip: is_there(found, "skip"),
         delimiter,
         quote,
+        encoding,
         skip,
         has_names: !is_set(found, "no-header"),
         columns,

@@ -95,6 +95,32 @@ const SAID: &[(&str, u8, &str, &str)] = &[
         "",
         "error: --from 8 lies behind the last entry, 7\n",
     ),
+    (
+        "setting|--threads|1|table|batch",
+        0,
+        "workers 1 frames 4 chunks 1 groups 1 policy relevance\nquery 1 worker 0 chunks 0 columns 0\n",
+        "",
+    ),
+    (
+        "setting|--threads|2|--frames|40|--rows|1|--layout|column|--parts|2|--policy|normal|table|query",
+        0,
+        "workers 2 frames 40 chunks 3 groups 3 policy normal\nquery 1 worker 0 chunks 1 columns 0,2\nquery 2 worker 1 chunks 2 columns 0,2\n",
+        "",
+    ),
+    (
+        "setting|--rows|2|--policy|attach|table|empty",
+        0,
+        "workers 4 frames 13 chunks 2 groups 1 policy attach\n",
+        "",
+    ),
+    ("setting|none|batch", 4, "", "stopped 4: table read fault\n"),
+    (
+        "draw|--html|--to|8|out",
+        2,
+        "",
+        "error: --to 8 lies behind the last entry, 7\n",
+    ),
+    ("draw|--html|none", 4, "", "stopped 4: output read fault\n"),
     ("draw|none", 4, "", "stopped 4: output read fault\n"),
     (
         "draw|cut",

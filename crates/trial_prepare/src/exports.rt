@@ -1,7 +1,8 @@
 // Exports, the rules for them, and what they become.
 use prepare_rules::{Cause, Column, Failure, Mark, Refusal, Rename, Rules, prepare};
-use std::alloc::Global;
+use std::alloc::{AllocError, Global};
 use std::process::Abort;
+use std::test::Fail;
 
 /// Commas and double quotes, names first, and nothing else.
 pub(crate) const PLAIN: Rules<'static> = Rules {
@@ -230,6 +231,78 @@ fn nothing_to_write(rt: HostRuntime) {
             b"",
             at(1, 1, Cause::Columns { columns: 17 })
         )
+    );
+}
+
+// An export of two columns, the second of which has a name of so many bytes.
+fn export_with_name(alloc: Global, size: usize) -> Result<Vec<u8>, AllocError> {
+    let mut export = Vec::from_slice(alloc, b"a,")?;
+    export.extend_from_slice(vec![in alloc; b'x'; size]?.as_slice())?;
+    export.extend_from_slice(b"\n1,2\n")?;
+    Ok(export)
+}
+
+#[test]
+fn the_length_of_a_name(rt: HostRuntime) -> Result<(), Fail> {
+    let alloc = rt.alloc();
+    let longest = export_with_name(alloc, 128)?;
+    expect(&rt, alloc, &PLAIN, longest.as_slice(), longest.as_slice());
+    let longer = export_with_name(alloc, 129)?;
+    let refusal = at(1, 1, Cause::LongName { column: 2 });
+    assert!(rt; ends(alloc, &PLAIN, longer.as_slice(), b"", refusal));
+    Ok(())
+}
+
+// Whether nothing is written for two names that are equal.
+fn are_equal(alloc: Global, rules: &Rules<'_>, export: &[u8], first: usize, second: usize) -> bool {
+    let refusal = at(1, 1, Cause::TwiceNamed { first, second });
+    ends(alloc, rules, export, b"", refusal)
+}
+
+#[test]
+fn equal_names(rt: HostRuntime) {
+    let alloc = rt.alloc();
+    let export = b"a,b,c,b\n1,2,3,4\n";
+    assert!(rt; are_equal(alloc, &PLAIN, export, 2, 4));
+    assert!(rt; are_equal(alloc, &PLAIN, b",a,\n1,2,3\n", 1, 3));
+    let some = Rules {
+        columns: &[Column::Placed(4), Column::Named("c")],
+        ..PLAIN
+    };
+    expect(&rt, alloc, &some, export, b"b,c\n4,3\n");
+    let twice = Rules {
+        columns: &[Column::Placed(1), Column::Named("a")],
+        ..PLAIN
+    };
+    assert!(rt; are_equal(alloc, &twice, export, 1, 2));
+    let renames = Rules {
+        has_names: false,
+        renames: &[Rename {
+            from: "c1",
+            to: "c2",
+        }],
+        ..PLAIN
+    };
+    assert!(rt; are_equal(alloc, &renames, b"1,2\n", 1, 2));
+}
+
+#[test]
+fn a_mark_before_a_name(rt: HostRuntime) {
+    let alloc = rt.alloc();
+    let export = b"\xEF\xBB\xBF\xEF\xBB\xBFa,b\n1,2\n";
+    let refusal = at(1, 1, Cause::MarkedName);
+    assert!(rt; ends(alloc, &PLAIN, export, b"", refusal));
+    let turned = Rules {
+        columns: &[Column::Placed(2), Column::Placed(1)],
+        ..PLAIN
+    };
+    expect(&rt, alloc, &turned, export, b"b,\xEF\xBB\xBFa\n2,1\n");
+    expect(
+        &rt,
+        alloc,
+        &PLAIN,
+        b"\xEF\xBB,\xBF\n1,2\n",
+        b"\xEF\xBB,\xBF\n1,2\n",
     );
 }
 

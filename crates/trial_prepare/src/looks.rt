@@ -1,12 +1,13 @@
 // What is seen and guessed of exports.
-use prepare_page::{Encoding, encoding_of, look_at, page_of};
+use prepare_decode::Encoding;
+use prepare_page::{look_at, page_of, tabs_in};
 use std::alloc::Global;
 use std::process::Abort;
 
 // The page of a text, for a file of this name.
-fn page(rt: &impl Abort, alloc: Global, file: &str, text: &str) -> String {
+fn page(rt: &impl Abort, alloc: Global, file: &str, encoding: Encoding, text: &str) -> String {
     let look = look_at(alloc, text.as_bytes()).expect(rt, "look");
-    let page = page_of(alloc, file, text.as_bytes(), &look).expect(rt, "page");
+    let page = page_of(alloc, file, encoding, false, text.as_bytes(), &look).expect(rt, "page");
     format!(in alloc; "{page}").expect(rt, "memory")
 }
 
@@ -23,11 +24,67 @@ fn semicolons_and_decimal_commas(rt: HostRuntime) {
         needed: --numbers, since these columns are read as texts else\n\
         \n\
         ./coop_prepare write --delimiter ';' --numbers 3 --decimal-comma --thousands . pay.csv\n";
-    assert!(rt; page(&rt, rt.alloc(), "pay.csv", export).as_bytes() == told.as_bytes());
+    let page = page(&rt, rt.alloc(), "pay.csv", Encoding::Utf8, export);
+    assert!(rt; page.as_bytes() == told.as_bytes());
+}
+
+// The page of a text whose columns blanks part; none where they don't.
+fn page_by_blanks(rt: &impl Abort, alloc: Global, file: &str, text: &str) -> Option<String> {
+    let guess = look_at(alloc, text.as_bytes()).expect(rt, "look").guess;
+    let tabs = tabs_in(alloc, text.as_bytes(), guess).expect(rt, "tabs")?;
+    let look = look_at(alloc, tabs.as_slice()).expect(rt, "look");
+    let page = page_of(alloc, file, Encoding::Utf8, true, tabs.as_slice(), &look).expect(
+        rt, "page",
+    );
+    Some(format!(in alloc; "{page}").expect(rt, "memory"))
 }
 
 #[test]
-fn encodings(rt: HostRuntime) {
-    assert!(rt; encoding_of(b"\xFF\xFEa\x00") == Encoding::Utf16);
-    assert!(rt; encoding_of(b"a,b\n1,2\n") != Encoding::Utf16);
+fn columns_by_blanks(rt: HostRuntime) {
+    let export = "  city   people\n\"New York\"  8335897\n\n  Oslo  NA\n";
+    let told = "file cities.txt: UTF-8, 4 line ends\n\
+        delimiter blanks: 3 of 3 records have 2 fields\n\
+        names: in line 1\n\
+        column 1 \"city\": 2 texts\n\
+        column 2 \"people\": 1 whole; 1 marked as missing, the first in line 4\n\
+        needed: --delimiter, since coop_cli takes commas\n\
+        needed: --numbers, since these columns are read as texts else\n\
+        \n\
+        ./coop_prepare write --delimiter blanks --numbers 2 --missing=NA cities.txt\n";
+    match page_by_blanks(&rt, rt.alloc(), "cities.txt", export) {
+        Some(page) => assert!(rt; page.as_bytes() == told.as_bytes()),
+        None => assert!(rt; false),
+    }
+}
+
+#[test]
+fn columns_by_something_else(rt: HostRuntime) {
+    let alloc = rt.alloc();
+    let none = |text: &str| page_by_blanks(&rt, alloc, "x", text).is_none();
+    assert!(rt; none("a b\n1 2;3\n4 5\n"));
+    assert!(rt; none("a b\n1 2\n4 5 6\n"));
+    assert!(rt; none("two words\nand two\n"));
+    assert!(rt; none("1 2\n"));
+    assert!(rt; none("1\n2\n"));
+    assert!(rt; !none("1 2\n\n3 4\n"));
+}
+
+#[test]
+fn an_encoding_is_asked_for(rt: HostRuntime) {
+    let told = "file 'a b.csv': Latin-1, 2 line ends\n\
+        delimiter ',': 2 of 2 records have 2 fields\n\
+        names: in line 1\n\
+        column 1 \"g\u{FC}te\": 1 texts\n\
+        column 2 \"n\": 1 whole\n\
+        needed: --encoding, since the text isn't UTF-8\n\
+        \n\
+        ./coop_prepare write --encoding latin-1 'a b.csv'\n";
+    let page = page(
+        &rt,
+        rt.alloc(),
+        "a b.csv",
+        Encoding::Latin1,
+        "g\u{FC}te,n\nx,1\n",
+    );
+    assert!(rt; page.as_bytes() == told.as_bytes());
 }

@@ -1,7 +1,7 @@
 // The words of coop_inspect: those of its manual, and words on the edges of its rules.
 use crate::words::words_of;
 use command_words::{Layout, PolicyName, Request};
-use inspect_words::{Asked, Window, asked_of};
+use inspect_words::{Asked, Form, Window, asked_of};
 use std::alloc::Global;
 use std::test::Fail;
 
@@ -47,10 +47,22 @@ const GIVEN: &[(&str, Asked<'static>)] = &[
         },
     ),
     (
+        "setting|--threads|8|a|--policy=attach|b|--trace",
+        Asked::Setting {
+            run: Request {
+                workers: 8,
+                policy: PolicyName::Attach,
+                trace: true,
+                ..USUAL
+            },
+        },
+    ),
+    (
         "draw|out",
         Asked::Draw {
             output: "out",
             window: Window::WHOLE,
+            form: Form::Picture,
         },
     ),
     (
@@ -61,16 +73,18 @@ const GIVEN: &[(&str, Asked<'static>)] = &[
                 from: None,
                 to: Some(4294967295),
             },
+            form: Form::Picture,
         },
     ),
     (
-        "draw|out|--to|9|--from|9",
+        "draw|out|--to|9|--html|--from|9",
         Asked::Draw {
             output: "out",
             window: Window {
                 from: Some(9),
                 to: Some(9),
             },
+            form: Form::Page,
         },
     ),
 ];
@@ -84,6 +98,12 @@ const REFUSED: &[(&str, u8, &str)] = &[
     ("judge|--help", 0, "--threads <N>"),
     ("explain|--help", 0, "Usage: coop_inspect explain "),
     ("judge|--help", 0, "Usage: coop_inspect judge "),
+    ("setting|--help", 0, "Usage: coop_inspect setting "),
+    ("setting|a", 2, "<BATCH>"),
+    ("setting|a|b|out", 2, "'out'"),
+    ("setting|--compare|a|b", 2, "'--compare'"),
+    ("setting|--threads|+2|a|b", 2, "'+2' for --threads"),
+    ("setting|a|", 2, "word 3 is ''"),
     (
         "draw|--help",
         0,
@@ -101,6 +121,8 @@ const REFUSED: &[(&str, u8, &str)] = &[
     ("draw|--from|0|out", 2, "'0' for '--from <N>'"),
     ("draw|--to|4294967296|out", 2, "'4294967296' for '--to <N>'"),
     ("draw|--from|x|out", 2, "'x' for '--from <N>'"),
+    ("draw|--html=page|out", 2, "'page' for '--html'"),
+    ("judge|--html|a|b|out", 2, "'--html'"),
     (
         "draw|--from|10|--to|9|out",
         2,

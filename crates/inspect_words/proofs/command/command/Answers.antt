@@ -24,8 +24,8 @@ returns c =
     let versioned = version _ _ _ _ c.version.ensures required in
     let told = about _ _ _ _ c.about.ensures versioned in
     IfOk-weaker c.subcommands.result _ _ (λ new adds.
-    let three : AddsInTurn AddsSubcommand c.about.result (c.in_ok-first.first ∷ c.in_ok-second.second ∷ c.in_ok-third.third ∷ []) new =
+    let four : AddsInTurn AddsSubcommand c.about.result (c.in_ok-first.first ∷ c.in_ok-second.second ∷ c.in_ok-third.third ∷ c.in_ok-last.last ∷ []) new =
     subst (λ subs. AddsInTurn AddsSubcommand c.about.result subs new) c.in_ok-subcommands.ensures.items adds in
-    ap app_of (sym three.2.2.2) ∙ join _ _ _ _ _ _ (join _ _ _ _ _ _ (join _ _ _ _ _ _ told.app c.in_ok-first.ensures.1 c.in_ok-first.ensures.2 three.1)
-    c.in_ok-second.ensures.1 c.in_ok-second.ensures.2 three.2.1) c.in_ok-third.ensures.1 c.in_ok-third.ensures.2 three.2.2.1)
+    let two = join _ _ _ _ _ _ (join _ _ _ _ _ _ told.app c.in_ok-first.ensures.1 c.in_ok-first.ensures.2 four.1) c.in_ok-second.ensures.1 c.in_ok-second.ensures.2 four.2.1 in
+    ap app_of (sym four.2.2.2.2) ∙ join _ _ _ _ _ _ (join _ _ _ _ _ _ two c.in_ok-third.ensures.1 c.in_ok-third.ensures.2 four.2.2.1) c.in_ok-last.ensures.1 c.in_ok-last.ensures.2 four.2.2.2.1)
     c.subcommands.ensures

@@ -1,7 +1,7 @@
 use Rattle.std.proofs.Common.{◌≡◌, ◌+◌, Some, arith, length}
 use Rattle.csv.specs.Records.{fields_of}
 use Rattle.csv.specs.Writing.{text_written}
-use Rattle.prepare_rules.proofs.Going.{below-next, below-refused, first-takes, from-under, made-is, refused-is, then-ok, under-err, under-ok, with_first}
+use Rattle.prepare_rules.proofs.Going.{below-next, below-refused, first-counts, first-takes, from-under, made-is, refused-is, then-ok, under-err, under-ok, with_first}
 use Rattle.prepare_rules.specs.Made.{row_made}
 use Rattle.prepare_rules.specs.Outcome.{below, counted_names, from_first}
 use Rattle.prepare_text.specs.Source.{begun, left, record_of}
@@ -52,5 +52,5 @@ returns g c =
     (λ refusal h. from-under rules first rows refusal old new
     (under-ok rules (counted_names (length first.fields)) line (rules.skip + 1) plan (with_first first rows) refusal old begun new
     (rw (c.in-Ok.is, c.in_ok-names.ensures, c.len.ensures) at c.in_ok-plan.ensures.begun)
-    (below-next rules plan.names plan.picks.items (rules.skip + 1) (with_first first rows) rows first made refusal begun mid new (first-takes first rows) is
+    (below-next rules plan.names plan.picks.items (rules.skip + 1) (with_first first rows) rows first made refusal begun mid new (first-counts rules) (first-takes first rows) is
     c.in_ok-put.ensures.text (rw e h)))) c.copy_below.ensures

@@ -1,0 +1,105 @@
+-- The rules that a look at an export gives, and what they make of it.
+use Rattle.std.specs.Prelude.{◌≡◌, ◌+◌, ◌&&◌, ℕ, zero, suc, Bool, true, false, not, nat_lt, List, [], ◌∷◌, ◌++◌}
+use Rattle.std.specs.Prelude.{Option, Some, None, if◌then◌else◌, map}
+use Rattle.prepare_look.specs.declared.failure.Failure.TheVariants as broken
+use Rattle.prepare_look.specs.declared.failure.Failure.{Failure as Broken}
+use Rattle.prepare_page.specs.Advice.{has_comma, needs_rules, parts, reading_of}
+use Rattle.prepare_page.specs.Looks.{IsLookBy}
+use Rattle.prepare_page.specs.declared.advice.Reading.{Reading}
+use Rattle.prepare_page.specs.declared.hint.Hint.{Hint}
+use Rattle.prepare_page.specs.declared.look.Look.{Look}
+use Rattle.prepare_page.specs.declared.marks.TheConstants.{MARKS}
+use Rattle.prepare_rules.specs.Outcome.{IsPrepared}
+use Rattle.prepare_rules.specs.declared.cause.Refusal.{Refusal}
+use Rattle.prepare_rules.specs.declared.failure.Failure.{Failure}
+use Rattle.prepare_rules.specs.declared.failure.Failure.TheVariants as failure
+use Rattle.prepare_rules.specs.declared.rules.Column.{Column}
+use Rattle.prepare_rules.specs.declared.rules.Column.TheVariants.{Placed}
+use Rattle.prepare_rules.specs.declared.rules.Mark.{Mark}
+use Rattle.prepare_rules.specs.declared.rules.Mark.TheVariants as mark
+use Rattle.prepare_rules.specs.declared.rules.Rules.{Rules}
+use Rattle.prepare_auto.specs.declared.given.Given.{Given}
+use Rattle.prepare_auto.specs.declared.stop.Stop.{Stop}
+use Rattle.prepare_auto.specs.declared.stop.Stop.TheVariants.{Record, Titles}
+
+-- what a look needn't guess: what was asked for
+abbrev pub hint_of : Given → Rules → Hint
+hint_of given asked = record {
+  delimiter = if given.delimiter then Some asked.delimiter else None;
+  quote = asked.quote;
+  titles = if given.skip then Some asked.skip else None;
+  is_nameless = not asked.has_names;
+}
+
+-- a column behind others, by its place from 1, where it is such
+abbrev pub taken_at : (ℕ → Bool) → ℕ → List Column → List Column
+taken_at is n before = if is n then before ++ (Placed (n + 1) ∷ []) else before
+
+-- those of the first columns that are such
+unfoldable pub places_below : (ℕ → Bool) → ℕ → List Column
+places_below is zero = []
+places_below is (suc n) = taken_at is n (places_below is n)
+
+abbrev pub mark_of : Reading → Mark
+mark_of reading = if has_comma reading then mark.Comma else mark.Point
+
+-- the rules that are asked for, with the delimiter of a look, and names or none as it says
+abbrev pub shaped : Rules → Look → Rules
+shaped asked look = record asked { delimiter = look.guess.delimiter; has_names = look.has_names }
+
+-- and with its rules on numbers, which act in these columns
+pub record IsNumbered (shape : Rules) (reading : Reading) (places : List Column) (taken : Rules) : Type 0 where
+  pub rules : taken ≡ record shape {
+    numbers = taken.numbers;
+    missing = taken.missing;
+    mark = mark_of reading;
+    parts = parts reading;
+  }
+  pub numbers : taken.numbers.now ≡ places
+  pub missing : map (λ m. m.now) taken.missing.now ≡ map (λ m. m.now) MARKS
+
+-- columns of numbers that are asked for come with their own rules, and else a look gives both
+abbrev pub IsNumberedFor : List Column → Rules → Reading → List Column → Rules → Type 0
+IsNumberedFor [] shape reading places taken = IsNumbered shape reading places taken
+IsNumberedFor (column ∷ columns) shape reading places taken = taken ≡ shape
+
+-- THE RULES: those that are asked for, and where none are, what a look gives
+abbrev pub IsAdvice : Rules → Look → Reading → List Column → Rules → Type 0
+IsAdvice asked look reading places taken = IsNumberedFor asked.numbers.now (shaped asked look) reading places taken
+
+-- they act in the columns of numbers of which some field has to be written anew
+abbrev pub IsAdvised : Rules → Look → Rules → Type 0
+IsAdvised asked look taken = IsAdvice asked look (reading_of look.survey)
+    (places_below (needs_rules look.survey (reading_of look.survey)) look.survey.width) taken
+
+-- these rules were taken, and made this of a text
+pub record IsDone (asked : Rules) (look : Look) (text : List ℕ) (refusal : Option Refusal)
+    (old new : Option (List ℕ)) : Type 0 where
+  pub taken : Rules
+  pub advised : IsAdvised asked look taken
+  pub made : IsPrepared taken (Some text) refusal old new
+
+abbrev pub stop_of : Option Refusal → Option Stop
+stop_of None = None
+stop_of (Some refusal) = Some (Record refusal)
+
+-- records that weren't asked to be left out seem to be titles
+abbrev pub has_titles : Given → Look → Bool
+has_titles given look = not given.skip && nat_lt 0 look.titles
+
+-- where records seem to be titles nothing is written; else the rules of the look made this of a text
+abbrev pub Came : Bool → Rules → Look → List ℕ → Option Stop → Option (List ℕ) → Option (List ℕ) → Type 0
+Came true asked look text stop old new = (stop ≡ Some (Titles look.titles look.first.line)) × (new ≡ old)
+Came false asked look text stop old new =
+    (refusal : Option Refusal) × (stop ≡ stop_of refusal) × IsDone asked look text refusal old new
+
+-- A TEXT WAS WRITTEN as a look at it says
+pub record IsWritten (asked : Rules) (given : Given) (text : List ℕ) (look : Look) (stop : Option Stop)
+    (old new : Option (List ℕ)) : Type 0 where
+  pub seen : IsLookBy (hint_of given asked) text look
+  pub came : Came (has_titles given look) asked look text stop old new
+
+-- what breaks off a look
+abbrev pub failure_of : Broken → Failure
+failure_of broken.TooLong = failure.TooLong
+failure_of broken.Memory = failure.Memory

@@ -1,0 +1,4 @@
+pub mod Blanks
+pub mod Quotes
+pub mod Tabs
+pub mod Words

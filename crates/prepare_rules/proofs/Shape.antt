@@ -1,0 +1,121 @@
+-- What is written has names that are taken, and rows as wide.
+use Rattle.std.proofs.Common.{◌≡◌, ◌+◌, ◌-◌, ◌<◌, ◌==◌, ℕ, suc, true, false, None, Option, Some, List, [], ◌∷◌, length, map, drop, refl, sym, ap, ◌∙◌, arith, inl, inr}
+use Rattle.std.proofs.lemmas.Bool.{cases_Bool}
+use Rattle.std.proofs.lemmas.Bool.Decides.{nat_tests}
+use Rattle.std.proofs.lemmas.List.{length-map}
+use Rattle.std.specs.Prelude.{Result, Ok, Err, nat_lt, slice_index_or}
+use Rattle.prepare_text.specs.Walk.{Lined}
+use Rattle.prepare_rules.proofs.Choosing.{first-of, second-of}
+use Rattle.prepare_rules.specs.Columns.{is_few, lost_name, names_written, pick_at, picks_among, picks_from, picks_named, picks_of, renamed, written_places}
+use Rattle.prepare_rules.specs.Made.{field_made, is_taken}
+use Rattle.prepare_rules.specs.Names.{named_picks, names_refusal, unless}
+use Rattle.prepare_rules.specs.Outcome.{AreWide, IsTable, below, counted_names, first_row, from_first, is_full, kept, number_past, prepared, under, under_picks}
+use Rattle.prepare_rules.specs.Records.{Record}
+use Rattle.prepare_rules.specs.declared.cause.Cause.{Cause}
+use Rattle.prepare_rules.specs.declared.columns.Pick.{Pick}
+use Rattle.prepare_rules.specs.declared.rules.Rules.{Rules}
+use Rattle.table_sets.specs.declared.limits.TheConstants.{MOST_ROWS}
+
+-- columns that are as many as a table has
+among : (r : Result (List ℕ) ℕ) (places : List ℕ) (picks : List Pick) → picks_among r places ≡ Ok picks → is_few (length places) ≡ true → is_few (length picks) ≡ true
+among (Err word) places picks e few = cc e
+among (Ok numbers) places picks e few =
+    let g : map (pick_at numbers) places ≡ picks = cc e in
+    ap is_few (ap length (sym g) ∙ length-map places (pick_at numbers)) ∙ few
+
+from : (rules : Rules) (names : Record) (r : Result (List ℕ) ℕ) (picks : List Pick) → picks_from rules names r ≡ Ok picks → is_few (length picks) ≡ true
+from rules names (Err word) picks e = cc e
+from rules names (Ok places) picks e = elim (cases_Bool (is_few (length places))) [
+  | inl so ↦ among _ places picks (rw so at e) so
+  | inr not ↦ cc (rw not at e)
+]
+
+named : (o : Option ℕ) (r : Result (List Pick) Cause) (picks : List Pick) → picks_named o r ≡ Ok picks → r ≡ Ok picks
+named None r picks e = e
+named (Some word) r picks e = cc e
+
+few : (rules : Rules) (names : Record) (picks : List Pick) → picks_of rules names ≡ Ok picks → is_few (length picks) ≡ true
+few rules names picks e =
+    let r = written_places rules.columns.now names in
+    from rules names r picks (named (lost_name names 0 rules.renames.now) (picks_from rules names r) picks e)
+
+-- names that are taken
+passed : (o : Option Cause) (found picks : List Pick) → unless o found ≡ Ok picks → (o ≡ None) × (found ≡ picks)
+passed None found picks e = (refl, cc e)
+passed (Some c) found picks e = cc e
+
+taken : (rules : Rules) (names : Record) (r : Result (List Pick) Cause) (picks : List Pick) → named_picks rules names r ≡ Ok picks
+    → (r ≡ Ok picks) × (names_refusal [] (names_written rules names picks) ≡ None)
+taken rules names (Err c) picks e = cc e
+taken rules names (Ok found) picks e =
+    let h = passed (names_refusal [] (names_written rules names found)) found picks e in
+    (ap Ok h.1, ap (λ ps. names_refusal [] (names_written rules names ps)) (sym h.1) ∙ h.0)
+
+-- rows as wide as the names
+below-wide : (rules : Rules) (names : ℕ) (picks : List Pick) (at : ℕ) (rows : List Lined) → AreWide (length picks) (below rules names picks at rows).rows
+below-wide rules names picks at [] = tt
+below-wide rules names picks at (r ∷ rows) = elim (cases_Bool (is_taken rules names (length r.fields))) [
+  | inl so ↦
+      let width = length-map picks (λ (p : Pick). field_made rules p.is_number (slice_index_or r.fields p.place [])) in
+      elim (cases_Bool (at == number_past rules)) [
+        | inl full ↦ rw (so, full) (width, tt)
+        | inr more ↦ rw (so, more) (width, below-wide rules names picks (at + 1) rows)
+      ]
+  | inr not ↦ rw not tt
+]
+
+none-more : (room : ℕ) → nat_lt room 0 ≡ false
+none-more room = grind (arith, nat_tests)
+
+one-more : (room rows : ℕ) → nat_lt (room + 1) (suc rows) ≡ nat_lt room rows
+one-more room rows = grind (arith, nat_tests)
+
+-- a row too many, where there is room for so many yet, is told
+below-full : (rules : Rules) (names : ℕ) (picks : List Pick) (at room : ℕ) (rows : List Lined) → at + room ≡ number_past rules
+    → nat_lt room (length (below rules names picks at rows).rows) ≡ is_full (below rules names picks at rows).refusal
+below-full rules names picks at room [] e = none-more room
+below-full rules names picks at room (r ∷ rows) e = elim (cases_Bool (is_taken rules names (length r.fields))) [
+  | inl so ↦ elim (cases_Bool (at == number_past rules)) [
+    | inl full ↦
+        let last : room ≡ 0 = grind (arith, nat_tests) in
+        rw (so, full, last) refl
+    | inr more ↦
+        let some : 0 < room = grind (arith, nat_tests) in
+        let left : (room - 1) + 1 ≡ room = omega (arith, some) in
+        let h = below-full rules names picks (at + 1) (room - 1) rows (omega (arith, some, e)) in
+        rw (so, more) (rw left at (one-more (room - 1) (length (below rules names picks (at + 1) rows).rows) ∙ h))
+  ]
+  | inr not ↦ rw not (none-more room)
+]
+
+under-table : (rules : Rules) (names : Record) (line at : ℕ) (rows : List Lined) (r : Result (List Pick) Cause) → at ≡ first_row rules
+    → ((picks : List Pick) → r ≡ Ok picks → (is_few (length picks) ≡ true) × (names_refusal [] (names_written rules names picks) ≡ None))
+    → IsTable (under_picks rules names line at rows r).rows (under_picks rules names line at rows r).refusal
+under-table rules names line at rows (Err c) first good = λ e. cc e
+under-table rules names line at rows (Ok picks) first good =
+    let h = good picks refl in
+    let width : length (names_written rules names picks) ≡ length picks = length-map picks (λ (p : Pick). renamed rules.renames.now (slice_index_or names p.place [])) in (
+      ap is_few width ∙ h.0,
+      h.1,
+      rw width (below-wide rules (length names) picks at rows),
+      below-full rules (length names) picks at MOST_ROWS rows (ap (λ n. n + MOST_ROWS) first),
+    )
+
+all-under : (rules : Rules) (names : Record) (line at : ℕ) (rows : List Lined) → at ≡ first_row rules → IsTable (under rules names line at rows).rows (under rules names line at rows).refusal
+all-under rules names line at rows first = under-table rules names line at rows (named_picks rules names (picks_of rules names)) first (λ picks e.
+    let h = taken rules names (picks_of rules names) picks e in
+    (few rules names picks h.0, h.1))
+
+kept-table : (rules : Rules) (rows : List Lined) → IsTable (kept rules rows).rows (kept rules rows).refusal
+kept-table rules [] = λ e. cc e
+kept-table rules (first ∷ rows) =
+    let named = under rules first.fields first.line (rules.skip + 2) rows in
+    let counted = from_first rules first rows in
+    elim (cases_Bool rules.has_names) [
+      | inl so ↦ rw (first-of rules.has_names named counted so) (all-under rules first.fields first.line (rules.skip + 2) rows (rw so refl))
+      | inr not ↦ rw (second-of rules.has_names named counted not)
+          (all-under rules (counted_names (length first.fields)) first.line (rules.skip + 1) (first ∷ rows) (rw not refl))
+    ]
+
+pub is-table : (rules : Rules) (rows : List Lined) → IsTable (prepared rules rows).rows (prepared rules rows).refusal
+is-table rules rows = kept-table rules (drop rules.skip rows)

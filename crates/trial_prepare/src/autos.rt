@@ -1,0 +1,147 @@
+// Exports that are written as a look at them says.
+use crate::exports::PLAIN;
+use prepare_auto::{Given, Stop, write_auto};
+use prepare_rules::{Cause, Column, Refusal, Rules};
+use std::alloc::Global;
+use std::process::Abort;
+
+/// Nothing is asked for.
+const NOTHING: Given = Given {
+    delimiter: false,
+    skip: false,
+};
+
+// Whether this text is written of an export, and then this stops it.
+fn gives(
+    alloc: Global,
+    (rules, given): (&Rules<'_>, Given),
+    export: &[u8],
+    text: &[u8],
+    wanted: Option<Stop>,
+) -> bool {
+    match write_auto(alloc, rules, given, export, Vec::new(alloc)) {
+        Ok((made, stop, _)) => made.as_slice() == text && stop == wanted,
+        Err(_) => false,
+    }
+}
+
+fn expect(rt: &impl Abort, alloc: Global, rules: &Rules<'_>, export: &[u8], text: &[u8]) {
+    assert!(rt; gives(alloc, (rules, NOTHING), export, text, None));
+}
+
+#[test]
+fn marks_of_another_country(rt: HostRuntime) {
+    expect(
+        &rt,
+        rt.alloc(),
+        &PLAIN,
+        b"day;note;amount\n05.01.2026;1,5 or 1.234,5;1.204,50\n06.01.2026;NA;NA\n07.01.2026;x;-7\n",
+        b"day,note,amount\n05.01.2026,\"1,5 or 1.234,5\",1204.50\n06.01.2026,NA,\n07.01.2026,x,-7\n",
+    );
+    expect(
+        &rt,
+        rt.alloc(),
+        &PLAIN,
+        b"a\tb\n1 234\tx\n12\ty\n",
+        b"a,b\n1234,x\n12,y\n",
+    );
+}
+
+#[test]
+fn what_is_right_stays(rt: HostRuntime) {
+    let export = b"id,price\n007,1.50\n008,-.5\n";
+    expect(&rt, rt.alloc(), &PLAIN, export, export);
+}
+
+#[test]
+fn no_names(rt: HostRuntime) {
+    expect(&rt, rt.alloc(), &PLAIN, b"1|2\n3|4\n", b"c1,c2\n1,2\n3,4\n");
+    let nameless = Rules {
+        has_names: false,
+        ..PLAIN
+    };
+    expect(
+        &rt,
+        rt.alloc(),
+        &nameless,
+        b"x,y\n1,2\n",
+        b"c1,c2\nx,y\n1,2\n",
+    );
+}
+
+#[test]
+fn titles_are_asked_for(rt: HostRuntime) {
+    let export = b"Sales\nmade today\na;b\n1;2\n";
+    let titles = Stop::Titles {
+        records: 2,
+        line: 3,
+    };
+    assert!(rt; gives(rt.alloc(), (&PLAIN, NOTHING), export, b"", Some(titles)));
+    let asked = Given {
+        delimiter: false,
+        skip: true,
+    };
+    let two = Rules { skip: 2, ..PLAIN };
+    assert!(rt; gives(rt.alloc(), (&two, asked), export, b"a,b\n1,2\n", None));
+    let short = Stop::Record(Refusal {
+        number: 3,
+        line: Some(3),
+        cause: Cause::Fields {
+            fields: 2,
+            names: 1,
+        },
+    });
+    assert!(rt;
+        gives(
+            rt.alloc(),
+            (&PLAIN, asked),
+            export,
+            b"Sales\nmade today\n",
+            Some(short)
+        )
+    );
+}
+
+#[test]
+fn what_is_asked_for_wins(rt: HostRuntime) {
+    let asked = Given {
+        delimiter: true,
+        skip: false,
+    };
+    let export = b"a;b,c;d\n1;2,3;4\n5;6,7;8\n";
+    let text = b"a;b,c;d\n1;2,3;4\n5;6,7;8\n";
+    assert!(rt; gives(rt.alloc(), (&PLAIN, asked), export, text, None));
+    let rules = Rules {
+        numbers: &[Column::Named("b")],
+        missing: &["x"],
+        ..PLAIN
+    };
+    expect(
+        &rt,
+        rt.alloc(),
+        &rules,
+        b"a;b\n1,5;x\n2,5;NA\n",
+        b"a,b\n\"1,5\",\n\"2,5\",NA\n",
+    );
+}
+
+#[test]
+fn a_record_is_refused(rt: HostRuntime) {
+    let short = Stop::Record(Refusal {
+        number: 3,
+        line: Some(3),
+        cause: Cause::Fields {
+            fields: 1,
+            names: 2,
+        },
+    });
+    assert!(rt;
+        gives(
+            rt.alloc(),
+            (&PLAIN, NOTHING),
+            b"a,b\n1,2\n3\n",
+            b"a,b\n1,2\n",
+            Some(short)
+        )
+    );
+}
