@@ -2,7 +2,6 @@ use table_sets::Slots;
 
 /// A load that is underway: the worker may read each slot's piece into its frame. It must be spent, by `Desk::filled`
 /// or `Desk::failed`.
-#[derive(Debug)]
 pub struct Ticket {
     /// Who loads.
     pub worker: u32,

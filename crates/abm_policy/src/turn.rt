@@ -3,7 +3,6 @@ use scan_story::Cause;
 use table_sets::Slots;
 
 /// What a turn answers.
-#[derive(Debug)]
 pub enum Turn<D> {
     /// The worker now holds the chunk. Each piece of it that the query reads, by rising piece, stands in its slot's frame
     /// until the worker releases.

@@ -8,7 +8,7 @@ use table_core::{Cell, Memory};
 
 /// The result rows of a query, seen as their list: those of a groups query in key order, those of a rows query in its
 /// order.
-#[derive(Debug, Drop)]
+#[derive(Drop)]
 pub struct Rows {
     rows: Vec<Vec<Cell>>,
 }
@@ -36,7 +36,7 @@ impl Rows {
 }
 
 /// Why groups have no result rows.
-#[derive(Clone, Copy, Debug, PartialEq, Eq)]
+#[derive(Clone, Copy, PartialEq, Eq)]
 pub enum FinishFault {
     /// A sum is no whole number of 64 bits: the first in key order, then in item order. Items are counted from 1.
     SumOverflow { item: u32, total: i128 },

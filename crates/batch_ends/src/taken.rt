@@ -1,7 +1,7 @@
 // The chunks that a scan took.
 
 /// The chunks that a scan took: each of them was delivered to it once.
-#[derive(Debug, Drop)]
+#[derive(Drop)]
 pub struct Taken {
     /// The number of the query's statement.
     pub query: u32,

@@ -3,7 +3,7 @@
 use piece_format::Layout;
 
 /// How the table of a batch is cut, and who works on it.
-#[derive(Clone, Copy, Debug, PartialEq, Eq)]
+#[derive(Clone, Copy, PartialEq, Eq)]
 pub struct Options {
     /// How many workers there are, 1 to 32.
     pub workers: u32,

@@ -4,7 +4,7 @@ use sql_bind::Plan;
 use std::marker::Model;
 
 /// A query of a batch. Contracts see its number and the plan itself.
-#[derive(Debug, Drop)]
+#[derive(Drop)]
 pub struct Task<'a> {
     /// The number of its statement, 1 to 256; the numbers of a batch rise.
     pub query: u32,

@@ -1,5 +1,5 @@
 /// What a frame is at.
-#[derive(Clone, Copy, Debug, PartialEq, Eq)]
+#[derive(Clone, Copy, PartialEq, Eq)]
 pub enum Frame {
     /// No piece is in it.
     Free,

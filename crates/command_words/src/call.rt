@@ -1,7 +1,7 @@
 use std::alloc::AllocError;
 
 /// Which options are known.
-#[derive(Clone, Copy, Debug, PartialEq, Eq)]
+#[derive(Clone, Copy, PartialEq, Eq)]
 pub enum Call {
     /// Those of a run with one policy that the caller picked.
     Run,
@@ -10,7 +10,7 @@ pub enum Call {
 }
 
 /// Why the words gave nothing.
-#[derive(Clone, Copy, Debug, PartialEq, Eq)]
+#[derive(Clone, Copy, PartialEq, Eq)]
 pub enum Refused {
     /// They are not among the accepted words.
     Usage,

@@ -10,7 +10,7 @@ use piece_format::Layout;
 use scan_story::PolicyName;
 
 /// What a TABLE names.
-#[derive(Clone, Copy, Debug, PartialEq, Eq)]
+#[derive(Clone, Copy, PartialEq, Eq)]
 pub enum Table<'a> {
     /// The table that is generated from the seed, with so many rows, at most `MOST_GENERATED_ROWS`:
     /// `gen:SEED:ROWS`.
@@ -42,7 +42,7 @@ fn generated<'a>(text: &str) -> Option<Table<'a>>
 }
 
 /// What a BATCH names.
-#[derive(Clone, Copy, Debug, PartialEq, Eq)]
+#[derive(Clone, Copy, PartialEq, Eq)]
 pub enum Batch<'a> {
     /// The generated batch: `gen`.
     Generated,

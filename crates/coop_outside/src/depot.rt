@@ -6,7 +6,7 @@ ghost use Rattle.coop_outside.specs.Pieces.{Stored, HoldsPiece, OthersStay, Read
 use crate::failed::Failed;
 
 /// Why a piece was not stored.
-#[derive(Clone, Copy, Debug, PartialEq, Eq)]
+#[derive(Clone, Copy, PartialEq, Eq)]
 pub enum DepotFault {
     /// A fault, which is counted. The piece may hold anything; the other pieces are as they were.
     Failed,

@@ -2,5 +2,5 @@
 
 /// A device's fault. Its count of faults has then risen, or stands at its last value 2^64 - 1; a shelf
 /// that tells what it holds also fails on a name that it lacks.
-#[derive(Clone, Copy, Debug, PartialEq, Eq)]
+#[derive(Clone, Copy, PartialEq, Eq)]
 pub struct Failed;

@@ -8,7 +8,7 @@ use crate::shelf::Shelf;
 use std::alloc::{AllocError, Global};
 
 /// Why the bytes of a name were not read.
-#[derive(Clone, Copy, Debug, PartialEq, Eq)]
+#[derive(Clone, Copy, PartialEq, Eq)]
 pub enum ReadFault {
     /// The shelf failed: its count of faults rose or stands at its last value, or it tells what it holds
     /// and lacks the name.

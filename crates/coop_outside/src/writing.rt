@@ -6,7 +6,7 @@ ghost use Rattle.coop_outside.specs.Taken.{grown};
 use crate::sink::Sink;
 
 /// The sink failed: its count of faults rose, or stands at its last value.
-#[derive(Clone, Copy, Debug, PartialEq, Eq)]
+#[derive(Clone, Copy, PartialEq, Eq)]
 pub struct WriteFault {
     /// How many bytes the sink had taken: exactly the first ones, and fewer than all.
     pub gone: u64,

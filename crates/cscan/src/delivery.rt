@@ -5,7 +5,7 @@ ghost use Rattle.std.specs.Prelude.{◌≡◌};
 ///
 /// `CScan::next` makes one with each Deliver entry, and nobody else makes or copies any. So who calls the gate with it
 /// calls it for this delivery, and once.
-#[derive(Debug, Drop)]
+#[derive(Drop)]
 pub struct Delivery {
     pub(crate) worker: u32,
     pub(crate) query: u32,

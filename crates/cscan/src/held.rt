@@ -27,7 +27,6 @@ use std::sync::Wait;
 use table_core::{Cell, ColumnSet};
 
 /// A chunk that a scan has out, whose frames are pinned. It must be released.
-#[derive(Debug)]
 pub struct Held {
     pub(crate) given: Given,
 }

@@ -4,7 +4,6 @@ use crate::held::Held;
 use scan_story::Cause;
 
 /// What `CScan::next` answers.
-#[derive(Debug)]
 pub enum Next {
     /// A chunk that the query needs, once, and its delivery, with which the gate is called.
     Chunk(Held, Delivery),

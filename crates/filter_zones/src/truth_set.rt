@@ -3,7 +3,7 @@ ghost use Rattle.std.specs.Prelude.{◌≡◌};
 ghost use Rattle.filter_zones.specs.Possible as spec;
 
 /// The truths that a condition may have in a chunk. It is empty over a chunk without rows.
-#[derive(Clone, Copy, Debug, PartialEq, Eq)]
+#[derive(Clone, Copy, PartialEq, Eq)]
 pub struct TruthSet {
     /// Whether False is in it.
     pub can_false: bool,

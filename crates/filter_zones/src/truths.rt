@@ -8,7 +8,7 @@ use crate::words::{both, complement, either, without};
 
 /// The truths of a condition on up to 64 rows: row `i` has the bit `i` of both words. On a row that has neither bit the
 /// condition is false, and no row has both.
-#[derive(Clone, Copy, Debug, PartialEq, Eq)]
+#[derive(Clone, Copy, PartialEq, Eq)]
 pub struct Truths {
     /// The rows on which the condition is true.
     pub yes: u64,

@@ -11,7 +11,7 @@ use crate::found::{zone_of_codes, zone_of_numbers};
 use table_core::{Cell, Cells, MOST_COLUMNS, Table};
 
 /// What stands in a column of a chunk.
-#[derive(Clone, Copy, Debug, PartialEq, Eq)]
+#[derive(Clone, Copy, PartialEq, Eq)]
 pub struct Zone {
     /// Whether a NULL stands there.
     pub has_null: bool,
@@ -20,7 +20,7 @@ pub struct Zone {
 }
 
 /// The zone of each column of a chunk; those past its last column say that nothing stands there.
-#[derive(Clone, Copy, Debug, PartialEq, Eq)]
+#[derive(Clone, Copy, PartialEq, Eq)]
 pub struct ChunkZones {
     pub zones: [Zone; 16],
 }

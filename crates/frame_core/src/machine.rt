@@ -9,7 +9,7 @@ use crate::step::Step;
 use crate::word::word_of;
 
 /// The step isn't allowed in this state: the control word of the state.
-#[derive(Clone, Copy, PartialEq, Eq, Debug)]
+#[derive(Clone, Copy, PartialEq, Eq)]
 pub struct NotAllowed {
     pub word: u64,
 }

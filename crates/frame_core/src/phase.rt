@@ -1,7 +1,7 @@
 //! The four phases of a frame.
 
 /// What a frame is used for at the moment.
-#[derive(Clone, Copy, PartialEq, Eq, Debug)]
+#[derive(Clone, Copy, PartialEq, Eq)]
 pub enum FramePhase {
     /// It holds no piece.
     Free,

@@ -4,7 +4,7 @@ ghost use Rattle.std.specs.Prelude.{◌≡◌};
 use table_sets::Slots;
 
 /// A chunk that is out: its number, how many rows it has, and the frames of its pieces that the query reads.
-#[derive(Debug, Drop)]
+#[derive(Drop)]
 pub struct Given {
     pub chunk: u32,
     pub rows: u32,

@@ -2,7 +2,7 @@ ghost use Rattle.std.specs.Prelude.{◌≡◌};
 ghost use Rattle.interest_book.specs.Loading.{after_fill};
 
 /// The load that is underway: who loads which chunk, and for which query.
-#[derive(Clone, Copy, Debug, PartialEq, Eq)]
+#[derive(Clone, Copy, PartialEq, Eq)]
 pub struct Underway {
     pub worker: u32,
     pub query: u32,

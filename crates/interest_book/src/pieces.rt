@@ -3,7 +3,7 @@ ghost use Rattle.std.specs.Prelude.{◌≡◌, ◌≤◌, ◌<◌, ◌++◌, ◌
 use std::marker::Model;
 
 /// At most 16 pieces, seen as their list.
-#[derive(Debug, Drop)]
+#[derive(Drop)]
 pub struct Pieces {
     len: u32,
     items: [u32; 16],

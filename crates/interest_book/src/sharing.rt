@@ -10,7 +10,7 @@ pub struct Sharing {
 }
 
 /// How many active queries need a chunk and read a piece of it that one query reads, and how many of these are starved.
-#[derive(Clone, Copy, Debug, PartialEq, Eq)]
+#[derive(Clone, Copy, PartialEq, Eq)]
 pub struct Overlaps {
     pub active: u32,
     pub starved: u32,

@@ -18,7 +18,7 @@ use crate::word_bytes::word_at;
 use table_core::Kind;
 
 /// A piece is damaged: its first word that breaks the rules.
-#[derive(Clone, Copy, Debug, PartialEq, Eq)]
+#[derive(Clone, Copy, PartialEq, Eq)]
 pub struct Damage {
     /// The place of the word in the piece.
     pub word: u32,

@@ -13,7 +13,7 @@ use table_core::chunk_span;
 ///
 /// Rows are those of the piece's chunk, from 0. In the row layout a piece has every column, in the column layout the one
 /// of its group. A cell has two words: one with its null bit, which it shares with other cells, and its value word.
-#[derive(Clone, Copy, Debug, PartialEq, Eq)]
+#[derive(Clone, Copy, PartialEq, Eq)]
 pub struct Piece {
     pub layout: Layout,
     /// How many columns the table has, 1 to `MOST_COLUMNS`.

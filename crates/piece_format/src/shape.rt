@@ -13,7 +13,7 @@ use table_core::{Kind, MOST_CHUNK_ROWS, MOST_COLUMNS};
 ///
 /// Each call with a shape wants 1 to `MOST_COLUMNS` kinds, as many lengths of dictionaries, 1 to `MOST_CHUNK_ROWS` rows
 /// in a chunk, at most `MOST_ROWS` rows and at most `MOST_CHUNKS` chunks.
-#[derive(Debug, Drop)]
+#[derive(Drop)]
 pub struct Shape {
     pub layout: Layout,
     /// The kind of each column.

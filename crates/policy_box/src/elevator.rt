@@ -21,7 +21,7 @@ use scan_story::PolicyName;
 ///
 /// It loads for the query with the nearest chunk to load, and takes the nearest chunk to load and to deliver, and the
 /// nearest of the victims that are least close. Among equals it takes the least number.
-#[derive(Clone, Copy, Debug, PartialEq, Eq)]
+#[derive(Clone, Copy, PartialEq, Eq)]
 pub struct Elevator {
     // the chunk after the one that was last picked to be loaded
     next: u32,

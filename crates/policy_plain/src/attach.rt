@@ -10,7 +10,7 @@ use scan_story::PolicyName;
 /// It loads for the query that has waited longest. It takes the chunk to load and to deliver that is nearest to the
 /// query's start, and of the victims that are least close the one in which the fewest queries are interested. Among
 /// equals it takes the least number.
-#[derive(Clone, Copy, Debug, PartialEq, Eq)]
+#[derive(Clone, Copy, PartialEq, Eq)]
 pub struct Attach {
     // the chunk that was last picked to be delivered; 0 before
     last: u32,

@@ -7,7 +7,7 @@ use scan_story::Cause;
 use top_rows::Picked;
 
 /// What a query is answered.
-#[derive(Debug, Drop)]
+#[derive(Drop)]
 pub enum Answer {
     /// The result rows of a query without a limit, in key order.
     Rows(Rows),

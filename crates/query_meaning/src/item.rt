@@ -1,7 +1,7 @@
 // What a result row shows.
 
 /// An item of a groups query. Columns are counted from 0.
-#[derive(Clone, Copy, Debug, PartialEq, Eq)]
+#[derive(Clone, Copy, PartialEq, Eq)]
 pub enum Item {
     /// How many rows the group has.
     CountAll,

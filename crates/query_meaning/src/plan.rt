@@ -8,7 +8,7 @@ use std::marker::Model;
 use table_core::Memory;
 
 /// What a rows query asks for: seen as a record of lists. Columns are counted from 0.
-#[derive(Debug, Drop)]
+#[derive(Drop)]
 pub struct RowPlan {
     /// The columns whose values are answered, from left to right.
     pub columns: Vec<u32>,

@@ -17,7 +17,7 @@ use scan_story::PolicyName;
 
 /// Picks the highest rank, the greatest load and use ratio, and the least keep ratio. Among equals it picks the least
 /// number. It keeps nothing.
-#[derive(Clone, Copy, Debug, PartialEq, Eq)]
+#[derive(Clone, Copy, PartialEq, Eq)]
 pub struct Relevance;
 
 impl Policy for Relevance {

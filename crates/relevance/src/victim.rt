@@ -3,7 +3,7 @@ ghost use Rattle.std.specs.Prelude.{◌≡◌};
 ghost use Rattle.relevance.specs.Victims.{is_fitter, fitter_of, chunk_in};
 
 /// What victims are compared by: how close the chunk is, and then the policy's own key, each the less the fitter.
-#[derive(Clone, Copy, Debug, PartialEq, Eq)]
+#[derive(Clone, Copy, PartialEq, Eq)]
 pub struct Fitness {
     /// How many queries have the chunk available and at most two available chunks.
     pub close: u32,

@@ -17,7 +17,7 @@ pub const MOST_BLOCK_ROWS: u32 = 64;
 /// lanes of its columns; `rows_in` are the rows that it stands for.
 ///
 /// It lies in one piece, and none of its calls takes memory.
-#[derive(Debug, Drop)]
+#[derive(Drop)]
 pub struct Block {
     width: u32,
     count: u32,

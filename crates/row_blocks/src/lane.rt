@@ -6,7 +6,7 @@ ghost use Rattle.row_blocks.specs.Lanes as spec;
 use table_core::Cell;
 
 /// What the words of a lane hold.
-#[derive(Clone, Copy, Debug, PartialEq, Eq)]
+#[derive(Clone, Copy, PartialEq, Eq)]
 pub enum Holds {
     /// Numbers of 64 bits in two's complement.
     Numbers,
@@ -16,7 +16,7 @@ pub enum Holds {
 
 /// A column of a block: for each of up to 64 rows a word and a null bit. What stands for rows that the block doesn't have
 /// says nothing.
-#[derive(Clone, Copy, Debug)]
+#[derive(Clone, Copy)]
 pub struct Lane {
     /// What the words hold.
     pub holds: Holds,

@@ -1,7 +1,7 @@
 // What a run counts beside its statements.
 
 /// What the summary of a run counts beside its statements and answers.
-#[derive(Clone, Copy, Debug, PartialEq, Eq)]
+#[derive(Clone, Copy, PartialEq, Eq)]
 pub struct Totals {
     /// How many chunks were delivered to the queries, all together.
     pub deliveries: u64,

@@ -3,7 +3,7 @@
 use sql_bind::{Plan, StatementRefusal};
 
 /// What a statement of a batch comes to before any row is read.
-#[derive(Debug, Drop)]
+#[derive(Drop)]
 pub enum Outcome {
     /// It is a query over the table, with this plan.
     Planned(Plan),

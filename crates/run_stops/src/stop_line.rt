@@ -5,7 +5,7 @@ use itoa::Buffer;
 use std::marker::Model;
 
 /// The line of a run that stopped, with its line end. It lies in a fixed buffer and takes no memory.
-#[derive(Debug, Drop)]
+#[derive(Drop)]
 pub struct StopLine {
     bytes: [u8; 80],
     len: usize,

@@ -1,7 +1,7 @@
 use std::collections::LinkedList;
 
 /// How far a query has come.
-#[derive(Clone, Copy, Debug, PartialEq, Eq)]
+#[derive(Clone, Copy, PartialEq, Eq)]
 pub enum Phase {
     /// Not registered yet.
     Waiting,
@@ -14,7 +14,7 @@ pub enum Phase {
 }
 
 /// What a worker holds: a chunk, for a query.
-#[derive(Clone, Copy, Debug, PartialEq, Eq)]
+#[derive(Clone, Copy, PartialEq, Eq)]
 pub struct Hold {
     pub query: u32,
     pub chunk: u32,

@@ -5,7 +5,7 @@ use query_meaning::{Item, RowPlan};
 use table_core::ColumnSet;
 
 /// A query with its names as columns, counted from 0, and its literals as bounds over cells.
-#[derive(Debug, Drop)]
+#[derive(Drop)]
 pub struct Plan {
     /// The items, where the query has no limit.
     pub items: Vec<Item>,

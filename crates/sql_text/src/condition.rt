@@ -3,7 +3,7 @@
 use table_core::{Bytes, Op};
 
 /// What a column is compared with.
-#[derive(Debug, Drop)]
+#[derive(Drop)]
 pub enum Literal {
     /// A number.
     Int(i64),
@@ -14,7 +14,7 @@ pub enum Literal {
 }
 
 /// A condition on a row.
-#[derive(Debug, Drop)]
+#[derive(Drop)]
 pub enum QCond {
     /// `column op value`.
     Compare {

@@ -4,7 +4,7 @@ use crate::condition::QCond;
 use table_core::Bytes;
 
 /// One item of a query's list.
-#[derive(Debug, Drop)]
+#[derive(Drop)]
 pub enum QItem {
     /// `COUNT(*)`: the number of rows.
     CountAll,
@@ -21,7 +21,7 @@ pub enum QItem {
 }
 
 /// One order of an ORDER BY list.
-#[derive(Debug, Drop)]
+#[derive(Drop)]
 pub struct QOrder {
     /// The column's name.
     pub column: Bytes,
@@ -32,7 +32,7 @@ pub struct QOrder {
 /// A query, by the grammar of `docs/SQL.md`.
 ///
 /// A rows query has a limit, only `Plain` items and no keys. A groups query has no limit and no order.
-#[derive(Debug, Drop)]
+#[derive(Drop)]
 pub struct Query {
     /// What is asked for, from left to right: 1 to 32 items.
     pub items: Vec<QItem>,

@@ -3,7 +3,7 @@
 use crate::span::Span;
 
 /// What a token is: the rows of the table "Tokens" of `docs/SQL.md`.
-#[derive(Clone, Copy, Debug, PartialEq, Eq)]
+#[derive(Clone, Copy, PartialEq, Eq)]
 pub enum TokenKind {
     /// A reserved word, in capital or small letters.
     Keyword,
@@ -22,7 +22,7 @@ pub enum TokenKind {
 }
 
 /// A token of a text: what it is and where it stands.
-#[derive(Clone, Copy, Debug, PartialEq, Eq)]
+#[derive(Clone, Copy, PartialEq, Eq)]
 pub struct Token {
     /// What the token is.
     pub kind: TokenKind,

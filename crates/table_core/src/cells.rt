@@ -8,7 +8,7 @@ use crate::codes::Codes;
 use crate::numbers::Numbers;
 
 /// The cells of one column from top to bottom. `column_cells` is their list.
-#[derive(Debug, Drop)]
+#[derive(Drop)]
 pub enum Cells {
     /// Numbers, or NULL where there is none.
     Numbers(Numbers),

@@ -6,7 +6,7 @@ use std::alloc::{AllocError, Global};
 use std::marker::Model;
 
 /// Places of texts, or codes in a dictionary, or none, seen as their list: four bytes each.
-#[derive(Debug, Drop)]
+#[derive(Drop)]
 pub struct Codes {
     codes: Vec<u32>,
 }

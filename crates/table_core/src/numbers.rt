@@ -7,7 +7,7 @@ use std::alloc::{AllocError, Global};
 use std::marker::Model;
 
 /// Whole numbers of 64 bits or none, seen as their list: eight bytes and a null bit each.
-#[derive(Debug, Drop)]
+#[derive(Drop)]
 pub struct Numbers {
     values: Vec<i64>,
     nulls: Vec<u64>,

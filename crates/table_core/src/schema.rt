@@ -6,7 +6,7 @@ use crate::bytes::Bytes;
 use std::marker::Model;
 
 /// What the values of a column are.
-#[derive(Clone, Copy, Debug, PartialEq, Eq)]
+#[derive(Clone, Copy, PartialEq, Eq)]
 pub enum Kind {
     /// Whole numbers of 64 bits.
     Int,
@@ -17,7 +17,7 @@ pub enum Kind {
 }
 
 /// A column: its name, which may be empty, and its kind.
-#[derive(Debug, Drop)]
+#[derive(Drop)]
 pub struct Column {
     pub name: Bytes,
     pub kind: Kind,
@@ -26,7 +26,7 @@ pub struct Column {
 /// The columns of a table from left to right, seen as their list.
 ///
 /// It is made from a vector without taking memory.
-#[derive(Debug, Drop)]
+#[derive(Drop)]
 pub struct Schema {
     pub columns: Vec<Column>,
 }

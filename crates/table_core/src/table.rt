@@ -12,7 +12,7 @@ use std::marker::Model;
 /// A table, seen as its columns and the list of its rows.
 ///
 /// The cells stand column by column, and each row has one cell for each column.
-#[derive(Debug, Drop)]
+#[derive(Drop)]
 pub struct Table {
     schema: Schema,
     columns: Vec<Cells>,

@@ -10,7 +10,7 @@ use std::marker::Model;
 /// A set of numbers of chunks, each below `MOST_CHUNKS`, seen as the rising list of its members.
 ///
 /// It is a fixed array of bits, and none of its calls takes memory.
-#[derive(Debug, Drop)]
+#[derive(Drop)]
 pub struct ChunkSet {
     words: [u64; 16],
 }

@@ -9,7 +9,7 @@ use std::marker::Model;
 /// A set of numbers of columns, each below `MOST_COLUMNS`, seen as the rising list of its members.
 ///
 /// It is a fixed array of bits, and none of its calls takes memory.
-#[derive(Debug, Drop)]
+#[derive(Drop)]
 pub struct ColumnSet {
     words: [u64; 1],
 }

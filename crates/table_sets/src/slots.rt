@@ -4,7 +4,7 @@ ghost use Rattle.std.specs.Prelude.{◌≡◌, ◌<◌, ◌≤◌, ◌++◌, ◌
 use std::marker::Model;
 
 /// At most 16 pairs of a frame and a piece, seen as their list.
-#[derive(Debug, Drop)]
+#[derive(Drop)]
 pub struct Slots {
     /// How many slots there are.
     pub len: u32,
