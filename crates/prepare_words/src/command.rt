@@ -20,7 +20,7 @@ pub(crate) fn command<'a>(alloc: Global) -> Result<Command<'a>, AllocError>
         .disable_help_subcommand(true)
         .arg_required_else_help(true)
         .subcommand_required(true)
-        .version("2026-12-01")
+        .version("2026-12-02")
         .about("Makes of an export the CSV that coop_cli takes")
         .subcommands(subcommands)
 }

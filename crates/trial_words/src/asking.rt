@@ -91,10 +91,10 @@ const GIVEN: &[(&str, Asked<'static>)] = &[
 
 // Words that are refused, the status, and a piece of the text, in which the word stands.
 const REFUSED: &[(&str, u8, &str)] = &[
-    ("--version", 0, "coop_inspect 2026-12-01"),
-    ("judge|--version", 0, "2026-12-01"),
-    ("explain|-V", 0, "2026-12-01"),
-    ("draw|--version", 0, "2026-12-01"),
+    ("--version", 0, "coop_inspect 2026-12-02"),
+    ("judge|--version", 0, "2026-12-02"),
+    ("explain|-V", 0, "2026-12-02"),
+    ("draw|--version", 0, "2026-12-02"),
     ("judge|--help", 0, "--threads <N>"),
     ("explain|--help", 0, "Usage: coop_inspect explain "),
     ("judge|--help", 0, "Usage: coop_inspect judge "),
