@@ -9,5 +9,7 @@ pub mod Explaining
 pub mod Reasons
 pub mod Verdicts
 pub mod Judging
+pub mod StoryVerdicts
+pub mod StoryJudging
 pub mod Settings
 pub mod Answers

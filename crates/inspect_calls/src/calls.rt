@@ -10,7 +10,9 @@ use crate::explaining::explanation;
 use crate::judging::judgement;
 use crate::reply::{Reply, say};
 use crate::settings::setting_said;
+use crate::story_judging::story_judgement;
 use coop_outside::{Shelf, Sink};
+use inspect_story::Freedom;
 use inspect_words::{Asked, Refused, asked_of};
 use std::alloc::Global;
 use std::hash::RandomState;
@@ -64,6 +66,15 @@ fn answered<F: Shelf, R: Threads + Sync>(
     match asked {
         Asked::Explain { run } => explanation(rt, alloc, keys, &run, shelf),
         Asked::Judge { run, output } => judgement(rt, alloc, keys, &run, output, shelf),
+        Asked::Story {
+            setting,
+            story,
+            choices,
+            dealing,
+        } => {
+            let freedom = Freedom { choices, dealing };
+            story_judgement(alloc, freedom, setting, story, shelf)
+        }
         Asked::Setting { run } => setting_said(rt, alloc, keys, &run, shelf),
         Asked::Draw {
             output,

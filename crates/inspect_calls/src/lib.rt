@@ -9,6 +9,7 @@
 mod calls;
 mod drawing;
 mod explaining;
+mod file;
 mod judging;
 mod lines;
 mod output;
@@ -16,10 +17,13 @@ mod ranks;
 mod reasons;
 mod refusals;
 mod reply;
+mod setting_faults;
 mod settings;
 mod showing;
 mod statements;
 mod stderr_sink;
+mod story_judging;
+mod story_verdicts;
 mod unfits;
 mod verdicts;
 

@@ -80,8 +80,8 @@ fn unanswered_text(alloc: Global, query: u64, line: u64) -> Result<Vec<u8>, Allo
     }
 }
 
-// The line of an entry that may not come.
-fn illegal_text(alloc: Global, line: u64, reason: Reason) -> Result<Vec<u8>, AllocError>
+/// The line of an entry that may not come.
+pub(crate) fn illegal_text(alloc: Global, line: u64, reason: Reason) -> Result<Vec<u8>, AllocError>
     ensures { IfOk result (λ text. text.items ≡ illegal_text line reason) }
 {
     let why = ShownReason { reason };
@@ -120,8 +120,8 @@ fn legal_text(
     Ok(text)
 }
 
-// Puts how many entries of each kind there are at the end.
-fn push_counts(text: &mut Vec<u8>, counts: &Counts) -> Result<(), AllocError>
+/// Puts how many entries of each kind there are at the end.
+pub(crate) fn push_counts(text: &mut Vec<u8>, counts: &Counts) -> Result<(), AllocError>
     ensures { OnOk result (text.new.items ≡ counts_text counts.now text.old.items) }
 {
     push_number(text, b"\nregister ", counts.registers as u64)?;

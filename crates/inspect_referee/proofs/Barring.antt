@@ -16,6 +16,8 @@ use Rattle.scan_story.specs.Numbers.{needed}
 use Rattle.scan_story.specs.MayFollow.{Allowed, IsReason as IsReasonOfFault}
 use Rattle.scan_story.specs.Legal.{Chosen, cursor_at}
 use Rattle.chunk_interest.proofs.Below.{is_the_number, equal_number, true_false}
+use Rattle.inspect_referee.specs.declared.choices.Choices.{Choices}
+use Rattle.inspect_referee.specs.declared.choices.Choices.TheVariants.{OfPolicy, Free}
 use Rattle.inspect_referee.specs.declared.rank.Choice.{Choice}
 use Rattle.inspect_referee.specs.declared.rank.Choice.TheVariants as choices
 use Rattle.inspect_referee.specs.declared.rank.Rank.{Rank}
@@ -24,9 +26,10 @@ use Rattle.inspect_referee.specs.declared.rule.Rule.TheVariants.{First, OnWorker
 use Rattle.inspect_referee.specs.declared.ruling.Better.{Better}
 use Rattle.inspect_referee.specs.declared.ruling.Reason as reasons
 use Rattle.inspect_referee.specs.declared.ruling.Reason.TheVariants.{Broken, Outdone}
+use Rattle.inspect_referee.specs.Choices.{IsTaken}
 use Rattle.inspect_referee.specs.Ranks.{beats, rank_of}
 use Rattle.inspect_referee.specs.Rules.{is_hold, is_reason, keeps, with_load}
-use Rattle.inspect_referee.specs.Ruling.{IsBetter, IsReason}
+use Rattle.inspect_referee.specs.Ruling.{IsBetter, IsOutdone, IsOutdoneBy, IsReasonBy}
 use Rattle.inspect_referee.proofs.Choosing.{query_best, load_best, delivery_best, victim_best}
 
 lt_true : (a b : ℕ) → a < b → nat_lt a b ≡ true
@@ -329,17 +332,25 @@ beaten : (s : Setting) (h : History) (choice : Choice) (q x : ℕ) (b : Better) 
 beaten s h choice q x b k =
     ap (λ (r : Rank). beats r (rank_of s h choice q x)) (sym k.rank) ∙ (ap (λ (r : Rank). beats b.rank r) (sym k.taken) ∙ k.better)
 
+-- what is outdone is no choice of the policy
+not_chosen : (s : Setting) (h : History) (e : Entry) (b : Better) → IsOutdone s h e b → Chosen s h e → ⊥
+not_chosen s h (Plan w q c) b (inl k) chosen = true_false _ (beaten s h choices.Trigger q q b k) (query_best s.policy (cursor_at s h) s h q b.number chosen.0 k.candidate)
+not_chosen s h (Plan w q c) b (inr k) chosen = true_false _ (beaten s h choices.Load q c b k) (load_best s.policy (cursor_at s h) s h q c b.number chosen.1 k.candidate)
+not_chosen s h (Deliver w q c) b k chosen = true_false _ (beaten s h choices.Delivery q c b k) (delivery_best s.policy (cursor_at s h) s h q c b.number chosen k.candidate)
+not_chosen s h (Evict w c) b k chosen = true_false _ (beaten s h choices.Victim 0 c b k) (victim_best s.policy (cursor_at s h) s h c b.number chosen k.candidate)
+not_chosen s h (Register w q) b k chosen = absurd k
+not_chosen s h (Fill w f p) b k chosen = absurd k
+not_chosen s h (Filled w f p) b k chosen = absurd k
+not_chosen s h (Failed w q p why) b k chosen = absurd k
+not_chosen s h (Release w q c) b k chosen = absurd k
+not_chosen s h (Stop w q) b k chosen = absurd k
+not_chosen s h (End w q) b k chosen = absurd k
+
+not_taken : (choices : Choices) (s : Setting) (h : History) (e : Entry) (b : Better) → IsOutdoneBy choices s h e b → IsTaken choices s h e → ⊥
+not_taken OfPolicy s h e b k taken = not_chosen s h e b k taken
+not_taken Free s h e b k taken = k
+
 -- what is refused for a reason may not come
-pub refused : (s : Setting) (h : History) (e : Entry) (reason : reasons.Reason) → IsReason s h e reason → Allowed s h e → Chosen s h e → ⊥
-refused s h e (Broken rule) says may chosen = true_false (keeps s h e rule) (kept s h e rule may) says
-refused s h (Plan w q c) (Outdone b) (inl k) may chosen = true_false _ (beaten s h choices.Trigger q q b k) (query_best s.policy (cursor_at s h) s h q b.number chosen.0 k.candidate)
-refused s h (Plan w q c) (Outdone b) (inr k) may chosen = true_false _ (beaten s h choices.Load q c b k) (load_best s.policy (cursor_at s h) s h q c b.number chosen.1 k.candidate)
-refused s h (Deliver w q c) (Outdone b) k may chosen = true_false _ (beaten s h choices.Delivery q c b k) (delivery_best s.policy (cursor_at s h) s h q c b.number chosen k.candidate)
-refused s h (Evict w c) (Outdone b) k may chosen = true_false _ (beaten s h choices.Victim 0 c b k) (victim_best s.policy (cursor_at s h) s h c b.number chosen k.candidate)
-refused s h (Register w q) (Outdone b) k may chosen = absurd k
-refused s h (Fill w f p) (Outdone b) k may chosen = absurd k
-refused s h (Filled w f p) (Outdone b) k may chosen = absurd k
-refused s h (Failed w q p why) (Outdone b) k may chosen = absurd k
-refused s h (Release w q c) (Outdone b) k may chosen = absurd k
-refused s h (Stop w q) (Outdone b) k may chosen = absurd k
-refused s h (End w q) (Outdone b) k may chosen = absurd k
+pub refused : (choices : Choices) (s : Setting) (h : History) (e : Entry) (reason : reasons.Reason) → IsReasonBy choices s h e reason → Allowed s h e → IsTaken choices s h e → ⊥
+refused choices s h e (Broken rule) says may taken = true_false (keeps s h e rule) (kept s h e rule may) says
+refused choices s h e (Outdone b) says may taken = not_taken choices s h e b says taken

@@ -23,7 +23,6 @@ use Rattle.chunk_interest.specs.declared.need.Need.{Need}
 use Rattle.chunk_interest.specs.Fresh.{as_need}
 use Rattle.chunk_interest.proofs.Needs.{need_small}
 use Rattle.chunk_interest.proofs.Kept.{keeps, active_registered, starved_active, target_inside, victim_inside}
-use Rattle.scan_story.specs.Legal.{Legal}
 use Rattle.inspect_referee.proofs.Wholes.{over_registered}
 use Rattle.inspect_referee.specs.declared.rank.Choice.{Choice}
 use Rattle.inspect_referee.specs.declared.rank.Choice.TheVariants.{Trigger, Load, Delivery, Victim}
@@ -43,8 +42,8 @@ starved_small b s h q st e = active_small b s h q st (starved_active s h q e)
 pub registered_small : (b : Book) (s : Setting) (h : History) (q : ℕ) → Stands b s h → is_registered h q ≡ true → q ≤ 256
 registered_small b s h q st e = (need_small s q st.setting ((keeps s h st.setting st.followed).registered q e)).1
 
-pub not_over : (b : Book) (s : Setting) (h : History) (q : ℕ) → Stands b s h → Legal s h → 257 ≤ q → (is_ended h q || is_stopped h q) ≡ false
-not_over b s h q st legal big = off (is_ended h q || is_stopped h q) (λ e. let le = registered_small b s h q st (over_registered s h q legal e) in omega (arith, le, big))
+pub not_over : (b : Book) (s : Setting) (h : History) (q : ℕ) → Stands b s h → 257 ≤ q → (is_ended h q || is_stopped h q) ≡ false
+not_over b s h q st big = off (is_ended h q || is_stopped h q) (λ e. let le = registered_small b s h q st (over_registered s h q st.followed e) in omega (arith, le, big))
 
 pub not_active : (b : Book) (s : Setting) (h : History) (q : ℕ) → Stands b s h → 257 ≤ q → is_active h q ≡ false
 not_active b s h q st big = off (is_active h q) (λ e. let le = active_small b s h q st e in omega (arith, le, big))

@@ -1,5 +1,7 @@
 pub mod Steps
 pub mod Wholes
+pub mod Taking
+pub mod Holding
 pub mod Bounds
 pub mod Allowing
 pub mod Choosing

@@ -7,15 +7,18 @@ use Rattle.scan_story.specs.declared.setting.Setting.{Setting}
 use Rattle.scan_story.specs.Views.{History, past}
 use Rattle.scan_story.specs.Loads.{underway}
 use Rattle.scan_story.specs.MayFollow.{Allowed}
-use Rattle.scan_story.specs.Legal.{Chosen, Legal, cursor_at}
+use Rattle.scan_story.specs.Legal.{cursor_at}
 use Rattle.interest_book.specs.declared.book.Book.{Book}
 use Rattle.interest_book.specs.Held.{AreHolds}
 use Rattle.interest_book.specs.Stands.{MayFollow, Stands}
 use Rattle.interest_book.proofs.Inside.{deliver_inside, release_inside}
+use Rattle.inspect_referee.specs.declared.choices.Choices.{Choices}
 use Rattle.inspect_referee.specs.declared.referee.Referee.{Referee}
+use Rattle.inspect_referee.specs.Choices.{IsTaken, LegalBy}
 use Rattle.inspect_referee.specs.Seen.{IsReading, holds_within, seen, setting}
 use Rattle.inspect_referee.specs.Terms.{setting_of}
 use Rattle.inspect_referee.proofs.Judged.{past_more}
+use Rattle.inspect_referee.proofs.Taking.{legal_next}
 
 -- the entry that comes next
 abbrev pub next_of : Referee → Entry
@@ -48,11 +51,11 @@ holder_within b (End w q) n len may = tt
 carried : (P : Setting → History → Type 0) (s t : Setting) (h k : History) → s ≡ t → h ≡ k → P t k → P s h
 carried P s t h k same also p = subst (λ (u : Setting). P u h) (sym same) (subst (λ (j : History). P t j) (sym also) p)
 
-pub read_on : (r n : Referee) → IsReading r → n.terms.now ≡ r.terms.now → n.entries.now ≡ r.entries.now → n.place ≡ r.place + 1 → r.place < length r.entries.now
-    → Allowed (setting r) (seen r) (next_of r) → Chosen (setting r) (seen r) (next_of r)
+pub read_on : (r n : Referee) → IsReading r → n.choices ≡ r.choices → n.terms.now ≡ r.terms.now → n.entries.now ≡ r.entries.now → n.place ≡ r.place + 1 → r.place < length r.entries.now
+    → Allowed (setting r) (seen r) (next_of r) → IsTaken r.choices (setting r) (seen r) (next_of r)
     → Stands n.book (setting r) (next_of r ∷ seen r) → n.load ≡ underway (setting r) (next_of r ∷ seen r) → length n.holds.items ≡ 32 → AreHolds (next_of r ∷ seen r) n.holds.items
     → n.cursor.items ≡ cursor_at (setting r) (next_of r ∷ seen r) → IsReading n
-read_on r n k terms entries place lt may chosen stands load workers holds cursor =
+read_on r n k choices terms entries place lt may taken stands load workers holds cursor =
     let s : setting n ≡ setting r = ap setting_of terms in
     let size : length n.entries.now ≡ length r.entries.now = ap (λ (es : List Entry). length es) entries in
     let short = k.short in
@@ -62,7 +65,8 @@ read_on r n k terms entries place lt may chosen stands load workers holds cursor
     record {
       within = omega (arith, size, place, lt);
       short = omega (arith, size, short);
-      legal = carried (λ t j. Legal t j) (setting n) (setting r) (seen n) (next_of r ∷ seen r) s h (may, chosen, k.legal);
+      legal = carried (λ t j. LegalBy n.choices t j) (setting n) (setting r) (seen n) (next_of r ∷ seen r) s h
+          (subst (λ (c : Choices). LegalBy c (setting r) (next_of r ∷ seen r)) (sym choices) (legal_next r.choices (setting r) (seen r) (next_of r) may taken k.legal));
       stands = carried (λ t j. Stands n.book t j) (setting n) (setting r) (seen n) (next_of r ∷ seen r) s h stands;
       load = carried (λ t j. n.load ≡ underway t j) (setting n) (setting r) (seen n) (next_of r ∷ seen r) s h load;
       workers = workers;

@@ -1,4 +1,4 @@
--- In a legal history who has ended or stopped was registered, once; so it is soon seen whether a history is whole.
+-- Where each entry may follow, who has ended or stopped was registered, once; so it is soon seen whether a history is whole.
 use Rattle.std.proofs.Common.{◌≡◌, ◌⊎◌, ◌+◌, ◌∷◌, [], ◌==◌, ◌&&◌, ◌||◌, not, ℕ, Bool, true, false, List, Option, None, Some, is_none, is_some, if◌then◌else◌, refl, sym, ◌∙◌, ap, subst, inl, inr}
 use Rattle.std.specs.List.{list_all, AllByRecursion}
 use Rattle.std.specs.Option.{option_map}
@@ -10,8 +10,8 @@ use Rattle.scan_story.specs.declared.setting.Setting.{Setting}
 use Rattle.scan_story.specs.Counting.{any_below, count_among}
 use Rattle.scan_story.specs.Views.{History, registers, is_registered, is_stopped, is_ended, held_by}
 use Rattle.scan_story.specs.Loads.{underway, begin_fill, end_fill, if_open, is_open}
-use Rattle.scan_story.specs.Legal.{Legal}
 use Rattle.scan_story.specs.Whole.{IsWhole}
+use Rattle.chunk_interest.specs.Follows.{AllMayFollow}
 use Rattle.chunk_interest.proofs.Below.{same_number, same_some, none_at, none_from}
 use Rattle.chunk_interest.proofs.Kept.{active_registered, starved_active}
 use Rattle.inspect_referee.specs.Phases.{is_complete}
@@ -26,26 +26,26 @@ opened : (b : Bool) (x l : Load) → (if b then Some x else None) ≡ Some l →
 opened true x l e = same_some x l e
 opened false x l e = absurd cc
 
-load_known : (s : Setting) (h : History) (l : Load) → Legal s h → underway s h ≡ Some l → is_registered h l.query ≡ true
-load_known s [] l legal u = absurd cc
-load_known s (Register w q ∷ h) l legal u = later (q == l.query) (is_registered h l.query) (load_known s h l legal.2 u)
-load_known s (Plan w q c ∷ h) l legal u =
+load_known : (s : Setting) (h : History) (l : Load) → AllMayFollow s h → underway s h ≡ Some l → is_registered h l.query ≡ true
+load_known s [] l ok u = absurd cc
+load_known s (Register w q ∷ h) l ok u = later (q == l.query) (is_registered h l.query) (load_known s h l ok.1 u)
+load_known s (Plan w q c ∷ h) l ok u =
     let query : q ≡ l.query = ap (λ (k : Load). k.query) (same_some _ l u) in
-    subst (λ (r : ℕ). is_registered h r ≡ true) query (active_registered h q (starved_active s h q legal.0.starved))
-load_known s (Fill w f p ∷ h) l legal u =
-    let k = legal.0.load in
-    let same : begin_fill f p k ≡ l = same_some (begin_fill f p k) l (sym (ap (option_map (begin_fill f p)) legal.0.is_load.underway) ∙ u) in
-    subst (λ (r : ℕ). is_registered h r ≡ true) (ap (λ (x : Load). x.query) same) (load_known s h k legal.2 legal.0.is_load.underway)
-load_known s (Filled w f p ∷ h) l legal u =
-    let k = legal.0.load in
-    let same : end_fill p k ≡ l = opened (is_open (end_fill p k)) (end_fill p k) l (sym (ap (λ (o : Option Load). if_open (option_map (end_fill p) o)) legal.0.is_load.underway) ∙ u) in
-    subst (λ (r : ℕ). is_registered h r ≡ true) (ap (λ (x : Load). x.query) same) (load_known s h k legal.2 legal.0.is_load.underway)
-load_known s (Failed w q p why ∷ h) l legal u = absurd cc
-load_known s (Evict w c ∷ h) l legal u = load_known s h l legal.2 u
-load_known s (Deliver w q c ∷ h) l legal u = load_known s h l legal.2 u
-load_known s (Release w q c ∷ h) l legal u = load_known s h l legal.2 u
-load_known s (Stop w q ∷ h) l legal u = load_known s h l legal.2 u
-load_known s (End w q ∷ h) l legal u = load_known s h l legal.2 u
+    subst (λ (r : ℕ). is_registered h r ≡ true) query (active_registered h q (starved_active s h q ok.0.starved))
+load_known s (Fill w f p ∷ h) l ok u =
+    let k = ok.0.load in
+    let same : begin_fill f p k ≡ l = same_some (begin_fill f p k) l (sym (ap (option_map (begin_fill f p)) ok.0.is_load.underway) ∙ u) in
+    subst (λ (r : ℕ). is_registered h r ≡ true) (ap (λ (x : Load). x.query) same) (load_known s h k ok.1 ok.0.is_load.underway)
+load_known s (Filled w f p ∷ h) l ok u =
+    let k = ok.0.load in
+    let same : end_fill p k ≡ l = opened (is_open (end_fill p k)) (end_fill p k) l (sym (ap (λ (o : Option Load). if_open (option_map (end_fill p) o)) ok.0.is_load.underway) ∙ u) in
+    subst (λ (r : ℕ). is_registered h r ≡ true) (ap (λ (x : Load). x.query) same) (load_known s h k ok.1 ok.0.is_load.underway)
+load_known s (Failed w q p why ∷ h) l ok u = absurd cc
+load_known s (Evict w c ∷ h) l ok u = load_known s h l ok.1 u
+load_known s (Deliver w q c ∷ h) l ok u = load_known s h l ok.1 u
+load_known s (Release w q c ∷ h) l ok u = load_known s h l ok.1 u
+load_known s (Stop w q ∷ h) l ok u = load_known s h l ok.1 u
+load_known s (End w q ∷ h) l ok u = load_known s h l ok.1 u
 
 middle : (a b c : Bool) → (a || (b || c)) ≡ true → (b ≡ true) ⊎ ((a || c) ≡ true)
 middle a true c e = inl refl
@@ -56,27 +56,27 @@ front : (a b c : Bool) → ((b || a) || c) ≡ true → (b ≡ true) ⊎ ((a || 
 front a true c e = inl refl
 front a false c e = inr e
 
-pub over_registered : (s : Setting) (h : History) (q : ℕ) → Legal s h → (is_ended h q || is_stopped h q) ≡ true → is_registered h q ≡ true
-over_registered s [] q legal e = absurd cc
-over_registered s (Stop w r ∷ h) q legal e = elim (middle (is_ended h q) (r == q) (is_stopped h q) e) [
-  | inl at ↦ subst (λ (x : ℕ). is_registered h x ≡ true) (same_number r q at) (active_registered h r legal.0.on.active)
-  | inr old ↦ over_registered s h q legal.2 old
+pub over_registered : (s : Setting) (h : History) (q : ℕ) → AllMayFollow s h → (is_ended h q || is_stopped h q) ≡ true → is_registered h q ≡ true
+over_registered s [] q ok e = absurd cc
+over_registered s (Stop w r ∷ h) q ok e = elim (middle (is_ended h q) (r == q) (is_stopped h q) e) [
+  | inl at ↦ subst (λ (x : ℕ). is_registered h x ≡ true) (same_number r q at) (active_registered h r ok.0.on.active)
+  | inr old ↦ over_registered s h q ok.1 old
 ]
-over_registered s (Failed w r p why ∷ h) q legal e = elim (middle (is_ended h q) (r == q) (is_stopped h q) e) [
-  | inl at ↦ subst (λ (x : ℕ). is_registered h x ≡ true) (legal.0.for_query ∙ same_number r q at) (load_known s h legal.0.load legal.2 legal.0.is_load.underway)
-  | inr old ↦ over_registered s h q legal.2 old
+over_registered s (Failed w r p why ∷ h) q ok e = elim (middle (is_ended h q) (r == q) (is_stopped h q) e) [
+  | inl at ↦ subst (λ (x : ℕ). is_registered h x ≡ true) (ok.0.for_query ∙ same_number r q at) (load_known s h ok.0.load ok.1 ok.0.is_load.underway)
+  | inr old ↦ over_registered s h q ok.1 old
 ]
-over_registered s (End w r ∷ h) q legal e = elim (front (is_ended h q) (r == q) (is_stopped h q) e) [
-  | inl at ↦ subst (λ (x : ℕ). is_registered h x ≡ true) (same_number r q at) (active_registered h r legal.0.on.active)
-  | inr old ↦ over_registered s h q legal.2 old
+over_registered s (End w r ∷ h) q ok e = elim (front (is_ended h q) (r == q) (is_stopped h q) e) [
+  | inl at ↦ subst (λ (x : ℕ). is_registered h x ≡ true) (same_number r q at) (active_registered h r ok.0.on.active)
+  | inr old ↦ over_registered s h q ok.1 old
 ]
-over_registered s (Register w r ∷ h) q legal e = later (r == q) (is_registered h q) (over_registered s h q legal.2 e)
-over_registered s (Plan w r c ∷ h) q legal e = over_registered s h q legal.2 e
-over_registered s (Evict w c ∷ h) q legal e = over_registered s h q legal.2 e
-over_registered s (Fill w f p ∷ h) q legal e = over_registered s h q legal.2 e
-over_registered s (Filled w f p ∷ h) q legal e = over_registered s h q legal.2 e
-over_registered s (Deliver w r c ∷ h) q legal e = over_registered s h q legal.2 e
-over_registered s (Release w r c ∷ h) q legal e = over_registered s h q legal.2 e
+over_registered s (Register w r ∷ h) q ok e = later (r == q) (is_registered h q) (over_registered s h q ok.1 e)
+over_registered s (Plan w r c ∷ h) q ok e = over_registered s h q ok.1 e
+over_registered s (Evict w c ∷ h) q ok e = over_registered s h q ok.1 e
+over_registered s (Fill w f p ∷ h) q ok e = over_registered s h q ok.1 e
+over_registered s (Filled w f p ∷ h) q ok e = over_registered s h q ok.1 e
+over_registered s (Deliver w r c ∷ h) q ok e = over_registered s h q ok.1 e
+over_registered s (Release w r c ∷ h) q ok e = over_registered s h q ok.1 e
 
 -- Once
 
@@ -92,19 +92,19 @@ never : (h : History) (q : ℕ) → is_registered h q ≡ false → count_among 
 never [] q e = refl
 never (x ∷ h) q e = never_at (registers q x) (count_among (registers q) h) (is_registered h q) (never h q) e
 
-once : (s : Setting) (h : History) (q : ℕ) → Legal s h → is_registered h q ≡ true → count_among (registers q) h ≡ 1
-once s [] q legal e = absurd cc
-once s (Register w r ∷ h) q legal e =
-    once_at (r == q) (count_among (registers q) h) (is_registered h q) (λ t. never h q (ap (is_registered h) (sym (same_number r q t)) ∙ legal.0.first)) (once s h q legal.2) e
-once s (Plan w r c ∷ h) q legal e = once s h q legal.2 e
-once s (Evict w c ∷ h) q legal e = once s h q legal.2 e
-once s (Fill w f p ∷ h) q legal e = once s h q legal.2 e
-once s (Filled w f p ∷ h) q legal e = once s h q legal.2 e
-once s (Failed w r p why ∷ h) q legal e = once s h q legal.2 e
-once s (Deliver w r c ∷ h) q legal e = once s h q legal.2 e
-once s (Release w r c ∷ h) q legal e = once s h q legal.2 e
-once s (Stop w r ∷ h) q legal e = once s h q legal.2 e
-once s (End w r ∷ h) q legal e = once s h q legal.2 e
+once : (s : Setting) (h : History) (q : ℕ) → AllMayFollow s h → is_registered h q ≡ true → count_among (registers q) h ≡ 1
+once s [] q ok e = absurd cc
+once s (Register w r ∷ h) q ok e =
+    once_at (r == q) (count_among (registers q) h) (is_registered h q) (λ t. never h q (ap (is_registered h) (sym (same_number r q t)) ∙ ok.0.first)) (once s h q ok.1) e
+once s (Plan w r c ∷ h) q ok e = once s h q ok.1 e
+once s (Evict w c ∷ h) q ok e = once s h q ok.1 e
+once s (Fill w f p ∷ h) q ok e = once s h q ok.1 e
+once s (Filled w f p ∷ h) q ok e = once s h q ok.1 e
+once s (Failed w r p why ∷ h) q ok e = once s h q ok.1 e
+once s (Deliver w r c ∷ h) q ok e = once s h q ok.1 e
+once s (Release w r c ∷ h) q ok e = once s h q ok.1 e
+once s (Stop w r ∷ h) q ok e = once s h q ok.1 e
+once s (End w r ∷ h) q ok e = once s h q ok.1 e
 
 -- Whole
 
@@ -127,9 +127,9 @@ all : (p : Need → Bool) (ns : List Need) → AllByRecursion (λ (n : Need). p 
 all p [] k = refl
 all p (n ∷ ns) k = both_true (p n) (list_all p ns) k.0 (all p ns k.1)
 
-registered_once : (s : Setting) (h : History) (ns : List Need) → Legal s h → AllByRecursion (λ (n : Need). is_over h n ≡ true) ns → AllByRecursion (λ (n : Need). count_among (registers n.query) h ≡ 1) ns
-registered_once s h [] legal k = tt
-registered_once s h (n ∷ ns) legal k = (once s h n.query legal (over_registered s h n.query legal k.0), registered_once s h ns legal k.1)
+registered_once : (s : Setting) (h : History) (ns : List Need) → AllMayFollow s h → AllByRecursion (λ (n : Need). is_over h n ≡ true) ns → AllByRecursion (λ (n : Need). count_among (registers n.query) h ≡ 1) ns
+registered_once s h [] ok k = tt
+registered_once s h (n ∷ ns) ok k = (once s h n.query ok (over_registered s h n.query ok k.0), registered_once s h ns ok k.1)
 
 none_is : {X : Type 0} (o : Option X) → is_some o ≡ false → o ≡ None
 none_is None e = refl
@@ -151,11 +151,11 @@ all_three true true true ea eb ec = absurd cc
 all_three true false c ea eb ec = absurd cc
 all_three false b c ea eb ec = absurd cc
 
-pub whole_is : (s : Setting) (h : History) → Legal s h → is_complete s h ≡ true → IsWhole s h
-whole_is s h legal e =
+pub whole_is : (s : Setting) (h : History) → AllMayFollow s h → is_complete s h ≡ true → IsWhole s h
+whole_is s h ok e =
     let p = three (list_all (is_over h) s.needs) (is_none (underway s h)) (any_below (λ w. is_some (held_by h w)) s.workers) e in
     let finished = each (is_over h) s.needs p.0 in record {
-      registered = registered_once s h s.needs legal finished;
+      registered = registered_once s h s.needs ok finished;
       finished = finished;
       none_underway = nothing_is (underway s h) p.1;
       none_held = λ w lt. none_is (held_by h w) (none_at (λ v. is_some (held_by h v)) s.workers w p.2 lt);

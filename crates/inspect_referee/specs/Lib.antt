@@ -1,4 +1,5 @@
 pub mod Terms
+pub mod Choices
 pub mod Rules
 pub mod Ranks
 pub mod Counts

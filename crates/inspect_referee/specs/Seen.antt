@@ -5,9 +5,10 @@ use Rattle.scan_story.specs.declared.entry.Entry.TheVariants.{Deliver, Release}
 use Rattle.scan_story.specs.declared.setting.Setting.{Setting}
 use Rattle.scan_story.specs.Views.{History, past}
 use Rattle.scan_story.specs.Loads.{underway}
-use Rattle.scan_story.specs.Legal.{Legal, cursor_at}
+use Rattle.scan_story.specs.Legal.{cursor_at}
 use Rattle.interest_book.specs.Held.{AreHolds}
 use Rattle.interest_book.specs.Stands.{Stands}
+use Rattle.inspect_referee.specs.Choices.{LegalBy}
 use Rattle.inspect_referee.specs.Terms.{setting_of}
 use Rattle.inspect_referee.specs.declared.referee.Referee.{Referee}
 
@@ -22,7 +23,7 @@ seen r = past (take r.place r.entries.now)
 pub record IsReading (r : Referee) : Type 0 where
   pub within : r.place ≤ length r.entries.now
   pub short : length r.entries.now < 2 ^ 63 - 1
-  pub legal : Legal (setting r) (seen r)
+  pub legal : LegalBy r.choices (setting r) (seen r)
   pub stands : Stands r.book (setting r) (seen r)
   pub load : r.load ≡ underway (setting r) (seen r)
   pub workers : length r.holds.items ≡ 32

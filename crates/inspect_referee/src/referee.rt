@@ -7,12 +7,13 @@ ghost use Rattle.scan_story.specs.Views.{is_active, is_registered, held_by, regi
 ghost use Rattle.scan_story.specs.Loads.{is_free, is_load_by, underway};
 ghost use Rattle.scan_story.specs.Numbers.{is_starved, needed};
 ghost use Rattle.scan_story.specs.MayFollow.{Allowed, is_ready, is_target, is_trigger};
-ghost use Rattle.scan_story.specs.Legal.{Chosen};
 ghost use Rattle.scan_story.specs.declared.entry.Entry.TheVariants.{Register};
+ghost use Rattle.inspect_referee.specs.Choices.{IsTaken};
 ghost use Rattle.inspect_referee.specs.Rules.{has_active, is_hold};
 ghost use Rattle.inspect_referee.specs.Terms.{setting_of};
 ghost use Rattle.inspect_referee.specs.Seen.{setting, seen, IsReading};
 
+use crate::choices::Choices;
 use crate::cursor::{cursor_after, first_cursor};
 use crate::holds::{held_in, no_holds, note_hold};
 use crate::load::{fills_frame, is_load_by, load_after};
@@ -45,6 +46,7 @@ fn any_registers(entries: &[Entry], q: u32) -> bool
 #[derive(Drop)]
 pub struct Referee<'a> {
     pub terms: &'a Terms,
+    pub choices: Choices,
     pub entries: &'a [Entry],
     /// How many entries were read.
     pub place: usize,
@@ -56,10 +58,16 @@ pub struct Referee<'a> {
 
 impl<'a> Referee<'a> {
     /// Before the first entry.
-    pub fn new(alloc: Global, terms: &'a Terms, entries: &'a [Entry]) -> Result<Referee<'a>, Memory>
+    pub fn new(
+        alloc: Global,
+        terms: &'a Terms,
+        choices: Choices,
+        entries: &'a [Entry],
+    ) -> Result<Referee<'a>, Memory>
         requires { IsSetting (setting_of terms.now) }
         ensures reading { IfOk result IsReading }
         ensures terms { IfOk result (λ r. r.terms.now ≡ terms.now) }
+        ensures choices { IfOk result (λ r. r.choices ≡ choices) }
         ensures entries { IfOk result (λ r. r.entries.now ≡ entries.now) }
         ensures place { IfOk result (λ r. r.place ≡ 0) }
     {
@@ -76,6 +84,7 @@ impl<'a> Referee<'a> {
         let cursor = first_cursor(alloc, terms.policy)?;
         Ok(Referee {
             terms,
+            choices,
             entries,
             place: 0,
             book,
@@ -90,14 +99,17 @@ impl<'a> Referee<'a> {
         requires reading { IsReading self }
         requires there { self.place < length self.entries.now }
         requires allowed { Allowed (setting self) (seen self) (get_or self.entries.now self.place (Register 0 0)) }
-        requires chosen { Chosen (setting self) (seen self) (get_or self.entries.now self.place (Register 0 0)) }
+        requires taken { IsTaken self.choices (setting self) (seen self)
+            (get_or self.entries.now self.place (Register 0 0)) }
         ensures reading { IfOk result IsReading }
         ensures terms { IfOk result (λ r. r.terms.now ≡ self.entry.terms.now) }
+        ensures choices { IfOk result (λ r. r.choices ≡ self.entry.choices) }
         ensures entries { IfOk result (λ r. r.entries.now ≡ self.entry.entries.now) }
         ensures place { IfOk result (λ r. r.place ≡ self.entry.place + 1) }
     {
         let Referee {
             terms,
+            choices,
             entries,
             place,
             mut book,
@@ -112,6 +124,7 @@ impl<'a> Referee<'a> {
         book.note(&entry);
         Ok(Referee {
             terms,
+            choices,
             entries,
             place: place + 1,
             book,

@@ -1,2 +1,7 @@
 mod Numbers
 mod Told
+pub mod OneStory
+mod Lines
+pub mod Licences
+mod Dealt
+mod Judged

@@ -1,6 +1,6 @@
 -- The members of a set, found by their numbers.
-use Rattle.std.proofs.Common.{◌≡◌, ◌∙◌, ◌≤◌, ◌<◌, ◌+◌, ◌++◌, ℕ, Bool, true, false, List, [], ◌∷◌, refl, sym, add-one, arith, inl, inr}
-use Rattle.std.specs.Prelude.{◌&&◌, nat_lt}
+use Rattle.std.proofs.Common.{◌≡◌, ◌∙◌, ◌≤◌, ◌<◌, ◌+◌, ◌++◌, ℕ, zero, suc, Bool, true, false, if◌then◌else◌, List, [], ◌∷◌, refl, sym, ap₂, add-one, arith, inl, inr}
+use Rattle.std.specs.Prelude.{◌&&◌, ◌||◌, nat_lt}
 use Rattle.std.specs.List.{AllByRecursion}
 use Rattle.std.proofs.lemmas.Bool.{cases_lt, lt-ltb, le-ltb, ne_eqb}
 use Rattle.table_sets.specs.Sets.{has, numbers_below, AreMembers, Rising}
@@ -42,3 +42,16 @@ found members end up = sym (members_are members end end (has members) up within)
 pub below_end : (start end : ℕ) (members : List ℕ) → Rising start members end → AllByRecursion (λ (x : ℕ). x < end) members
 below_end start end [] up = tt
 below_end start end (x ∷ xs) up = (let rest = end_above (x + 1) end xs up.1 in omega (arith, rest), below_end (x + 1) end xs up.1)
+
+same_below : (p q : ℕ → Bool) (n : ℕ) → ((x : ℕ) → p x ≡ q x) → numbers_below p n ≡ numbers_below q n
+unfolding numbers_below
+same_below p q zero e = refl
+same_below p q (suc n) e = ap₂ (λ (b : Bool) (l : List ℕ). if b then l ++ n ∷ [] else l) (e n) (same_below p q n e)
+
+-- rising lists with the same members are the same
+pub same_members : (xs ys : List ℕ) (end : ℕ) → AreMembers end xs → AreMembers end ys → ((x : ℕ) → has xs x ≡ has ys x) → xs ≡ ys
+same_members xs ys end up vp same = sym (found xs end up) ∙ (same_below (has xs) (has ys) end same ∙ found ys end vp)
+
+pub or_false : (b : Bool) → (b || false) ≡ b
+or_false true = refl
+or_false false = refl

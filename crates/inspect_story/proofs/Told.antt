@@ -1,5 +1,5 @@
 -- The text of the setting of terms spells it.
-use Rattle.std.proofs.Common.{◌≡◌, ◌<◌, ◌≤◌, ◌^◌, ℕ, List, [], ◌∷◌, sym, ap₂, subst, arith}
+use Rattle.std.proofs.Common.{◌≡◌, ◌<◌, ◌≤◌, ℕ, List, [], ◌∷◌, sym, ap₂, subst, arith}
 use Rattle.std.specs.List.{AllByRecursion}
 use Rattle.scan_story.specs.declared.setting.Need.{Need}
 use Rattle.scan_story.specs.declared.setting.Setting.{Setting}

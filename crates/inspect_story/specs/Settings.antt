@@ -8,6 +8,7 @@ use Rattle.setting_text.specs.Rules.{setting_of}
 use Rattle.setting_text.specs.Text.{setting_text}
 use Rattle.setting_text.specs.declared.head.Head.{Head}
 use Rattle.setting_text.specs.declared.plain.PlainSetting.{PlainSetting}
+use Rattle.table_sets.specs.Sets.{AreMembers}
 
 -- the first line of a setting
 abbrev pub head_of : Setting → Head
@@ -32,3 +33,7 @@ pub record IsReadAs (text : List ℕ) (s : Setting) : Type 0 where
 -- a need names columns below 16
 abbrev pub HasShortColumns : Need → Type 0
 HasShortColumns n = AllByRecursion (λ (g : ℕ). g < 16) n.columns
+
+-- a need's chunks and columns rise, and are those of sets
+abbrev pub HasMembers : Need → Type 0
+HasMembers n = AreMembers 1024 n.chunks × AreMembers 16 n.columns

@@ -1,7 +1,6 @@
 pub mod PartTexts
 pub mod Left
 pub mod Standing
-pub mod OneStory
 pub mod PartLines
 pub mod Partings
 pub mod Sizes

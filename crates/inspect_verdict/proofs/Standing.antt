@@ -1,11 +1,9 @@
 -- What stands for parts, one behind another.
-use Rattle.std.proofs.Common.{◌≡◌, ◌≢◌, ◌∙◌, ◌∷◌, [], ◌++◌, ℕ, List, true, append_assoc, append-nil, length, take, drop, inl, inr, refl, sym, ap, subst}
+use Rattle.std.proofs.Common.{◌≡◌, ◌≢◌, ◌∙◌, ◌∷◌, [], ◌++◌, ℕ, List, true, append_assoc, append-nil, inl, inr, refl, sym, ap, subst}
 use Rattle.std.specs.Prelude.{Option, Some, None, IfSome, MatchOption}
 use Rattle.std.specs.Borrow.{Bor}
-use Rattle.std.proofs.lemmas.List.{take-append-drop}
 use Rattle.story_text.specs.Reading.{IsCut, lacks}
-use Rattle.inspect_verdict.specs.Ends.{PartsFrom}
-use Rattle.inspect_verdict.specs.Parts.{HasNone, IsHeadedLine, LacksPart, StandsBehind, StandsFor}
+use Rattle.inspect_verdict.specs.Parts.{HasNone, IsHeadedLine, StandsBehind, StandsFor}
 use Rattle.inspect_verdict.specs.declared.part.Part.{Part}
 
 -- a head and the line behind it are a line with this head

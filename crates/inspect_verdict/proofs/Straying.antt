@@ -21,7 +21,7 @@ use Rattle.inspect_verdict.specs.declared.order.Turns.{Turns}
 use Rattle.inspect_verdict.specs.declared.order.Turns.TheVariants as turns
 use Rattle.inspect_verdict.specs.declared.unfit.Unfit.{Unfit}
 use Rattle.inspect_verdict.specs.declared.unfit.Unfit.TheVariants as unfit
-use Rattle.inspect_verdict.proofs.Faulting.{past_more}
+use Rattle.inspect_referee.proofs.Judged.{past_more}
 use Rattle.inspect_verdict.proofs.Ordering.{cut_order, in_both, inside, still}
 use Rattle.inspect_verdict.proofs.Turning.{on_worker}
 

@@ -2,8 +2,6 @@
 use Rattle.std.specs.Prelude.{◌≡◌, ◌≢◌, ◌≤◌, ◌+◌, ◌^◌, true, false, ℕ, Bool, List, [], ◌++◌, Some, Result, Ok, Err}
 use Rattle.std.specs.Prelude.{codes, length, map, is_some}
 use Rattle.std.specs.List.{AllByRecursion, flat_map}
-use Rattle.std.specs.declared.vec.Vec.{Vec}
-use Rattle.std.specs.declared.alloc.Global.{Global}
 use Rattle.story_text.specs.Reading.{Fits}
 use Rattle.story_text.specs.Text.{story_text}
 use Rattle.scan_story.specs.declared.entry.Entry.{Entry}
@@ -58,11 +56,6 @@ pub record LacksSummary (i : Inputs) (out : List ℕ) (line : ℕ) : Type 0 wher
   pub behind : StandsBehind (parts_in i.loaded.table.columns i.loaded.dicts.items 1 i.outcomes.items answers) out rest
   pub none : (summary more : List ℕ) → IsSummaryLine i.summary summary → rest ≢ summary ++ more
   pub at_line : BeginsAtLine out rest line
-
--- the story is read, and no line is refused
-abbrev pub TellsStory : List Entry → Result (Vec Entry Global) ℕ → Type 0
-TellsStory story (Ok es) = es.items ≡ story
-TellsStory story (Err line) = ⊥
 
 -- what the statements print with these answers
 abbrev pub statements_text : Inputs → List Answer → List ℕ

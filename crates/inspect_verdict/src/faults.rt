@@ -1,11 +1,11 @@
 // Which failed reads a run may tell.
-ghost use Rattle.std.specs.Prelude.{◌≡◌, ◌<◌, ◌≤◌, ◌∷◌, ◌↔◌, IfNone, IfSome, IsTrue, true};
+ghost use Rattle.std.specs.Prelude.{◌≡◌, ◌<◌, ◌≤◌, ◌↔◌, IfNone, IfSome, IsTrue, true};
 ghost use Rattle.piece_format.specs.Shape.{IsShape};
-ghost use Rattle.scan_story.specs.Causes.{last_fault};
-ghost use Rattle.scan_story.specs.Views.{History, past};
+ghost use Rattle.scan_story.specs.Views.{past};
 ghost use Rattle.inspect_verdict.specs.Words as spec;
 
 use crate::unfit::Unfit;
+use inspect_story::count_after;
 use piece_format::{Shape, groups, piece_words};
 use scan_story::{Entry, Why};
 use table_core::chunk_count;
@@ -48,19 +48,6 @@ fn against(shape: &Shape, scratch: bool, last: u64, entry: &Entry) -> Option<Unf
     }
 }
 
-// The count that the last fault left, after one entry more.
-fn next_count(last: u64, entry: &Entry) -> u64
-    ensures { (h : History) → last ≡ last_fault 0 h → result ≡ last_fault 0 (entry.now ∷ h) }
-{
-    match *entry {
-        Entry::Failed {
-            why: Why::Fault { after, .. },
-            ..
-        } => after,
-        _ => last,
-    }
-}
-
 /// The place of the first entry of a story that fails as no read of a run does which keeps its pieces so, and why. It
 /// takes no memory.
 pub(crate) fn first_fault(shape: &Shape, scratch: bool, story: &[Entry]) -> Option<(usize, Unfit)>
@@ -74,7 +61,7 @@ pub(crate) fn first_fault(shape: &Shape, scratch: bool, story: &[Entry]) -> Opti
         if let Some(why) = against(shape, scratch, last, entry) {
             return Some((place, why));
         }
-        last = next_count(last, entry);
+        last = count_after(last, entry);
     }
     None
 }

@@ -10,7 +10,7 @@ use crate::terms_given::terms_with;
 use crate::unfit::Unfit;
 use crate::wording::{Fitting, fits_of};
 use batch_plan::Task;
-use inspect_referee::{Counts, Reason, Ruling, judge};
+use inspect_referee::{Choices, Counts, Reason, Ruling, judge};
 use run_inputs::Inputs;
 use scan_story::{Entry, PolicyName};
 use std::alloc::Global;
@@ -85,7 +85,7 @@ pub(crate) fn judge_run(
         options.layout,
         options.per,
     )?;
-    let ruling = judge(alloc, &terms, story)?;
+    let ruling = judge(alloc, &terms, Choices::OfPolicy, story)?;
     let fits = fits_of(alloc, &terms, &shape, scratch, legal_front(ruling, story))?;
     Ok(judged_by(ruling, fits, reads_apart(&terms)))
 }

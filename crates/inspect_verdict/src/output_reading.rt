@@ -1,7 +1,7 @@
 // What an output tells.
 ghost use Rattle.std.specs.Prelude.{◌≡◌, ◌≤◌, ◌^◌, ◌++◌, All, IfErr, IfOk, List, IfSome, MatchOption, Some, length, ℕ};
 ghost use Rattle.std.specs.List.{AllByRecursion, AllZip};
-ghost use Rattle.story_text.specs.Reading.{Fits, IsFirstBad};
+ghost use Rattle.story_text.specs.Reading.{Fits};
 ghost use Rattle.story_text.specs.Text.{story_text};
 ghost use Rattle.scan_story.specs.declared.entry.Entry.{Entry as EntryOf};
 ghost use Rattle.table_core.specs.Value.{places_of};
@@ -13,21 +13,19 @@ ghost use Rattle.inspect_verdict.specs.Ends.{BeginsAtLine, EndsWith};
 ghost use Rattle.inspect_verdict.specs.StatementParts.{IsPlainOrStopped};
 ghost use Rattle.run_inputs.specs.declared.inputs.Inputs.{Inputs as InputsOf};
 ghost use Rattle.inspect_verdict.specs.Plain.{ArePlain};
-ghost use Rattle.inspect_verdict.specs.Reading.{HasRead, IsSummaryLine, IsToldIn, IsTrace, TellsStory};
+ghost use Rattle.inspect_verdict.specs.Reading.{HasRead, IsSummaryLine, IsToldIn, IsTrace};
 ghost use Rattle.inspect_verdict.specs.Verdict.{IsOfReading};
 
-use crate::causes::numbers_fit;
 use crate::ends::line_of_end;
 use crate::part::behind_line_with;
 use crate::parts::parts_of;
 use crate::splitting::{Split, take_apart};
-use crate::stories::one_story;
 use crate::verdict::Verdict;
+use inspect_story::story_in;
 use query_gather::Answer;
 use run_inputs::Inputs;
 use scan_story::Entry;
 use std::alloc::Global;
-use story_text::{StoryRefusal, read_story};
 use table_core::Memory;
 
 /// What an output tells: whether a line stands for the answer to each statement, and the story behind them, which begins
@@ -50,26 +48,6 @@ fn behind_summary(summary: bool, text: &[u8]) -> Option<&[u8]>
         return behind_line_with(text, b"summary: ");
     }
     Some(text)
-}
-
-// The story of a text, or the first of its lines that is no entry's. Out of memory there is neither.
-fn story_in(alloc: Global, text: &[u8]) -> Result<Result<Vec<Entry>, u32>, Memory>
-    requires short { length text.now ≤ 2 ^ 30 }
-    ensures fits { IfOk result (λ r. IfOk r (λ es. AllByRecursion Fits es.items)) }
-    ensures text { IfOk result (λ r. IfOk r (λ es. text.now ≡ story_text es.items)) }
-    ensures bad { IfOk result (λ r. IfErr r (IsFirstBad text.now)) }
-    ensures told { IfOk result (λ r. (story : List EntryOf) → AllByRecursion Fits story
-        → text.now ≡ story_text story → TellsStory story r) }
-{
-    one_story();
-    match read_story(alloc, text) {
-        Ok(story) => {
-            numbers_fit(&story);
-            Ok(Ok(story))
-        }
-        Err(StoryRefusal::BadLine { line }) => Ok(Err(line)),
-        Err(StoryRefusal::Memory) => Err(Memory),
-    }
 }
 
 // What an output tells whose trace is this end of it, behind answers with these lines.

@@ -8,7 +8,7 @@ ghost use Rattle.run_ends.specs.Policies.{PolicyAt as PolicyAtOf};
 ghost use Rattle.run_ends.specs.Runs.{DidRuns as DidRunsOf, work_under};
 ghost use Rattle.inspect_verdict.specs.Back.{HasPrinted, HasPrintedOn, IsJudgedBack};
 
-use crate::causes::numbers_fit;
+use inspect_story::numbers_fit;
 use scan_story::Entry;
 
 /// What `run` and `run_boxed` of coop_run print with status 0 or 1 and the trace, under these words, is judged legal, over

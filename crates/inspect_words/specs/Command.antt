@@ -51,6 +51,13 @@ form_rules = flag (codes "html") ∷ []
 abbrev pub output_place : List Rule
 output_place = place (codes "OUTPUT") ∷ []
 
+-- what of a setting is left to the story
+abbrev pub freedom_rules : List Rule
+freedom_rules = option (codes "policy") ∷ option (codes "dealt") ∷ []
+
+abbrev pub story_places : List Rule
+story_places = place (codes "SETTING") ∷ place (codes "STORY") ∷ []
+
 -- a subcommand, which tells the version too
 abbrev pub sub : Text → List Rule → Shape
 sub name rules = record (new_shape name) { rules = rules; has_version = true }
@@ -80,6 +87,13 @@ top = record (new_shape (codes "coop_inspect")) {
 -- THE COMMAND: one subcommand has to be there; `--help`, `-h`, `--version` and `-V` are clap's own
 abbrev pub inspect : App
 inspect = record { top = top; subs = explain ∷ judge ∷ setting ∷ draw ∷ [] }
+
+-- THE COMMAND behind `judge --story`, for the words behind these two
+abbrev pub story : App
+story = record {
+  top = record (sub (codes "coop_inspect-judge") (freedom_rules ++ story_places)) { no_binary_name = true };
+  subs = [];
+}
 
 -- the command with further rules
 abbrev pub with_rules : App → List Rule → App

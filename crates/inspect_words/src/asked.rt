@@ -16,6 +16,14 @@ pub enum Asked<'a> {
         run: Request<'a>,
         output: &'a str,
     },
+    /// Whether the file STORY holds the text of a right story in the setting that the file SETTING tells, of which
+    /// choices, and the dealing of queries to workers, may be left to the story: `judge --story`.
+    Story {
+        setting: &'a str,
+        story: &'a str,
+        choices: bool,
+        dealing: bool,
+    },
     /// The text of the setting in which the story of the request's run is judged: `setting`.
     Setting {
         run: Request<'a>,

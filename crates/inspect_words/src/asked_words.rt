@@ -5,7 +5,9 @@ ghost use Rattle.clap.specs.Matches.{found_of};
 ghost use Rattle.clap.specs.Simple.{subcommand_of, subcommand_rows_of};
 ghost use Rattle.clap.specs.Walk.{rows_of};
 ghost use Rattle.command_words.specs.Matched.{texts};
-ghost use Rattle.inspect_words.specs.Asked.{HasLimits, IsRefusedFor, IsRunRefused, asked_by, asked_of, asked_view, draw_from, draw_of, explain_of, judge_of, setting_of};
+ghost use Rattle.inspect_words.specs.Asked.{HasLimits, IsRefusedBy, IsRefusedFor, IsRunRefused, IsSaidOf, asked_by};
+ghost use Rattle.inspect_words.specs.Asked.{asked_in, asked_of, asked_view, draw_from, draw_of, explain_of, judge_of};
+ghost use Rattle.inspect_words.specs.Asked.{setting_of};
 ghost use Rattle.inspect_words.specs.Command.{inspect};
 
 use crate::asked::Asked;
@@ -13,6 +15,7 @@ use crate::command::command;
 use crate::culprit::{Culprit, bare_in, order_culprit, value_in};
 use crate::form::form_of;
 use crate::refused::Refused;
+use crate::story_words::{behind_story, story_asked};
 use crate::window::window_of;
 use clap::ArgMatches;
 use clap::error::ErrorKind;
@@ -29,6 +32,20 @@ pub fn asked_of<'a>(alloc: Global, words: &'a [String]) -> Result<Asked<'a>, Ref
     ensures asked { IfOk result (λ a. asked_of (texts words.now) ≡ Some (asked_view a)) }
     ensures limits { IfOk result (λ a. HasLimits (asked_view a)) }
     ensures refused { IfErr result (IsRefusedFor (texts words.now)) }
+{
+    if let Some(behind) = behind_story(words) {
+        return story_asked(alloc, behind);
+    }
+    plainly_asked(alloc, words)
+}
+
+// What words ask for that don't begin with `judge --story`.
+fn plainly_asked<'a>(alloc: Global, words: &'a [String]) -> Result<Asked<'a>, Refused<'a>>
+    ensures asked { IfOk result (λ a. asked_in (fault_of inspect (texts words.now)) (texts words.now)
+        ≡ Some (asked_view a)) }
+    ensures limits { IfOk result (λ a. HasLimits (asked_view a)) }
+    ensures refused { IfErr result (IsRefusedBy (fault_of inspect (texts words.now))
+        (asked_in (fault_of inspect (texts words.now)) (texts words.now))) }
 {
     let matches = matches_in(alloc, words)?;
     match matches.subcommand() {
@@ -65,7 +82,7 @@ fn asked_by<'a>(
 fn matches_in<'a>(alloc: Global, words: &'a [String]) -> Result<ArgMatches<'a>, Refused<'a>>
     ensures taken { IfOk result (λ m. (fault_of inspect (texts words.now) ≡ [])
         × (subcommand_rows_of m ≡ subcommand_of inspect (texts words.now))) }
-    ensures refused { IfErr result (IsRefusedFor (texts words.now)) }
+    ensures refused { IfErr result (IsSaidOf (fault_of inspect (texts words.now))) }
 {
     let command = command(alloc)?;
     match command.try_get_matches_from(words) {

@@ -1,7 +1,9 @@
 // The command, as clap has it.
 ghost use Rattle.std.specs.Prelude.{◌≡◌, IfOk};
 ghost use Rattle.clap.specs.Simple.{App, app_of};
-ghost use Rattle.inspect_words.specs.Command.{IsCommand, cut_rules, draw, explain, form_rules, inspect, judge, output_place, setting, side_rules, table_places, window_rules, with_rules, work_rules};
+ghost use Rattle.inspect_words.specs.Command.{IsCommand, cut_rules, draw, explain, form_rules, freedom_rules};
+ghost use Rattle.inspect_words.specs.Command.{inspect, judge, output_place, setting, side_rules, story, story_places};
+ghost use Rattle.inspect_words.specs.Command.{table_places, window_rules, with_rules, work_rules};
 
 use crate::places::{flag, number, option, place};
 use crate::version::VERSION;
@@ -47,13 +49,64 @@ fn judge<'a>(alloc: Global) -> Result<Command<'a>, AllocError>
     ensures { IfOk result (λ c. (a : App) × IsCommand a c × (a.top ≡ judge)) }
 {
     let start = Command::new(alloc, "judge").version(VERSION).about(
-        "Tells whether OUTPUT is what a legal run of coop_cli with these words and --trace prints",
+        "Tells whether OUTPUT is what a run of coop_cli with these words and --trace prints; see judge --story --help",
     );
     let work = with_work(alloc, start)?;
     let cut = with_cut(alloc, work)?;
     let side = with_side(alloc, cut)?;
     let table = with_table(alloc, side)?;
     with_output(alloc, table)
+}
+
+/// `judge --story [--policy any] [--dealt any] SETTING STORY`, for the words behind `judge --story`.
+pub(crate) fn story_command<'a>(alloc: Global) -> Result<Command<'a>, AllocError>
+    ensures { IfOk result (λ c. app_of c ≡ story) }
+{
+    let named = Command::new(alloc, "coop_inspect-judge").bin_name("coop_inspect judge --story")?;
+    let start = named.no_binary_name(true).version(VERSION).about(
+        "Tells whether STORY, the text of any engine's story, is right in the setting that SETTING tells",
+    );
+    let freedom = with_freedom(alloc, start)?;
+    with_story(alloc, freedom)
+}
+
+// What of the setting is left to the story.
+fn with_freedom<'a>(alloc: Global, command: Command<'a>) -> Result<Command<'a>, AllocError>
+    ensures { (a : App) → IsCommand a command.entry → IfOk result (IsCommand (with_rules a freedom_rules)) }
+{
+    let options = vec![in alloc;
+        option(
+            alloc,
+            "policy",
+            "any",
+            "Leave choices free, and judge the rules alone [default: the policy of SETTING]",
+        ),
+        option(
+            alloc,
+            "dealt",
+            "any",
+            "Leave it to STORY on which worker a query is [default: the worker of SETTING]",
+        ),
+    ]?;
+    command.args(options)
+}
+
+fn with_story<'a>(alloc: Global, command: Command<'a>) -> Result<Command<'a>, AllocError>
+    ensures { (a : App) → IsCommand a command.entry → IfOk result (IsCommand (with_rules a story_places)) }
+{
+    let places = vec![in alloc;
+        place(
+            alloc,
+            "SETTING",
+            "A file with a setting, as coop_inspect setting prints it"
+        ),
+        place(
+            alloc,
+            "STORY",
+            "A file with the entries of a story, a line each"
+        ),
+    ]?;
+    command.args(places)
 }
 
 // `setting [the words of the run] TABLE BATCH`

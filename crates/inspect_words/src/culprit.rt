@@ -11,6 +11,8 @@ pub enum Culprit<'a> {
     Bare { number: usize, word: &'a str },
     /// A value that an option or a place doesn't take; the name is that of the manual.
     Value { name: &'static str, value: &'a str },
+    /// A value that may be `any` alone.
+    NotAny { name: &'static str, value: &'a str },
     /// The last word, where OUTPUT has to stand.
     Last { word: &'a str },
     /// The value of `--from` is greater than that of `--to`.
@@ -27,6 +29,9 @@ impl fmt::Display for Culprit<'_> {
                 )
             }
             Culprit::Value { name, value } => write!(f, "coop_cli takes no '{value}' for {name}"),
+            Culprit::NotAny { name, value } => {
+                write!(f, "{name} takes any alone, and '{value}' stands there")
+            }
             Culprit::Last { word } => {
                 write!(
                     f,

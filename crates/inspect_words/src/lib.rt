@@ -16,6 +16,7 @@ mod culprit;
 mod form;
 mod places;
 mod refused;
+mod story_words;
 mod version;
 mod window;
 

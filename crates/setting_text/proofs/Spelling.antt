@@ -69,6 +69,23 @@ begun_lines text p h ns left s b =
     let line : head_line p.head ≡ head_line h = cc in
     (same_head p.head h s.fit_head b.head line, (let tails : map need_line ns ++ left ≡ map need_line p.needs.items ++ [] ∷ [] = cc in tails))
 
+same_needs : (ns ms : List Need) → AllByRecursion FitsNeed ns → AllByRecursion FitsNeed ms → map need_line ns ++ [] ∷ [] ≡ map need_line ms ++ [] ∷ [] → ns ≡ ms
+same_needs [] [] fn fm e = refl
+same_needs [] (m ∷ ms) fn fm e = absurd (no_line m (map need_line ms ++ [] ∷ []) [] (sym e))
+same_needs (n ∷ ns) [] fn fm e = absurd (no_line n (map need_line ns ++ [] ∷ []) [] e)
+same_needs (n ∷ ns) (m ∷ ms) fn fm e =
+    let line : need_line n ≡ need_line m = cc in
+    let tails : map need_line ns ++ [] ∷ [] ≡ map need_line ms ++ [] ∷ [] = cc in
+    ap (λ (k : Need). k ∷ ns) (same_need n m fn.0 fm.0 line) ∙ ap (λ (l : List Need). m ∷ l) (same_needs ns ms fn.1 fm.1 tails)
+
+-- a text spells one setting
+pub one_setting : (text : List ℕ) (p q : PlainSetting) → Spells text p → Spells text q → (p.head ≡ q.head) × (p.needs.items ≡ q.needs.items)
+one_setting text p q sp sq =
+    let both : head_line p.head ∷ (map need_line p.needs.items ++ [] ∷ []) ≡ head_line q.head ∷ (map need_line q.needs.items ++ [] ∷ []) = sym (spelled text p sp) ∙ spelled text q sq in
+    let line : head_line p.head ≡ head_line q.head = cc in
+    let tails : map need_line p.needs.items ++ [] ∷ [] ≡ map need_line q.needs.items ++ [] ∷ [] = cc in
+    (same_head p.head q.head sp.fit_head sq.fit_head line, same_needs p.needs.items q.needs.items sp.fit sq.fit tails)
+
 -- a text that spells a setting has no fault
 pub never : (text : List ℕ) (p : PlainSetting) (f : SettingFault) → Spells text p → IsRefusal text f → IsFault f → ⊥
 never text p fault.NoHead s r k = no_head text p.head p.needs.items s.fit_head (spelled text p s) r

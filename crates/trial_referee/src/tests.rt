@@ -7,7 +7,7 @@ use help_stories::{
     COUNTS, POLICIES, Printed, SIX, Scene, TO_EVICT, TURNS, TWO_TO_DELIVER, entries_of,
 };
 use help_walks::{some_setting, walk};
-use inspect_referee::{Better, Choice, Memory, Rank, Reason, Rule, Ruling};
+use inspect_referee::{Better, Choice, Choices, Memory, Rank, Reason, Rule, Ruling};
 use rand_pcg::Pcg32;
 use scan_story::{Entry, PolicyName, Ratio, Setting};
 use std::alloc::Global;
@@ -112,13 +112,19 @@ fn the_judges_agree_on_walks(rt: HostRuntime) -> Result<(), Fail> {
 /// A story, of which the last entry may not come, and why.
 type Refused = (Scene, PolicyName, &'static str, Reason);
 
-/// Whether the referee says so.
+/// Whether the referee says so, and where choices are free only of a rule that is broken.
 fn is_refused(alloc: Global, refused: &Refused) -> Result<bool, Fail> {
     let (scene, policy, text, reason) = *refused;
     let s = scene.setting(alloc, policy)?;
     let entries = entries_of(alloc, text)?;
     let place = entries.len().saturating_sub(1);
-    Ok(ruling_on(alloc, &s, &entries)? == Some(Ruling::Illegal { place, reason }))
+    let is_broken = matches!(reason, Reason::Broken(_));
+    let found = ruling_on(alloc, &s, Choices::OfPolicy, &entries)?;
+    let free = match ruling_on(alloc, &s, Choices::Free, &entries)? {
+        Some(Ruling::Legal { whole, .. }) => !is_broken && !whole,
+        other => is_broken && other == found,
+    };
+    Ok(free && found == Some(Ruling::Illegal { place, reason }))
 }
 
 fn expect_refused<R: Abort>(rt: &R, alloc: Global, rows: &[Refused]) -> Result<(), Fail> {
@@ -288,6 +294,7 @@ fn a_victim_that_is_outdone(rt: HostRuntime) -> Result<(), Fail> {
         chunk: 4,
     })?;
     let reason = NEARER;
-    assert!(rt; ruling_on(alloc, &s, &entries)? == Some(Ruling::Illegal { place, reason }));
+    let found = ruling_on(alloc, &s, Choices::OfPolicy, &entries)?;
+    assert!(rt; found == Some(Ruling::Illegal { place, reason }));
     Ok(())
 }

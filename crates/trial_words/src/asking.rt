@@ -47,6 +47,33 @@ const GIVEN: &[(&str, Asked<'static>)] = &[
         },
     ),
     (
+        "judge|--story|a|b",
+        Asked::Story {
+            setting: "a",
+            story: "b",
+            choices: false,
+            dealing: false,
+        },
+    ),
+    (
+        "judge|--story|--policy|any|a|--dealt=any|b",
+        Asked::Story {
+            setting: "a",
+            story: "b",
+            choices: true,
+            dealing: true,
+        },
+    ),
+    (
+        "judge|--story|a|b|--dealt|any",
+        Asked::Story {
+            setting: "a",
+            story: "b",
+            choices: false,
+            dealing: true,
+        },
+    ),
+    (
         "setting|--threads|8|a|--policy=attach|b|--trace",
         Asked::Setting {
             run: Request {
@@ -99,6 +126,28 @@ const REFUSED: &[(&str, u8, &str)] = &[
     ("explain|--help", 0, "Usage: coop_inspect explain "),
     ("judge|--help", 0, "Usage: coop_inspect judge "),
     ("setting|--help", 0, "Usage: coop_inspect setting "),
+    (
+        "judge|--story|--help",
+        0,
+        "Usage: coop_inspect judge --story [OPTIONS] <SETTING> <STORY>",
+    ),
+    ("judge|--story|--version", 0, "2026-12-01"),
+    ("judge|--story|a", 2, "<STORY>"),
+    ("judge|--story|a|b|out", 2, "'out'"),
+    ("judge|--story|--threads|2|a|b", 2, "'--threads'"),
+    (
+        "judge|--story|--policy|normal|a|b",
+        2,
+        "--policy takes any alone, and 'normal' stands there",
+    ),
+    (
+        "judge|--story|a|b|--dealt=",
+        2,
+        "--dealt takes any alone, and '' stands there",
+    ),
+    ("judge|a|--story|b|out", 2, "'--story'"),
+    ("judge|--policy|any|a|b|out", 2, "'any' for --policy"),
+    ("judge|--dealt|any|a|b|out", 2, "'--dealt'"),
     ("setting|a", 2, "<BATCH>"),
     ("setting|a|b|out", 2, "'out'"),
     ("setting|--compare|a|b", 2, "'--compare'"),

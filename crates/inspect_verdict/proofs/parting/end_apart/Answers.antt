@@ -1,4 +1,4 @@
-use Rattle.std.proofs.Common.{◌≡◌, ◌≢◌, ◌<◌, List, ℕ, length, take, drop, min, sym, subst, arith}
+use Rattle.std.proofs.Common.{◌≡◌, ◌<◌, List, ℕ, length, take, sym, subst, arith}
 use Rattle.std.proofs.lemmas.List.{take_rest}
 use Rattle.inspect_verdict.specs.Ends.{EndsWith, PartsFrom}
 use Rattle.inspect_verdict.proofs.Partings.{end_from, parts_here, parts_there}

@@ -1,4 +1,4 @@
-use Rattle.std.proofs.Common.{◌≡◌, ◌≤◌, ◌*◌, List, length, map, sym, subst, arith}
+use Rattle.std.proofs.Common.{◌≤◌, ◌*◌, List, length, map, sym, subst, arith}
 use Rattle.std.specs.Prelude.{All, IfSome}
 use Rattle.table_sets.specs.Sets.{Rising}
 use Rattle.filter_zones.specs.Truth.{FitsRow}

@@ -1,4 +1,4 @@
-use Rattle.std.proofs.Common.{◌≡◌, ◌≢◌, ◌∙◌, ◌≤◌, ◌*◌, ◌+◌, ℕ, List, [], append-nil, length, drop, map, rules, sym, ap, subst, arith}
+use Rattle.std.proofs.Common.{◌≡◌, ◌∙◌, ◌≤◌, ◌*◌, ◌+◌, ℕ, List, [], append-nil, length, drop, map, rules, sym, ap, subst, arith}
 use Rattle.std.specs.Prelude.{All, IfErr, IfNone, IfOk, IfSome, Option, Result}
 use Rattle.std.specs.List.{AllByRecursion, AllZip}
 use Rattle.std.proofs.lemmas.List.{length-map}

@@ -22,7 +22,7 @@ returns-clause-reading c =
     let len : length (with_items r.holds c.note_hold.new.holds).items ≡ length c.note_hold.new.holds = ap (λ (hs : List (Option Hold)). length hs) items in
     let was : length c.deref_mut.result.now ≡ length r.holds.items = ap (λ (hs : List (Option Hold)). length hs) c.deref_mut.ensures.value in
     let workers = k.workers in
-    read_on r _ k refl refl refl c.requires.there c.requires.allowed c.requires.chosen
+    read_on r _ k refl refl refl refl c.requires.there c.requires.allowed c.requires.taken
     (c.note.ensures (setting r) (seen r) k.stands c.requires.allowed)
     (c.in_ok-load.ensures (setting r) (seen r) k.stands k.load)
     (omega (arith, len, was, workers))

@@ -6,4 +6,4 @@ use Rattle.inspect_referee.proofs.referee.Referee.is_whole.Goals as goal
 pub returns : goal.returns
 returns c =
     let r = c.args.self.now in
-    (λ t. whole_is (setting r) (seen r) c.requires.legal (sym c.is_complete.ensures ∙ t), λ k. c.is_complete.ensures ∙ whole_true (setting r) (seen r) k)
+    (λ t. whole_is (setting r) (seen r) c.requires.stands.followed (sym c.is_complete.ensures ∙ t), λ k. c.is_complete.ensures ∙ whole_true (setting r) (seen r) k)

@@ -1,7 +1,7 @@
 use Rattle.std.proofs.Common.{take}
 use Rattle.std.specs.Prelude.{All}
 use Rattle.story_text.specs.Reading.{Fits}
-use Rattle.inspect_verdict.proofs.causes.numbers_fit.Given as goal
+use Rattle.inspect_story.proofs.stories.numbers_fit.Given as goal
 
 abbrev pub invariant-loop-entry : goal.invariant-loop-entry
 invariant-loop-entry l = All Fits (take l.entry-index l.story)
