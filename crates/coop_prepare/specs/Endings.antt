@@ -1,5 +1,5 @@
 -- How a preparation ends.
-use Rattle.std.specs.Prelude.{◌⊎◌, [], Option, Some, None, codes}
+use Rattle.std.specs.Prelude.{◌⊎◌, Option, Some, None, codes}
 use Rattle.prepare_auto.specs.declared.stop.Stop.{Stop}
 use Rattle.prepare_rules.specs.declared.cause.Refusal.{Refusal}
 use Rattle.prepare_rules.specs.declared.failure.Failure.{Failure}
@@ -7,9 +7,9 @@ use Rattle.prepare_rules.specs.declared.failure.Failure.TheVariants as failure
 use Rattle.coop_prepare.specs.Replies.{IsFault, IsMemory, IsText}
 use Rattle.coop_prepare.specs.declared.reply.Reply.{Reply}
 
--- 0 where all records are written, and 3 where one is refused, which is told
+-- 0 where all records are written, and 3 where one is refused; what is told goes to standard error
 abbrev pub IsEnded : Option Refusal → Reply → Type 0
-IsEnded None reply = IsFault 0 [] reply
+IsEnded None reply = IsText 0 reply ⊎ IsMemory reply
 IsEnded (Some refusal) reply = IsText 3 reply ⊎ IsMemory reply
 
 -- 4 where the export can't be read, 6 where standard output failed, 7 out of memory, 9 past 2^62 records

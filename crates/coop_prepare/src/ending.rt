@@ -2,22 +2,33 @@
 ghost use Rattle.coop_prepare.specs.Endings.{IsBroken, IsEnded};
 
 use crate::reply::Reply;
-use prepare_rules::{Cause, Column, Failure, Refusal};
+use crate::telling::told;
+use prepare_rules::{Cause, Column, Failure, Refusal, Report};
 use prepare_words::Writing;
 use std::alloc::{AllocError, Global};
 
-/// What is said where all records were read, or one was refused.
-pub(crate) fn ended(alloc: Global, writing: &Writing<'_>, refusal: Option<Refusal>) -> Reply
-    ensures { IsEnded refusal result }
+/// What is said where all records were read, or one was refused: what the rules did, and the refusal.
+pub(crate) fn ended(alloc: Global, writing: &Writing<'_>, report: Report) -> Reply
+    ensures { IsEnded report.refusal result }
 {
-    match refusal {
-        Some(refusal) => Reply::told(alloc, 3, refused(alloc, writing, &refusal)),
-        None => Reply {
-            text: Vec::new(alloc),
-            status: 0,
-            is_fault: true,
-        },
+    let done = told(alloc, writing, &report.tally);
+    match report.refusal {
+        Some(refusal) => {
+            let line = refused(alloc, writing, &refusal);
+            Reply::told(alloc, 3, behind(alloc, done, line))
+        }
+        None => Reply::told(alloc, 0, done),
     }
+}
+
+/// Both texts, one behind the other.
+pub(crate) fn behind(
+    alloc: Global,
+    first: Result<String, AllocError>,
+    second: Result<String, AllocError>,
+) -> Result<String, AllocError> {
+    let (first, second) = (first?, second?);
+    format!(in alloc; "{first}{second}")
 }
 
 /// What is said where the preparation was broken off.

@@ -3,9 +3,10 @@ ghost use Rattle.std.specs.Prelude.{◌≡◌, true, false};
 ghost use Rattle.prepare_decode.specs.Encodings.{IsEncoded};
 ghost use Rattle.coop_prepare.specs.Endings.{IsGuessed};
 
-use crate::ending::{broken, refused};
+use crate::ending::{behind, broken, refused};
 use crate::reply::Reply;
-use prepare_auto::{Given, Stop, write_auto};
+use crate::telling::told;
+use prepare_auto::{Ending, Given, Stop, write_auto};
 use prepare_blanks::with_tabs;
 use prepare_decode::{Encoding, encoding_of};
 use prepare_look::Failure as Broken;
@@ -73,7 +74,7 @@ pub(crate) fn guessed<W: Write + Drop>(
     };
     let has_blanks = tabbed.is_some();
     let text = tabbed.unwrap_or(text);
-    let (stop, look) = match written_by(alloc, writing, has_blanks, text.as_slice(), output) {
+    let (ending, look) = match written_by(alloc, writing, has_blanks, text.as_slice(), output) {
         Ok(done) => done,
         Err(failure) => return broken(alloc, writing.file, failure),
     };
@@ -82,10 +83,7 @@ pub(crate) fn guessed<W: Write + Drop>(
         Ok(page) => page,
         Err(failure) => return broken(alloc, file, failure),
     };
-    match rules_told(alloc, &page, writing.numbers.is_empty()) {
-        Ok(told) => came(alloc, writing, told, stop),
-        Err(failure) => broken(alloc, file, failure),
-    }
+    came(alloc, writing, rules_told(alloc, writing, &page), ending)
 }
 
 // Writes what the rules make of a text, and with them those that a look at it gives.
@@ -95,15 +93,15 @@ fn written_by<W: Write + Drop>(
     has_blanks: bool,
     text: &[u8],
     output: W,
-) -> Result<(Option<Stop>, Look), Failure> {
+) -> Result<(Ending, Look), Failure> {
     let given = Given {
         delimiter: writing.has_delimiter || has_blanks,
         skip: writing.has_skip,
     };
     let asked = writing.rules();
     let delimiter = if has_blanks { b'\t' } else { asked.delimiter };
-    let (_, stop, look) = write_auto(alloc, &Rules { delimiter, ..asked }, given, text, output)?;
-    Ok((stop, look))
+    let (_, ending, look) = write_auto(alloc, &Rules { delimiter, ..asked }, given, text, output)?;
+    Ok((ending, look))
 }
 
 // The page of what a look at the text gave.
@@ -121,39 +119,43 @@ fn page_by<'a>(
     }
 }
 
-// The line that tells the rules of a look, with those on numbers or without.
-fn rules_told(alloc: Global, page: &Page<'_>, has_numbers: bool) -> Result<String, Failure> {
-    let rules = format!(in alloc; "{}", page.advice(has_numbers))?;
-    if rules.is_empty() {
-        return Ok(format!(in alloc; "auto: no rule\n")?);
+// The line that tells the rules of a look, with those on numbers where none are asked for; none where it isn't to be
+// told.
+fn rules_told(
+    alloc: Global,
+    writing: &Writing<'_>,
+    page: &Page<'_>,
+) -> Result<String, AllocError> {
+    if writing.is_quiet {
+        return Ok(String::new(alloc));
     }
-    Ok(format!(in alloc; "auto:{rules}\n")?)
+    let rules = format!(in alloc; "{}", page.advice(writing.numbers.is_empty()))?;
+    if rules.is_empty() {
+        return format!(in alloc; "auto: no rule\n");
+    }
+    format!(in alloc; "auto:{rules}\n")
 }
 
-// What is said where all records were read, or why not.
-fn came(alloc: Global, writing: &Writing<'_>, told: String, stop: Option<Stop>) -> Reply
-    ensures { IsGuessed stop result }
+// What is said where all records were read, or why not: the rules, what they did, and the refusal.
+fn came(
+    alloc: Global,
+    writing: &Writing<'_>,
+    rules: Result<String, AllocError>,
+    ending: Ending,
+) -> Reply
+    ensures { IsGuessed ending.stop result }
 {
-    match stop {
+    let done = told(alloc, writing, &ending.tally);
+    match ending.stop {
         Some(Stop::Titles { records, line }) => {
             Reply::told(alloc, 3, titles_told(alloc, records, line))
         }
         Some(Stop::Record(refusal)) => {
             let line = refused(alloc, writing, &refusal);
-            Reply::told(alloc, 3, behind(alloc, told, line))
+            Reply::told(alloc, 3, behind(alloc, behind(alloc, rules, done), line))
         }
-        None => Reply::told(alloc, 0, Ok(told)),
+        None => Reply::told(alloc, 0, behind(alloc, rules, done)),
     }
-}
-
-// Both lines.
-fn behind(
-    alloc: Global,
-    told: String,
-    line: Result<String, AllocError>,
-) -> Result<String, AllocError> {
-    let line = line?;
-    format!(in alloc; "{told}{line}")
 }
 
 // The line of records above the table.

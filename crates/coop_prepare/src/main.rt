@@ -8,6 +8,7 @@ mod ending;
 mod guessing;
 mod looking;
 mod reply;
+mod telling;
 mod text;
 mod words;
 mod writing;

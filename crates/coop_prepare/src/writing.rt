@@ -71,7 +71,7 @@ fn prepared<R: Read + Drop, W: Write + Drop>(
     output: W,
 ) -> Reply {
     match prepare(alloc, &writing.rules(), input, output) {
-        Ok((_, refusal)) => ended(alloc, writing, refusal),
+        Ok((_, report)) => ended(alloc, writing, report),
         Err(failure) => broken(alloc, writing.file, failure),
     }
 }

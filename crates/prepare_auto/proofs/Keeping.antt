@@ -1,27 +1,37 @@
 -- What the rules that a look gives keep.
-use Rattle.std.proofs.Common.{◌≡◌, ◌+◌, ◌==◌, ℕ, suc, Bool, true, false, List, [], ◌∷◌, length, drop, subst, None, Some, Result, Ok, Err, refl, sym, ap, ◌∙◌, inl, inr, arith}
+use Rattle.std.proofs.Common.{◌≡◌, ◌+◌, ◌-◌, ◌==◌, ℕ, suc, Bool, true, false, List, [], ◌∷◌, length, drop, subst, Option, None, Some, Result, Ok, Err, refl, sym, ap, ◌∙◌, inl, inr, arith}
 use Rattle.std.proofs.Math.Numerals.{add-one}
+use Rattle.std.proofs.lemmas.Bool.{cases_Bool}
 use Rattle.std.specs.Prelude.{if◌then◌else◌}
 use Rattle.prepare_page.specs.Advice.{needs_rules, reading_of}
 use Rattle.prepare_page.specs.declared.advice.Reading.{Reading}
 use Rattle.prepare_page.specs.declared.look.Look.{Look}
-use Rattle.prepare_numbers.proofs.Worth.{keeps-value}
-use Rattle.prepare_numbers.specs.Plain.{plain}
-use Rattle.prepare_numbers.specs.Spells.{spells}
+use Rattle.std.specs.List.{list_any}
+use Rattle.std.specs.Str.{bytes_eq}
+use Rattle.prepare_numbers.specs.Plain.{is_nonzero, spread}
+use Rattle.prepare_numbers.specs.Rounding.{dropped, excess}
+use Rattle.prepare_numbers.specs.Spells.{mantissa, spells}
+use Rattle.prepare_numbers.specs.Values.{digits_in, value_of}
+use Rattle.prepare_numbers.specs.declared.limit.Fit.TheVariants as fit
+use Rattle.prepare_numbers.specs.declared.limit.Limit.{Limit}
+use Rattle.prepare_rules.proofs.Spelled.{keeps-worth}
 use Rattle.prepare_rules.specs.Columns.{picks_of}
-use Rattle.prepare_rules.specs.Made.{field_made, is_mark, row_made}
+use Rattle.prepare_rules.specs.Made.{change_by, field_change, field_made, is_long, is_mark, mark_change, row_made, row_told, spelled_change}
 use Rattle.prepare_rules.specs.Names.{named_picks}
-use Rattle.prepare_rules.specs.Numbers.{form_of, mark_byte}
-use Rattle.prepare_rules.specs.Outcome.{Outcome, below, counted_names, kept, made_first, number_past, prepared, refused, under, under_picks}
+use Rattle.prepare_rules.specs.Numbers.{fit_by, form_of, mark_byte, number_made, number_text}
+use Rattle.prepare_rules.specs.Outcome.{Outcome, all_done, below, counted_names, kept, made_first, number_past, prepared, refused_in, under, under_picks}
 use Rattle.prepare_rules.specs.declared.cause.Cause.TheVariants as cause
 use Rattle.prepare_rules.specs.Records.{Record}
+use Rattle.prepare_rules.specs.Tally.{no_tally}
 use Rattle.prepare_rules.specs.declared.cause.Cause.{Cause}
+use Rattle.prepare_rules.specs.declared.change.Change.TheVariants as change
 use Rattle.prepare_rules.specs.declared.columns.Pick.{Pick}
 use Rattle.prepare_rules.specs.declared.rules.Column.{Column}
 use Rattle.prepare_rules.specs.declared.rules.Rules.{Rules}
+use Rattle.prepare_rules.specs.declared.tally.Tally.{Tally}
 use Rattle.prepare_text.specs.Walk.{Lined}
 use Rattle.prepare_auto.specs.Advised.{IsNumberedFor, places_below, shaped, taken_at}
-use Rattle.prepare_auto.specs.Kept.{Keeps, KeepsFields, KeepsRecords}
+use Rattle.prepare_auto.specs.Kept.{Keeps, KeepsFields, KeepsRecords, rounds}
 
 -- one column more
 pub places-more : (is : ℕ → Bool) (n : ℕ) → places_below is (n + 1) ≡ taken_at is n (places_below is n)
@@ -37,6 +47,11 @@ same-trims : (columns : List Column) (shape : Rules) (reading : Reading) (places
 same-trims [] shape reading places taken is = ap (λ (r : Rules). r.trims) is.rules
 same-trims (c ∷ cs) shape reading places taken is = ap (λ (r : Rules). r.trims) is
 
+same-limit : (columns : List Column) (shape : Rules) (reading : Reading) (places : List Column) (taken : Rules) → IsNumberedFor columns shape reading places taken
+    → taken.limit ≡ shape.limit
+same-limit [] shape reading places taken is = ap (λ (r : Rules). r.limit) is.rules
+same-limit (c ∷ cs) shape reading places taken is = ap (λ (r : Rules). r.limit) is
+
 same-skip : (columns : List Column) (shape : Rules) (reading : Reading) (places : List Column) (taken : Rules) → IsNumberedFor columns shape reading places taken
     → taken.skip ≡ shape.skip
 same-skip [] shape reading places taken is = ap (λ (r : Rules). r.skip) is.rules
@@ -44,72 +59,91 @@ same-skip (c ∷ cs) shape reading places taken is = ap (λ (r : Rules). r.skip)
 
 -- ---- fields
 
-by-spell : (taken : Rules) (field : List ℕ) (b : Bool) → spells (form_of taken) field ≡ b
-    → Keeps taken true field (if b then plain (mark_byte taken.mark) field else field)
-by-spell taken field false e = inl refl
-by-spell taken field true e = inr (inl (refl, keeps-value (form_of taken) field e))
+-- a number that isn't rounded and isn't too long fits
+fits : (limit : Option Limit) (up down : ℕ) (digits : List ℕ) (is_same : Bool) → rounds limit ≡ false
+    → is_long (change_by (fit_by limit up down digits) is_same) ≡ false → fit_by limit up down digits ≡ fit.Whole
+fits None up down digits is_same r l = refl
+fits (Some limit) up down digits is_same r l = elim (cases_Bool (list_any is_nonzero (dropped (excess limit (down - up)) (spread up down digits)))) [
+  | inl past ↦ cc (rw (past, r) at l)
+  | inr none ↦ rw none refl
+]
 
-by-mark : (taken : Rules) (field : List ℕ) (b : Bool) → is_mark taken.missing.now field ≡ b
-    → Keeps taken true field (if b then [] else (if spells (form_of taken) field then plain (mark_byte taken.mark) field else field))
-by-mark taken field true e = inr (inr (refl, e, refl))
-by-mark taken field false e = by-spell taken field (spells (form_of taken) field) refl
+by-spell : (taken : Rules) (field : List ℕ) → rounds taken.limit ≡ false → (b : Bool) → spells (form_of taken) field ≡ b
+    → is_long (if b then spelled_change taken field else change.Kept) ≡ false
+    → Keeps taken true field (if b then number_text taken.limit (mark_byte taken.mark) field else field)
+by-spell taken field r false e l = inl refl
+by-spell taken field r true e l =
+    let mark = mark_byte taken.mark in
+    let whole = fits taken.limit (value_of mark field).up (value_of mark field).down (digits_in (mantissa field))
+        (bytes_eq (number_text taken.limit mark field) field) r l in
+    inr (inl (refl, rw e at (keeps-worth taken.limit (form_of taken) field e whole)))
 
-bare-kept : (taken : Rules) → taken.trims ≡ false → (is_number : Bool) (field : List ℕ) → Keeps taken is_number field (field_made taken is_number field)
-bare-kept taken t false field = inl (rw t refl)
-bare-kept taken t true field = rw t (by-mark taken field (is_mark taken.missing.now field) refl)
+by-mark : (taken : Rules) (field : List ℕ) → rounds taken.limit ≡ false → (b : Bool) → is_mark taken.missing.now field ≡ b
+    → is_long (if b then mark_change field else (if spells (form_of taken) field then spelled_change taken field else change.Kept)) ≡ false
+    → Keeps taken true field (if b then [] else number_made taken.limit (form_of taken) field)
+by-mark taken field r true e l = inr (inr (refl, e, refl))
+by-mark taken field r false e l = by-spell taken field r (spells (form_of taken) field) refl l
+
+bare-kept : (taken : Rules) → taken.trims ≡ false → rounds taken.limit ≡ false → (is_number : Bool) (field : List ℕ)
+    → is_long (field_change taken is_number field) ≡ false → Keeps taken is_number field (field_made taken is_number field)
+bare-kept taken t r false field l = inl (rw t refl)
+bare-kept taken t r true field l = rw t (by-mark taken field r (is_mark taken.missing.now field) refl (rw t at l))
 
 pub keeps-fields : KeepsFields
-keeps-fields asked look taken is untrimmed = bare-kept taken (same-trims asked.numbers.now (shaped asked look) (reading_of look.survey) (look_places look) taken is ∙ untrimmed)
+keeps-fields asked look taken is untrimmed unrounded =
+    bare-kept taken (same-trims asked.numbers.now (shaped asked look) (reading_of look.survey) (look_places look) taken is ∙ untrimmed)
+    (ap rounds (same-limit asked.numbers.now (shaped asked look) (reading_of look.survey) (look_places look) taken is) ∙ unrounded)
 
 -- ---- records
 
 some-none : {A : Type 0} (x : A) → Some x ≡ None → ⊥
 some-none x e = cc
 
-made-all : (at line : ℕ) (r : Result Record Cause) (rest : Outcome) (n : ℕ) → (rest.refusal ≡ None → length rest.rows ≡ n)
-    → (made_first at line r rest).refusal ≡ None → length (made_first at line r rest).rows ≡ suc n
-made-all at line (Err c) rest n k e = absurd (some-none _ e)
-made-all at line (Ok row) rest n k e = ap suc (k e)
+made-all : (at line : ℕ) (told : Tally) (r : Result Record Cause) (rest : Outcome) (n : ℕ) → (rest.report.refusal ≡ None → length rest.rows ≡ n)
+    → (made_first at line told r rest).report.refusal ≡ None → length (made_first at line told r rest).rows ≡ suc n
+made-all at line told (Err c) rest n k e = absurd (some-none _ e)
+made-all at line told (Ok row) rest n k e = ap suc (k e)
 
 -- a row more than a table has is refused
-unless-full : (full : Bool) (at line n : ℕ) (rest : Outcome) → (rest.refusal ≡ None → length rest.rows ≡ n)
-    → (if full then refused at (Some line) cause.TooManyRows else rest).refusal ≡ None
-    → length (if full then refused at (Some line) cause.TooManyRows else rest).rows ≡ n
-unless-full true at line n rest k e = absurd (some-none _ e)
-unless-full false at line n rest k e = k e
+unless-full : (full : Bool) (at line n : ℕ) (told : Tally) (rest : Outcome) → (rest.report.refusal ≡ None → length rest.rows ≡ n)
+    → (if full then all_done (refused_in at (Some line) cause.TooManyRows told) else rest).report.refusal ≡ None
+    → length (if full then all_done (refused_in at (Some line) cause.TooManyRows told) else rest).rows ≡ n
+unless-full true at line n told rest k e = absurd (some-none _ e)
+unless-full false at line n told rest k e = k e
 
-below-all : (rules : Rules) (names : ℕ) (picks : List Pick) (rows : List Lined) (at : ℕ) → (below rules names picks at rows).refusal ≡ None
-    → length (below rules names picks at rows).rows ≡ length rows
-below-all rules names picks [] at e = refl
-below-all rules names picks (r ∷ rows) at e =
-    let rest = below rules names picks (at + 1) rows in
+below-all : (rules : Rules) (names : ℕ) (picks : List Pick) (rows : List Lined) (at : ℕ) (told : Tally) → (below rules names picks at told rows).report.refusal ≡ None
+    → length (below rules names picks at told rows).rows ≡ length rows
+below-all rules names picks [] at told e = refl
+below-all rules names picks (r ∷ rows) at told e =
+    let after = row_told rules names picks r told in
+    let rest = below rules names picks (at + 1) after rows in
     let full = at == number_past rules in
-    made-all at r.line (row_made rules names picks r.fields) (if full then refused at (Some r.line) cause.TooManyRows else rest) (length rows)
-    (unless-full full at r.line (length rows) rest (below-all rules names picks rows (at + 1))) e
+    made-all at r.line told (row_made rules names picks r.fields) (if full then all_done (refused_in at (Some r.line) cause.TooManyRows after) else rest) (length rows)
+    (unless-full full at r.line (length rows) after rest (below-all rules names picks rows (at + 1) after)) e
 
-picks-all : (rules : Rules) (names : Record) (line at : ℕ) (rows : List Lined) (found : Result (List Pick) Cause) → (under_picks rules names line at rows found).refusal ≡ None
+picks-all : (rules : Rules) (names : Record) (line at : ℕ) (rows : List Lined) (found : Result (List Pick) Cause) → (under_picks rules names line at rows found).report.refusal ≡ None
     → length (under_picks rules names line at rows found).rows ≡ suc (length rows)
 picks-all rules names line at rows (Err c) e = absurd (some-none _ e)
-picks-all rules names line at rows (Ok picks) e = ap suc (below-all rules (length names) picks rows at e)
+picks-all rules names line at rows (Ok picks) e = ap suc (below-all rules (length names) picks rows at no_tally e)
 
-under-all : (rules : Rules) (names : Record) (line at : ℕ) (rows : List Lined) → (under rules names line at rows).refusal ≡ None
+under-all : (rules : Rules) (names : Record) (line at : ℕ) (rows : List Lined) → (under rules names line at rows).report.refusal ≡ None
     → length (under rules names line at rows).rows ≡ suc (length rows)
 under-all rules names line at rows = picks-all rules names line at rows (named_picks rules names (picks_of rules names))
 
 by-names : (rules : Rules) (first : Lined) (rows : List Lined) (b : Bool)
-    → (if b then under rules first.fields first.line (rules.skip + 2) rows else under rules (counted_names (length first.fields)) first.line (rules.skip + 1) (first ∷ rows)).refusal ≡ None
+    → (if b then under rules first.fields first.line (rules.skip + 2) rows else under rules (counted_names (length first.fields)) first.line (rules.skip + 1) (first ∷ rows)).report.refusal ≡ None
     → length (if b then under rules first.fields first.line (rules.skip + 2) rows else under rules (counted_names (length first.fields)) first.line (rules.skip + 1) (first ∷ rows)).rows
     ≡ (if b then 0 else 1) + suc (length rows)
 by-names rules first rows true e = under-all rules first.fields first.line (rules.skip + 2) rows e ∙ omega arith
 by-names rules first rows false e = under-all rules (counted_names (length first.fields)) first.line (rules.skip + 1) (first ∷ rows) e ∙ omega arith
 
-kept-all : (rules : Rules) (rows : List Lined) → (kept rules rows).refusal ≡ None → length (kept rules rows).rows ≡ (if rules.has_names then 0 else 1) + length rows
+kept-all : (rules : Rules) (rows : List Lined) → (kept rules rows).report.refusal ≡ None → length (kept rules rows).rows ≡ (if rules.has_names then 0 else 1) + length rows
 kept-all rules [] e = absurd (some-none _ e)
 kept-all rules (first ∷ rows) e = by-names rules first rows rules.has_names e
 
-prepared-all : (rules : Rules) (rows : List Lined) → rules.skip ≡ 0 → (prepared rules rows).refusal ≡ None
+prepared-all : (rules : Rules) (rows : List Lined) → rules.skip ≡ 0 → (prepared rules rows).report.refusal ≡ None
     → length (prepared rules rows).rows ≡ (if rules.has_names then 0 else 1) + length rows
-prepared-all rules rows s = subst (λ n. (kept rules (drop n rows)).refusal ≡ None → length (kept rules (drop n rows)).rows ≡ (if rules.has_names then 0 else 1) + length rows)
+prepared-all rules rows s = subst (λ n. (kept rules (drop n rows)).report.refusal ≡ None → length (kept rules (drop n rows)).rows ≡ (if rules.has_names then 0 else 1) + length rows)
     (sym s) (kept-all rules rows)
 
 pub keeps-records : KeepsRecords

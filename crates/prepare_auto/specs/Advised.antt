@@ -10,14 +10,17 @@ use Rattle.prepare_page.specs.declared.hint.Hint.{Hint}
 use Rattle.prepare_page.specs.declared.look.Look.{Look}
 use Rattle.prepare_page.specs.declared.marks.TheConstants.{MARKS}
 use Rattle.prepare_rules.specs.Outcome.{IsPrepared}
+use Rattle.prepare_rules.specs.Tally.{no_tally}
 use Rattle.prepare_rules.specs.declared.cause.Refusal.{Refusal}
 use Rattle.prepare_rules.specs.declared.failure.Failure.{Failure}
 use Rattle.prepare_rules.specs.declared.failure.Failure.TheVariants as failure
+use Rattle.prepare_rules.specs.declared.report.Report.{Report}
 use Rattle.prepare_rules.specs.declared.rules.Column.{Column}
 use Rattle.prepare_rules.specs.declared.rules.Column.TheVariants.{Placed}
 use Rattle.prepare_rules.specs.declared.rules.Mark.{Mark}
 use Rattle.prepare_rules.specs.declared.rules.Mark.TheVariants as mark
 use Rattle.prepare_rules.specs.declared.rules.Rules.{Rules}
+use Rattle.prepare_auto.specs.declared.ending.Ending.{Ending}
 use Rattle.prepare_auto.specs.declared.given.Given.{Given}
 use Rattle.prepare_auto.specs.declared.stop.Stop.{Stop}
 use Rattle.prepare_auto.specs.declared.stop.Stop.TheVariants.{Record, Titles}
@@ -73,31 +76,38 @@ IsAdvised asked look taken = IsAdvice asked look (reading_of look.survey)
     (places_below (needs_rules look.survey (reading_of look.survey)) look.survey.width) taken
 
 -- these rules were taken, and made this of a text
-pub record IsDone (asked : Rules) (look : Look) (text : List ℕ) (refusal : Option Refusal)
+pub record IsDone (asked : Rules) (look : Look) (text : List ℕ) (report : Report)
     (old new : Option (List ℕ)) : Type 0 where
   pub taken : Rules
   pub advised : IsAdvised asked look taken
-  pub made : IsPrepared taken (Some text) refusal old new
+  pub made : IsPrepared taken (Some text) report old new
 
 abbrev pub stop_of : Option Refusal → Option Stop
 stop_of None = None
 stop_of (Some refusal) = Some (Record refusal)
+
+abbrev pub ending_of : Report → Ending
+ending_of report = record { tally = report.tally; stop = stop_of report.refusal }
+
+-- nothing is done
+abbrev pub only_titles : Look → Ending
+only_titles look = record { tally = no_tally; stop = Some (Titles look.titles look.first.line) }
 
 -- records that weren't asked to be left out seem to be titles
 abbrev pub has_titles : Given → Look → Bool
 has_titles given look = not given.skip && nat_lt 0 look.titles
 
 -- where records seem to be titles nothing is written; else the rules of the look made this of a text
-abbrev pub Came : Bool → Rules → Look → List ℕ → Option Stop → Option (List ℕ) → Option (List ℕ) → Type 0
-Came true asked look text stop old new = (stop ≡ Some (Titles look.titles look.first.line)) × (new ≡ old)
-Came false asked look text stop old new =
-    (refusal : Option Refusal) × (stop ≡ stop_of refusal) × IsDone asked look text refusal old new
+abbrev pub Came : Bool → Rules → Look → List ℕ → Ending → Option (List ℕ) → Option (List ℕ) → Type 0
+Came true asked look text ending old new = (ending ≡ only_titles look) × (new ≡ old)
+Came false asked look text ending old new =
+    (report : Report) × (ending ≡ ending_of report) × IsDone asked look text report old new
 
 -- A TEXT WAS WRITTEN as a look at it says
-pub record IsWritten (asked : Rules) (given : Given) (text : List ℕ) (look : Look) (stop : Option Stop)
+pub record IsWritten (asked : Rules) (given : Given) (text : List ℕ) (look : Look) (ending : Ending)
     (old new : Option (List ℕ)) : Type 0 where
   pub seen : IsLookBy (hint_of given asked) text look
-  pub came : Came (has_titles given look) asked look text stop old new
+  pub came : Came (has_titles given look) asked look text ending old new
 
 -- what breaks off a look
 abbrev pub failure_of : Broken → Failure

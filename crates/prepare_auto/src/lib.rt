@@ -3,11 +3,13 @@
 #![tactic(auto)]
 
 mod advice;
+mod ending;
 mod given;
 mod laws;
 mod stop;
 mod writing;
 
+pub use ending::Ending;
 pub use given::Given;
 pub use laws::{fields_keep_their_value, records_are_kept};
 pub use stop::Stop;

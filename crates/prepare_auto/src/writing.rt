@@ -5,11 +5,12 @@ ghost use Rattle.prepare_page.specs.declared.counts.TheConstants.{WIDEST};
 ghost use Rattle.prepare_auto.specs.Advised.{IsDone, IsWritten, failure_of, has_titles, hint_of};
 
 use crate::advice::{advised, numbers_of};
+use crate::ending::Ending;
 use crate::given::Given;
-use crate::stop::{Stop, stop_of};
+use crate::stop::Stop;
 use prepare_look::Failure as Broken;
 use prepare_page::{Look, look_by, reading_of};
-use prepare_rules::{Failure, Refusal, Rules, prepare};
+use prepare_rules::{Failure, Report, Rules, Tally, prepare};
 use std::alloc::Global;
 use std::io::Write;
 
@@ -36,7 +37,7 @@ fn write_by<W: Write + Drop>(
     look: &Look,
     text: &[u8],
     output: W,
-) -> Result<(W, Option<Refusal>), Failure>
+) -> Result<(W, Report), Failure>
     requires { look.now.survey.width ≤ WIDEST }
     ensures { IfOk result (λ p. IsDone asked.now look.now text.now p.1 (W.contents output) (W.contents p.0)) }
 {
@@ -48,7 +49,8 @@ fn write_by<W: Write + Drop>(
 
 /// Writes to the output what `coop_cli` takes of a text in UTF-8 or the like: what the rules that are asked for make of
 /// it, and with them those that a look at it gives, where none are asked for. These change no value and leave out no
-/// record. Gives the output back with why it isn't written to its end, if it isn't, and with the look.
+/// record. Gives the output back with what was done and why it isn't written to its end, if it isn't, and with the
+/// look.
 ///
 /// # Errors
 ///
@@ -59,7 +61,7 @@ pub fn write_auto<W: Write + Drop>(
     given: Given,
     text: &[u8],
     output: W,
-) -> Result<(W, Option<Stop>, Look), Failure>
+) -> Result<(W, Ending, Look), Failure>
     ensures { IfOk result (λ p. IsWritten asked.now given text.now p.2 p.1 (W.contents output) (W.contents p.0)) }
 {
     let look = match look_by(alloc, given.hint(asked), text) {
@@ -68,8 +70,12 @@ pub fn write_auto<W: Write + Drop>(
     };
     if has_titles(given, &look) {
         let (records, line) = (look.titles, look.first.line);
-        return Ok((output, Some(Stop::Titles { records, line }), look));
+        let ending = Ending {
+            tally: Tally::none(),
+            stop: Some(Stop::Titles { records, line }),
+        };
+        return Ok((output, ending, look));
     }
     let done = write_by(alloc, asked, &look, text, output)?;
-    Ok((done.0, stop_of(done.1), look))
+    Ok((done.0, Ending::of(done.1), look))
 }

@@ -15,7 +15,7 @@ use Rattle.csv_load.specs.declared.refusal.LoadRefusal.TheVariants as load
 use Rattle.table_sets.specs.declared.limits.TheConstants.{MOST_COLUMNS, MOST_ROWS}
 use Rattle.prepare_rules.specs.Columns.{is_few, place_from}
 use Rattle.prepare_rules.specs.Names.{begins_marked, name_refusal, names_refusal, or_cause}
-use Rattle.prepare_rules.specs.Outcome.{AreWide, IsTable, is_full, marks_of, prepared, rows_text}
+use Rattle.prepare_rules.specs.Outcome.{AreWide, IsTable, is_full, marks_of, prepared, rows_text, unrefused}
 use Rattle.prepare_rules.specs.Records.{Record}
 use Rattle.prepare_rules.specs.declared.cause.Cause.{Cause}
 use Rattle.prepare_rules.specs.declared.cause.Refusal.{Refusal}
@@ -116,10 +116,10 @@ stripped ((n ∷ names) ∷ rows) refusal t =
 reads-made : (rules : Rules) (rows : List Lined) → table_records (rows_text (prepared rules rows).rows) ≡ (prepared rules rows).rows
 reads-made rules rows =
     let made = prepared rules rows in
-    ap (records default_config) (stripped made.rows made.refusal (is-table rules rows)) ∙ reads-back rules rows
+    ap (records default_config) (stripped made.rows made.report.refusal (is-table rules rows)) ∙ reads-back rules rows
 
 pub reads-records : ReadsTheRecords
-reads-records rules export refusal written h = rw h.1 (reads-made rules (text_records (marks_of rules) export))
+reads-records rules export report written h = rw h.1 (reads-made rules (text_records (marks_of rules) export))
 
 -- ---- what is written
 
@@ -128,9 +128,9 @@ whole [] t = absurd (t refl)
 whole (names ∷ rows) t = table-judged names rows None t
 
 pub loads : Loads
-loads rules export written h =
+loads rules export written told h =
     let made = prepared rules (text_records (marks_of rules) export) in
-    rw (reads-records rules export None written h) (whole made.rows (rw (← h.0) at (is-table rules (text_records (marks_of rules) export))))
+    rw (reads-records rules export (unrefused told) written h) (whole made.rows (rw (← h.0) at (is-table rules (text_records (marks_of rules) export))))
 
 begun : (refusal : Refusal) (rows : List Record) (written : List ℕ) → IsTable rows (Some refusal) → written ≡ rows_text rows
     → (written ≡ []) ⊎ (refusal_of rows ≡ refusal_too refusal.cause)
@@ -139,7 +139,7 @@ begun refusal [] written t e = inl e
 begun refusal (names ∷ rows) written t e = inr (table-judged names rows (Some refusal) t)
 
 pub begins-load : BeginsLoad
-begins-load rules export written refusal h =
+begins-load rules export written told refusal h =
     let made = prepared rules (text_records (marks_of rules) export) in
-    rw (reads-records rules export (Some refusal) written h)
+    rw (reads-records rules export (record { tally = told; refusal = Some refusal }) written h)
     (begun refusal made.rows written (rw (← h.0) at (is-table rules (text_records (marks_of rules) export))) h.1)

@@ -61,3 +61,7 @@ mended r.CommaBlankParts = c.IN_COMMA_BLANKS
 -- THE RULES ON NUMBERS HAVE TO ACT in a column: it is one of numbers, and some field has to be written anew
 abbrev pub needs_rules : Survey → Reading → ℕ → Bool
 needs_rules s reading column = is_of s column (mended reading) (barred reading) && has s column c.NUMBERS
+
+-- some number of the column has more than nine places, and all else is numbers, empty or a mark for a missing value
+abbrev pub is_long : Survey → ℕ → Bool
+is_long s column = is_of s column c.LONG c.NOT_LONG

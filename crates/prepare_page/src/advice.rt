@@ -78,6 +78,28 @@ pub const NUMBERS: [Kind; 9] = [
 /// Marks for missing values.
 pub const MISSING: [Kind; 1] = [Kind::Missing];
 
+/// Fields with more digits behind the point than `coop_cli` takes.
+pub const LONG: [Kind; 1] = [Kind::Long];
+
+/// What no column of them has.
+pub const NOT_LONG: [Kind; 15] = [
+    Kind::Comma,
+    Kind::PointGroups,
+    Kind::BlankComma,
+    Kind::CommaGroups,
+    Kind::Either,
+    Kind::BlankGroups,
+    Kind::Leading,
+    Kind::Currency,
+    Kind::Percent,
+    Kind::IsoDate,
+    Kind::DayFirst,
+    Kind::MonthFirst,
+    Kind::EitherDate,
+    Kind::Padded,
+    Kind::Text,
+];
+
 /// What stays a text with a decimal point and nothing that parts thousands.
 pub const NOT_IN_POINT: [Kind; 19] = [
     Kind::Comma,
@@ -347,6 +369,21 @@ impl Reading {
             },
         }
     }
+}
+
+/// Whether a column is one of numbers, empty fields and marks for missing values, and some number has more than nine
+/// digits behind a decimal point.
+pub(crate) fn is_long(survey: &Survey, column: usize) -> bool
+    ensures { result ≡ spec.is_long survey.now column }
+{
+    is_of(
+        survey,
+        column,
+        &Sort {
+            some: &LONG,
+            none: &NOT_LONG,
+        },
+    )
 }
 
 /// Whether the rules on numbers have to act in a column: each field is empty, a mark for a missing value, or a number

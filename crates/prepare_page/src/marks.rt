@@ -1,5 +1,5 @@
 // Which marks for missing values stand in columns of numbers.
-use crate::advice::{Reading, needs_rules};
+use crate::advice::{Reading, is_long, needs_rules};
 use csv::ByteRecord;
 use prepare_look::{Failure, Marks, Rows, Survey, field_or_none, skip_rows};
 use std::alloc::{AllocError, Global};
@@ -24,6 +24,40 @@ pub(crate) fn columns_of(
     let mut columns = Vec::new(alloc);
     for column in 0..MOST_COLUMNS {
         if column < survey.width && needs_rules(survey, reading, column) {
+            columns.push(column)?;
+        }
+    }
+    Ok(columns)
+}
+
+/// The columns, from 0, that have numbers with more than nine places behind a decimal point, of those that `coop_cli`
+/// could take; none where the decimal mark is a comma.
+pub(crate) fn long_of(
+    alloc: Global,
+    survey: &Survey,
+    reading: Reading,
+) -> Result<Vec<usize>, AllocError> {
+    let mut columns = Vec::new(alloc);
+    if reading.has_comma() {
+        return Ok(columns);
+    }
+    for column in 0..MOST_COLUMNS {
+        if column < survey.width && is_long(survey, column) {
+            columns.push(column)?;
+        }
+    }
+    Ok(columns)
+}
+
+/// The columns of both lists, each in its order, in one.
+pub(crate) fn joined(
+    alloc: Global,
+    these: &[usize],
+    those: &[usize],
+) -> Result<Vec<usize>, AllocError> {
+    let mut columns = Vec::new(alloc);
+    for column in 0..MOST_COLUMNS {
+        if these.contains(&column) || those.contains(&column) {
             columns.push(column)?;
         }
     }

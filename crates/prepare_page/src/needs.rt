@@ -115,11 +115,19 @@ impl Words<'_> {
         Ok(())
     }
 
+    // The columns in which the rules on numbers have to act.
+    fn columns(&self) -> &[usize] {
+        if self.is_asked {
+            return self.page.asked.as_slice();
+        }
+        self.page.columns.as_slice()
+    }
+
     fn write_numbers<W: fmt::Write>(&self, f: &mut fmt::Formatter<W>) -> fmt::Result {
-        if self.page.columns.is_empty() {
+        if self.columns().is_empty() {
             return Ok(());
         }
-        let places = Places(self.page.columns.as_slice());
+        let places = Places(self.columns());
         write!(f, " --numbers {places}")?;
         if self.page.reading.has_comma() {
             f.write_str(" --decimal-comma")?;
@@ -131,9 +139,18 @@ impl Words<'_> {
         self.write_marks(f)
     }
 
+    // The marks for missing values that stand in them.
+    fn marks(&self) -> &[bool] {
+        if self.is_asked {
+            return self.page.asked_marks.as_slice();
+        }
+        self.page.marks.as_slice()
+    }
+
     fn write_marks<W: fmt::Write>(&self, f: &mut fmt::Formatter<W>) -> fmt::Result {
+        let marks = self.marks();
         for i in 0..MARKS.len() {
-            if i < self.page.marks.len() && self.page.marks[i] {
+            if i < marks.len() && marks[i] {
                 let mark = Quoted(MARKS[i]);
                 write!(f, " --missing={mark}")?;
             }
@@ -142,6 +159,12 @@ impl Words<'_> {
     }
 
     fn write_asked<W: fmt::Write>(&self, f: &mut fmt::Formatter<W>) -> fmt::Result {
+        if !self.page.long.is_empty() {
+            if self.page.has_exponents() {
+                f.write_str(" --exponents")?;
+            }
+            f.write_str(" --places 9 --round")?;
+        }
         if self.page.look.survey.short.count > 0 {
             f.write_str(" --ragged pad")?;
         }
@@ -186,7 +209,17 @@ impl Page<'_> {
 
     // Whether something has to be asked for.
     fn asks(&self) -> bool {
-        self.has_many() || self.look.survey.short.count > 0
+        self.has_many() || self.look.survey.short.count > 0 || !self.long.is_empty()
+    }
+
+    // Whether a power of ten stands behind some number of the columns with long numbers.
+    fn has_exponents(&self) -> bool {
+        for i in 0..self.long.len() {
+            if self.look.survey.seen(self.long[i], Kind::Exponent).count > 0 {
+                return true;
+            }
+        }
+        false
     }
 }
 
@@ -198,6 +231,13 @@ impl Needs<'_> {
             writeln!(
                 f,
                 "to be asked for: --columns, since coop_cli takes 16 of these {columns}; the others are left out"
+            )?;
+        }
+        if !self.page.long.is_empty() {
+            let places = Places(self.page.long.as_slice());
+            writeln!(
+                f,
+                "to be asked for: --places 9 --round, since columns have numbers with more places, which are rounded: {places}"
             )?;
         }
         let (short, line) = (look.survey.short.count, look.survey.short.line);

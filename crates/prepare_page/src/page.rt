@@ -2,7 +2,7 @@
 use crate::advice::{Reading, reading_of};
 use crate::columns_told::ColumnTold;
 use crate::look::Look;
-use crate::marks::{columns_of, marks_in};
+use crate::marks::{columns_of, joined, long_of, marks_in};
 use crate::needs::Needs;
 use crate::quoting::Quoted;
 use prepare_decode::Encoding;
@@ -24,6 +24,11 @@ pub struct Page<'a> {
     pub(crate) columns: Vec<usize>,
     // The marks for missing values that stand in them.
     pub(crate) marks: Vec<bool>,
+    // Those that have numbers with more than nine places.
+    pub(crate) long: Vec<usize>,
+    // Both, where these numbers are to be rounded, and the marks for missing values that stand in them.
+    pub(crate) asked: Vec<usize>,
+    pub(crate) asked_marks: Vec<bool>,
 }
 
 /// The page of an export whose characters are written so, by its text in UTF-8 and all that is seen of it; where runs of
@@ -41,6 +46,9 @@ pub fn page_of<'a>(
     let columns = columns_of(alloc, &look.survey, reading)?;
     let skip = look.below;
     let marks = marks_in(alloc, look.marks(), text, skip, columns.as_slice())?;
+    let long = long_of(alloc, &look.survey, reading)?;
+    let asked = joined(alloc, columns.as_slice(), long.as_slice())?;
+    let asked_marks = marks_in(alloc, look.marks(), text, skip, asked.as_slice())?;
     Ok(Page {
         file,
         encoding,
@@ -49,6 +57,9 @@ pub fn page_of<'a>(
         reading,
         columns,
         marks,
+        long,
+        asked,
+        asked_marks,
     })
 }
 

@@ -50,4 +50,4 @@ table-filled (names ∷ rows) refusal t = let lt = few-some (length names) t.0 i
 pub reads-back : ReadsBack
 reads-back rules rows =
     let made = prepared rules rows in
-    read-all made.rows ∙ back-all made.rows (table-filled made.rows made.refusal (is-table rules rows))
+    read-all made.rows ∙ back-all made.rows (table-filled made.rows made.report.refusal (is-table rules rows))

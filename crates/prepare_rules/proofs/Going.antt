@@ -7,18 +7,20 @@ use Rattle.std.specs.Prelude.{IfOk, Result, Ok, Err, option_map}
 use Rattle.csv.specs.Writing.{default_writer, row_text}
 use Rattle.prepare_rules.proofs.Choosing.{first-of, second-of}
 use Rattle.prepare_rules.specs.Columns.{names_written}
-use Rattle.prepare_rules.specs.Made.{IsMade, row_made}
-use Rattle.prepare_rules.specs.Outcome.{Becomes, Begins, IsPrepared, Outcome, below, counted_names, from_first, marks_of, number_past, prepared, rows_text, under}
+use Rattle.prepare_rules.specs.Made.{IsRowMade, row_made, row_told}
+use Rattle.prepare_rules.specs.Outcome.{Becomes, Begins, IsPrepared, Outcome, below, counted_names, from_first, marks_of, number_past, prepared, refused_first, refused_in, rows_text, under, unrefused}
 use Rattle.prepare_rules.specs.Records.{IsLeft, Record}
+use Rattle.prepare_rules.specs.Tally.{no_tally}
 use Rattle.prepare_text.specs.Source.{IsOver, Stays, Takes}
 use Rattle.prepare_text.specs.Walk.{Lined, text_records}
 use Rattle.prepare_rules.specs.declared.cause.Cause.{Cause}
-use Rattle.prepare_rules.specs.declared.cause.Refusal.{Refusal}
 use Rattle.prepare_rules.specs.declared.cause.Cause.TheVariants as cause
 use Rattle.prepare_rules.specs.declared.columns.Pick.{Pick}
 use Rattle.prepare_rules.specs.declared.columns.Plan.{Plan}
 use Rattle.prepare_rules.specs.declared.failure.Failure.{Failure}
+use Rattle.prepare_rules.specs.declared.report.Report.{Report}
 use Rattle.prepare_rules.specs.declared.rules.Rules.{Rules}
+use Rattle.prepare_rules.specs.declared.tally.Tally.{Tally}
 use Rattle.table_sets.specs.declared.limits.TheConstants.{MOST_ROWS}
 
 -- ---- records that are left out
@@ -75,31 +77,34 @@ stays (Some t) = sym (append-nil t)
 -- ---- what records come to
 
 -- one record is read, made and written
-pub below-next : (rules : Rules) (names : ℕ) (picks : List Pick) (at : ℕ) (old now : Option (List Lined)) (f : Lined) (row : Record) (refusal : Option Refusal) (text mid new : Option (List ℕ))
+pub below-next : (rules : Rules) (names : ℕ) (picks : List Pick) (at : ℕ) (told : Tally) (old now : Option (List Lined)) (f : Lined) (row : Record) (report : Report) (text mid new : Option (List ℕ))
     → (at == number_past rules) ≡ false → Takes old f now → row_made rules names picks f.fields ≡ Ok row → Appends text mid (row_text default_writer row)
-    → Becomes (below rules names picks (at + 1)) now refusal mid new → Becomes (below rules names picks at) old refusal text new
+    → Becomes (below rules names picks (at + 1) (row_told rules names picks f told)) now report mid new → Becomes (below rules names picks at told) old report text new
 unfolding rows_text
-below-next rules names picks at None now f row refusal text mid new more t e a b = tt
-below-next rules names picks at (Some rows) None f row refusal text mid new more t e a b = absurd t
-below-next rules names picks at (Some rows) (Some rest) f row refusal text mid new more t e a b =
-    rw (t, e, more) (b.0, grows text mid new (row_text default_writer row) (rows_text (below rules names picks (at + 1) rest).rows) a b.1)
+below-next rules names picks at told None now f row report text mid new more t e a b = tt
+below-next rules names picks at told (Some rows) None f row report text mid new more t e a b = absurd t
+below-next rules names picks at told (Some rows) (Some rest) f row report text mid new more t e a b =
+    rw (t, e, more) (
+      b.0,
+      grows text mid new (row_text default_writer row) (rows_text (below rules names picks (at + 1) (row_told rules names picks f told) rest).rows) a b.1,
+    )
 
 -- one record is read, made and written, and is one row too many
-pub below-full : (rules : Rules) (names : ℕ) (picks : List Pick) (at : ℕ) (old now : Option (List Lined)) (f : Lined) (row : Record) (text new : Option (List ℕ))
+pub below-full : (rules : Rules) (names : ℕ) (picks : List Pick) (at : ℕ) (told : Tally) (old now : Option (List Lined)) (f : Lined) (row : Record) (text new : Option (List ℕ))
     → (at == number_past rules) ≡ true → Takes old f now → row_made rules names picks f.fields ≡ Ok row → Appends text new (row_text default_writer row)
-    → Becomes (below rules names picks at) old (Some (record { number = at; line = Some f.line; cause = cause.TooManyRows })) text new
+    → Becomes (below rules names picks at told) old (refused_in at (Some f.line) cause.TooManyRows (row_told rules names picks f told)) text new
 unfolding rows_text
-below-full rules names picks at None now f row text new full t e a = tt
-below-full rules names picks at (Some rows) None f row text new full t e a = absurd t
-below-full rules names picks at (Some rows) (Some rest) f row text new full t e a = rw (t, e, full) (refl, grows text new new (row_text default_writer row) [] a (stays new))
+below-full rules names picks at told None now f row text new full t e a = tt
+below-full rules names picks at told (Some rows) None f row text new full t e a = absurd t
+below-full rules names picks at told (Some rows) (Some rest) f row text new full t e a = rw (t, e, full) (refl, grows text new new (row_text default_writer row) [] a (stays new))
 
 -- one record is read and refused
-pub below-refused : (rules : Rules) (names : ℕ) (picks : List Pick) (at : ℕ) (old now : Option (List Lined)) (f : Lined) (c : Cause) (text : Option (List ℕ))
-    → Takes old f now → row_made rules names picks f.fields ≡ Err c → Becomes (below rules names picks at) old (Some (record { number = at; line = Some f.line; cause = c })) text text
+pub below-refused : (rules : Rules) (names : ℕ) (picks : List Pick) (at : ℕ) (told : Tally) (old now : Option (List Lined)) (f : Lined) (c : Cause) (text : Option (List ℕ))
+    → Takes old f now → row_made rules names picks f.fields ≡ Err c → Becomes (below rules names picks at told) old (refused_in at (Some f.line) c told) text text
 unfolding rows_text
-below-refused rules names picks at None now f c text t e = tt
-below-refused rules names picks at (Some rows) None f c text t e = absurd t
-below-refused rules names picks at (Some rows) (Some rest) f c text t e = rw (t, e) (refl, stays text)
+below-refused rules names picks at told None now f c text t e = tt
+below-refused rules names picks at told (Some rows) None f c text t e = absurd t
+below-refused rules names picks at told (Some rows) (Some rest) f c text t e = rw (t, e) (refl, stays text)
 
 -- the first record that is kept is no row too many
 pub first-counts : (rules : Rules) → ((rules.skip + 1) == number_past rules) ≡ false
@@ -109,38 +114,38 @@ first-counts rules = elim (cases_Bool rules.has_names) [
 ]
 
 -- there is no more record
-pub below-over : (rules : Rules) (names : ℕ) (picks : List Pick) (at : ℕ) (old : Option (List Lined)) (text : Option (List ℕ))
-    → IsOver old → Becomes (below rules names picks at) old None text text
+pub below-over : (rules : Rules) (names : ℕ) (picks : List Pick) (at : ℕ) (told : Tally) (old : Option (List Lined)) (text : Option (List ℕ))
+    → IsOver old → Becomes (below rules names picks at told) old (unrefused told) text text
 unfolding rows_text
-below-over rules names picks at None text over = tt
-below-over rules names picks at (Some rows) text over = rw over (refl, stays text)
+below-over rules names picks at told None text over = tt
+below-over rules names picks at told (Some rows) text over = rw over (refl, stays text)
 
--- what was made of a record, by whether it was refused
-pub made-is : (r : Result Record Cause) (made : Record) → IsMade r None made → r ≡ Ok made
-made-is (Ok row) made is = ap Ok (sym is.1)
-made-is (Err c) made is = cc is
+-- what was made of a record, and is told with it; or why it was refused
+pub made-is : (r : Result Record Cause) (after told : Tally) (made : Record) → IsRowMade r after (Ok told) made → (r ≡ Ok made) × (told ≡ after)
+made-is (Ok row) after told made is = (ap Ok (sym is.1), is.0)
+made-is (Err c) after told made is = absurd is
 
-pub refused-is : (r : Result Record Cause) (c : Cause) (made : Record) → IsMade r (Some c) made → r ≡ Err c
-refused-is (Ok row) c made is = cc is.0
-refused-is (Err d) c made is = ap Err (cc is)
+pub refused-is : (r : Result Record Cause) (after : Tally) (c : Cause) (made : Record) → IsRowMade r after (Err c) made → r ≡ Err c
+refused-is (Ok row) after c made is = absurd is
+refused-is (Err d) after c made is = ap Err (sym is)
 
 -- the names are written, and then the records below them
-pub under-ok : (rules : Rules) (names : Record) (line at : ℕ) (plan : Plan) (rows : Option (List Lined)) (refusal : Option Refusal) (old mid new : Option (List ℕ))
-    → Begins rules names (Ok plan) old mid → Becomes (below rules plan.names plan.picks.items at) rows refusal mid new
-    → Becomes (under rules names line at) rows refusal old new
+pub under-ok : (rules : Rules) (names : Record) (line at : ℕ) (plan : Plan) (rows : Option (List Lined)) (report : Report) (old mid new : Option (List ℕ))
+    → Begins rules names (Ok plan) old mid → Becomes (below rules plan.names plan.picks.items at no_tally) rows report mid new
+    → Becomes (under rules names line at) rows report old new
 unfolding rows_text
-under-ok rules names line at plan None refusal old mid new is b = tt
-under-ok rules names line at plan (Some rows) refusal old mid new is b =
+under-ok rules names line at plan None report old mid new is b = tt
+under-ok rules names line at plan (Some rows) report old mid new is b =
     let h = rw is.1 at b in
     rw is.0 (
       h.0,
       grows old mid new (row_text default_writer (names_written rules names plan.picks.items))
-          (rows_text (below rules (length names) plan.picks.items at rows).rows) is.2 h.1,
+          (rows_text (below rules (length names) plan.picks.items at no_tally rows).rows) is.2 h.1,
     )
 
 -- no columns are found
 pub under-err : (rules : Rules) (names : Record) (line at : ℕ) (c : Cause) (rows : Option (List Lined)) (old new : Option (List ℕ))
-    → Begins rules names (Err c) old new → Becomes (under rules names line at) rows (Some (record { number = rules.skip + 1; line = Some line; cause = c })) old new
+    → Begins rules names (Err c) old new → Becomes (under rules names line at) rows (refused_first rules.skip (Some line) c) old new
 unfolding rows_text
 under-err rules names line at c None old new is = tt
 under-err rules names line at c (Some rows) old new is = rw (is.0, is.1) (refl, stays old)
@@ -153,45 +158,45 @@ pub first-takes : (first : Lined) (rows : Option (List Lined)) → Takes (with_f
 first-takes first None = tt
 first-takes first (Some rows) = refl
 
-pub from-under : (rules : Rules) (first : Lined) (rows : Option (List Lined)) (refusal : Option Refusal) (old new : Option (List ℕ))
-    → Becomes (under rules (counted_names (length first.fields)) first.line (rules.skip + 1)) (with_first first rows) refusal old new → Becomes (from_first rules first) rows refusal old new
-from-under rules first None refusal old new b = tt
-from-under rules first (Some rows) refusal old new b = b
+pub from-under : (rules : Rules) (first : Lined) (rows : Option (List Lined)) (report : Report) (old new : Option (List ℕ))
+    → Becomes (under rules (counted_names (length first.fields)) first.line (rules.skip + 1)) (with_first first rows) report old new → Becomes (from_first rules first) rows report old new
+from-under rules first None report old new b = tt
+from-under rules first (Some rows) report old new b = b
 
 -- the records that aren't left out
 pub none-kept : (rules : Rules) (rows : Option (List Lined)) (text : Option (List ℕ)) → IsOver (option_map (drop rules.skip) rows)
-    → Becomes (prepared rules) rows (Some (record { number = rules.skip + 1; line = None; cause = cause.NoHeader })) text text
+    → Becomes (prepared rules) rows (refused_first rules.skip None cause.NoHeader) text text
 unfolding rows_text
 none-kept rules None text over = tt
 none-kept rules (Some rows) text over = rw over (refl, stays text)
 
-pub kept-under : (rules : Rules) (first : Lined) (rows left : Option (List Lined)) (refusal : Option Refusal) (old new : Option (List ℕ))
+pub kept-under : (rules : Rules) (first : Lined) (rows left : Option (List Lined)) (report : Report) (old new : Option (List ℕ))
     → Takes (option_map (drop rules.skip) rows) first left → rules.has_names ≡ true
-    → Becomes (under rules first.fields first.line (rules.skip + 2)) left refusal old new → Becomes (prepared rules) rows refusal old new
-kept-under rules first None left refusal old new t has b = tt
-kept-under rules first (Some rows) None refusal old new t has b = absurd t
-kept-under rules first (Some rows) (Some left) refusal old new t has b =
+    → Becomes (under rules first.fields first.line (rules.skip + 2)) left report old new → Becomes (prepared rules) rows report old new
+kept-under rules first None left report old new t has b = tt
+kept-under rules first (Some rows) None report old new t has b = absurd t
+kept-under rules first (Some rows) (Some left) report old new t has b =
     rw (t, first-of rules.has_names (under rules first.fields first.line (rules.skip + 2) left) (from_first rules first left) has) b
 
-pub kept-from : (rules : Rules) (first : Lined) (rows left : Option (List Lined)) (refusal : Option Refusal) (old new : Option (List ℕ))
+pub kept-from : (rules : Rules) (first : Lined) (rows left : Option (List Lined)) (report : Report) (old new : Option (List ℕ))
     → Takes (option_map (drop rules.skip) rows) first left → rules.has_names ≡ false
-    → Becomes (from_first rules first) left refusal old new → Becomes (prepared rules) rows refusal old new
-kept-from rules first None left refusal old new t has b = tt
-kept-from rules first (Some rows) None refusal old new t has b = absurd t
-kept-from rules first (Some rows) (Some left) refusal old new t has b =
+    → Becomes (from_first rules first) left report old new → Becomes (prepared rules) rows report old new
+kept-from rules first None left report old new t has b = tt
+kept-from rules first (Some rows) None report old new t has b = absurd t
+kept-from rules first (Some rows) (Some left) report old new t has b =
     rw (t, second-of rules.has_names (under rules first.fields first.line (rules.skip + 2) left) (from_first rules first left) has) b
 
 -- what comes of a call comes of its caller
-pub then-ok : (ideal whole : List Lined → Outcome) (rows all : Option (List Lined)) (mid old new : Option (List ℕ)) (r : Result (Option Refusal) Failure)
-    → ((refusal : Option Refusal) → Becomes ideal rows refusal mid new → Becomes whole all refusal old new)
-    → IfOk r (λ refusal. Becomes ideal rows refusal mid new) → IfOk r (λ refusal. Becomes whole all refusal old new)
-then-ok ideal whole rows all mid old new (Ok refusal) f h = f refusal h
+pub then-ok : (ideal whole : List Lined → Outcome) (rows all : Option (List Lined)) (mid old new : Option (List ℕ)) (r : Result Report Failure)
+    → ((report : Report) → Becomes ideal rows report mid new → Becomes whole all report old new)
+    → IfOk r (λ report. Becomes ideal rows report mid new) → IfOk r (λ report. Becomes whole all report old new)
+then-ok ideal whole rows all mid old new (Ok report) f h = f report h
 then-ok ideal whole rows all mid old new (Err e) f h = h
 
 -- the records of a text come of the text
-pub text_ok : (rules : Rules) (known : Option (List ℕ)) (rows : Option (List Lined)) (refusal : Option Refusal) (old mid new : Option (List ℕ))
-    → Stays (option_map (text_records (marks_of rules)) known) rows → Becomes (prepared rules) rows refusal old mid → Keeps mid new
-    → IsPrepared rules known refusal old new
-text_ok rules None rows refusal old mid new s b k = tt
-text_ok rules (Some text) None refusal old mid new s b k = absurd s
-text_ok rules (Some text) (Some rows) refusal old mid new s b k = rw (sym s) (b.0, ends-so old mid new (rows_text (prepared rules rows).rows) b.1 k)
+pub text_ok : (rules : Rules) (known : Option (List ℕ)) (rows : Option (List Lined)) (report : Report) (old mid new : Option (List ℕ))
+    → Stays (option_map (text_records (marks_of rules)) known) rows → Becomes (prepared rules) rows report old mid → Keeps mid new
+    → IsPrepared rules known report old new
+text_ok rules None rows report old mid new s b k = tt
+text_ok rules (Some text) None report old mid new s b k = absurd s
+text_ok rules (Some text) (Some rows) report old mid new s b k = rw (sym s) (b.0, ends-so old mid new (rows_text (prepared rules rows).rows) b.1 k)

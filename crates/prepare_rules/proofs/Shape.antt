@@ -7,13 +7,16 @@ use Rattle.std.specs.Prelude.{Result, Ok, Err, nat_lt, slice_index_or}
 use Rattle.prepare_text.specs.Walk.{Lined}
 use Rattle.prepare_rules.proofs.Choosing.{first-of, second-of}
 use Rattle.prepare_rules.specs.Columns.{is_few, lost_name, names_written, pick_at, picks_among, picks_from, picks_named, picks_of, renamed, written_places}
-use Rattle.prepare_rules.specs.Made.{field_made, is_taken}
+use Rattle.prepare_rules.specs.Made.{field_change, field_made, fields_made, is_long, is_taken, long_refusal, picked_made, row_made, row_told}
 use Rattle.prepare_rules.specs.Names.{named_picks, names_refusal, unless}
-use Rattle.prepare_rules.specs.Outcome.{AreWide, IsTable, below, counted_names, first_row, from_first, is_full, kept, number_past, prepared, under, under_picks}
+use Rattle.prepare_rules.specs.Outcome.{AreWide, IsTable, Outcome, below, counted_names, first_row, from_first, is_full, is_full_for, kept, made_first, number_past, prepared, under, under_picks}
 use Rattle.prepare_rules.specs.Records.{Record}
+use Rattle.prepare_rules.specs.Tally.{no_tally}
 use Rattle.prepare_rules.specs.declared.cause.Cause.{Cause}
+use Rattle.prepare_rules.specs.declared.cause.Cause.TheVariants as cause
 use Rattle.prepare_rules.specs.declared.columns.Pick.{Pick}
 use Rattle.prepare_rules.specs.declared.rules.Rules.{Rules}
+use Rattle.prepare_rules.specs.declared.tally.Tally.{Tally}
 use Rattle.table_sets.specs.declared.limits.TheConstants.{MOST_ROWS}
 
 -- columns that are as many as a table has
@@ -51,17 +54,34 @@ taken rules names (Ok found) picks e =
     let h = passed (names_refusal [] (names_written rules names found)) found picks e in
     (ap Ok h.1, ap (λ ps. names_refusal [] (names_written rules names ps)) (sym h.1) ∙ h.0)
 
+-- a record that is made is as wide as the columns
+made-wide : (rules : Rules) (picks : List Pick) (fields row : Record) → picked_made rules picks fields ≡ Ok row → length row ≡ length picks
+made-wide rules picks fields row e = go (long_refusal rules 1 picks fields) e
+  where
+    go : (o : Option Cause) → unless o (fields_made rules picks fields) ≡ Ok row → length row ≡ length picks
+    go None is =
+        let same : fields_made rules picks fields ≡ row = cc is in
+        ap length (sym same) ∙ length-map picks (λ (p : Pick). field_made rules p.is_number (slice_index_or fields p.place []))
+    go (Some c) is = cc is
+
 -- rows as wide as the names
-below-wide : (rules : Rules) (names : ℕ) (picks : List Pick) (at : ℕ) (rows : List Lined) → AreWide (length picks) (below rules names picks at rows).rows
-below-wide rules names picks at [] = tt
-below-wide rules names picks at (r ∷ rows) = elim (cases_Bool (is_taken rules names (length r.fields))) [
-  | inl so ↦
-      let width = length-map picks (λ (p : Pick). field_made rules p.is_number (slice_index_or r.fields p.place [])) in
-      elim (cases_Bool (at == number_past rules)) [
-        | inl full ↦ rw (so, full) (width, tt)
-        | inr more ↦ rw (so, more) (width, below-wide rules names picks (at + 1) rows)
-      ]
-  | inr not ↦ rw not tt
+first-wide : (width at line : ℕ) (told : Tally) (r : Result Record Cause) (rest : Outcome) → ((row : Record) → r ≡ Ok row → length row ≡ width) → AreWide width rest.rows
+    → AreWide width (made_first at line told r rest).rows
+first-wide width at line told (Ok row) rest is more = (is row refl, more)
+first-wide width at line told (Err c) rest is more = tt
+
+row-wide : (rules : Rules) (names : ℕ) (picks : List Pick) (fields row : Record) → row_made rules names picks fields ≡ Ok row → length row ≡ length picks
+row-wide rules names picks fields row e = elim (cases_Bool (is_taken rules names (length fields))) [
+  | inl so ↦ made-wide rules picks fields row (rw so at e)
+  | inr not ↦ cc (rw not at e)
+]
+
+below-wide : (rules : Rules) (names : ℕ) (picks : List Pick) (at : ℕ) (told : Tally) (rows : List Lined) → AreWide (length picks) (below rules names picks at told rows).rows
+below-wide rules names picks at told [] = tt
+below-wide rules names picks at told (r ∷ rows) = elim (cases_Bool (at == number_past rules)) [
+  | inl full ↦ rw full (first-wide (length picks) at r.line told (row_made rules names picks r.fields) _ (row-wide rules names picks r.fields) tt)
+  | inr more ↦ rw more (first-wide (length picks) at r.line told (row_made rules names picks r.fields) _ (row-wide rules names picks r.fields)
+      (below-wide rules names picks (at + 1) (row_told rules names picks r told) rows))
 ]
 
 none-more : (room : ℕ) → nat_lt room 0 ≡ false
@@ -71,42 +91,71 @@ one-more : (room rows : ℕ) → nat_lt (room + 1) (suc rows) ≡ nat_lt room ro
 one-more room rows = grind (arith, nat_tests)
 
 -- a row too many, where there is room for so many yet, is told
-below-full : (rules : Rules) (names : ℕ) (picks : List Pick) (at room : ℕ) (rows : List Lined) → at + room ≡ number_past rules
-    → nat_lt room (length (below rules names picks at rows).rows) ≡ is_full (below rules names picks at rows).refusal
-below-full rules names picks at room [] e = none-more room
-below-full rules names picks at room (r ∷ rows) e = elim (cases_Bool (is_taken rules names (length r.fields))) [
-  | inl so ↦ elim (cases_Bool (at == number_past rules)) [
-    | inl full ↦
-        let last : room ≡ 0 = grind (arith, nat_tests) in
-        rw (so, full, last) refl
-    | inr more ↦
-        let some : 0 < room = grind (arith, nat_tests) in
-        let left : (room - 1) + 1 ≡ room = omega (arith, some) in
-        let h = below-full rules names picks (at + 1) (room - 1) rows (omega (arith, some, e)) in
-        rw (so, more) (rw left at (one-more (room - 1) (length (below rules names picks (at + 1) rows).rows) ∙ h))
-  ]
-  | inr not ↦ rw not (none-more room)
+first-full : (room at line : ℕ) (told : Tally) (r : Result Record Cause) (rest : Outcome) → ((c : Cause) → r ≡ Err c → is_full_for c ≡ false)
+    → nat_lt room (suc (length rest.rows)) ≡ is_full rest.report.refusal
+    → nat_lt room (length (made_first at line told r rest).rows) ≡ is_full (made_first at line told r rest).report.refusal
+first-full room at line told (Ok row) rest is more = more
+first-full room at line told (Err c) rest is more = none-more room ∙ sym (is c refl)
+
+long-other : (rules : Rules) (column : ℕ) (picks : List Pick) (fields : Record) (c : Cause) → long_refusal rules column picks fields ≡ Some c → is_full_for c ≡ false
+long-other rules column [] fields c e = cc e
+long-other rules column (p ∷ picks) fields c e = elim (cases_Bool (is_long (field_change rules p.is_number (slice_index_or fields p.place [])))) [
+  | inl so ↦
+      let is : cause.LongNumber column ≡ c = cc (rw so at e) in
+      rw (← is) refl
+  | inr not ↦ long-other rules (column + 1) picks fields c (rw not at e)
+]
+
+picked-other : (rules : Rules) (picks : List Pick) (fields : Record) (c : Cause) → picked_made rules picks fields ≡ Err c → is_full_for c ≡ false
+picked-other rules picks fields c e = go (long_refusal rules 1 picks fields) (long-other rules 1 picks fields) e
+  where
+    go : (o : Option Cause) → ((d : Cause) → o ≡ Some d → is_full_for d ≡ false) → unless o (fields_made rules picks fields) ≡ Err c → is_full_for c ≡ false
+    go None is same = cc same
+    go (Some d) is same = is c (cc same)
+
+row-other : (rules : Rules) (names : ℕ) (picks : List Pick) (fields : Record) (c : Cause) → row_made rules names picks fields ≡ Err c → is_full_for c ≡ false
+row-other rules names picks fields c e = elim (cases_Bool (is_taken rules names (length fields))) [
+  | inl so ↦ picked-other rules picks fields c (rw so at e)
+  | inr not ↦
+      let is : cause.Fields (length fields) names ≡ c = cc (rw not at e) in
+      rw (← is) refl
+]
+
+below-full : (rules : Rules) (names : ℕ) (picks : List Pick) (at room : ℕ) (told : Tally) (rows : List Lined) → at + room ≡ number_past rules
+    → nat_lt room (length (below rules names picks at told rows).rows) ≡ is_full (below rules names picks at told rows).report.refusal
+below-full rules names picks at room told [] e = none-more room
+below-full rules names picks at room told (r ∷ rows) e = elim (cases_Bool (at == number_past rules)) [
+  | inl full ↦
+      let last : room ≡ 0 = grind (arith, nat_tests) in
+      rw (full, last) (first-full 0 at r.line told (row_made rules names picks r.fields) _ (row-other rules names picks r.fields) refl)
+  | inr more ↦
+      let after = row_told rules names picks r told in
+      let some : 0 < room = grind (arith, nat_tests) in
+      let left : (room - 1) + 1 ≡ room = omega (arith, some) in
+      let h = below-full rules names picks (at + 1) (room - 1) after rows (omega (arith, some, e)) in
+      rw more (first-full room at r.line told (row_made rules names picks r.fields) _ (row-other rules names picks r.fields)
+      (rw left at (one-more (room - 1) (length (below rules names picks (at + 1) after rows).rows) ∙ h)))
 ]
 
 under-table : (rules : Rules) (names : Record) (line at : ℕ) (rows : List Lined) (r : Result (List Pick) Cause) → at ≡ first_row rules
     → ((picks : List Pick) → r ≡ Ok picks → (is_few (length picks) ≡ true) × (names_refusal [] (names_written rules names picks) ≡ None))
-    → IsTable (under_picks rules names line at rows r).rows (under_picks rules names line at rows r).refusal
+    → IsTable (under_picks rules names line at rows r).rows (under_picks rules names line at rows r).report.refusal
 under-table rules names line at rows (Err c) first good = λ e. cc e
 under-table rules names line at rows (Ok picks) first good =
     let h = good picks refl in
     let width : length (names_written rules names picks) ≡ length picks = length-map picks (λ (p : Pick). renamed rules.renames.now (slice_index_or names p.place [])) in (
       ap is_few width ∙ h.0,
       h.1,
-      rw width (below-wide rules (length names) picks at rows),
-      below-full rules (length names) picks at MOST_ROWS rows (ap (λ n. n + MOST_ROWS) first),
+      rw width (below-wide rules (length names) picks at no_tally rows),
+      below-full rules (length names) picks at MOST_ROWS no_tally rows (ap (λ n. n + MOST_ROWS) first),
     )
 
-all-under : (rules : Rules) (names : Record) (line at : ℕ) (rows : List Lined) → at ≡ first_row rules → IsTable (under rules names line at rows).rows (under rules names line at rows).refusal
+all-under : (rules : Rules) (names : Record) (line at : ℕ) (rows : List Lined) → at ≡ first_row rules → IsTable (under rules names line at rows).rows (under rules names line at rows).report.refusal
 all-under rules names line at rows first = under-table rules names line at rows (named_picks rules names (picks_of rules names)) first (λ picks e.
     let h = taken rules names (picks_of rules names) picks e in
     (few rules names picks h.0, h.1))
 
-kept-table : (rules : Rules) (rows : List Lined) → IsTable (kept rules rows).rows (kept rules rows).refusal
+kept-table : (rules : Rules) (rows : List Lined) → IsTable (kept rules rows).rows (kept rules rows).report.refusal
 kept-table rules [] = λ e. cc e
 kept-table rules (first ∷ rows) =
     let named = under rules first.fields first.line (rules.skip + 2) rows in
@@ -117,5 +166,5 @@ kept-table rules (first ∷ rows) =
           (all-under rules (counted_names (length first.fields)) first.line (rules.skip + 1) (first ∷ rows) (rw not refl))
     ]
 
-pub is-table : (rules : Rules) (rows : List Lined) → IsTable (prepared rules rows).rows (prepared rules rows).refusal
+pub is-table : (rules : Rules) (rows : List Lined) → IsTable (prepared rules rows).rows (prepared rules rows).report.refusal
 is-table rules rows = kept-table rules (drop rules.skip rows)

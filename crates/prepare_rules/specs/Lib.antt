@@ -4,3 +4,4 @@ pub mod Names
 pub mod Numbers
 pub mod Outcome
 pub mod Records
+pub mod Tally

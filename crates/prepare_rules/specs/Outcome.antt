@@ -6,9 +6,10 @@ use Rattle.csv.specs.Reading.{default_config, records}
 use Rattle.csv.specs.Writing.{default_writer, fields_written, has_written, row_text, writer_setup}
 use Rattle.csv.specs.declared.writer.Writer.{Writer}
 use Rattle.prepare_rules.specs.Columns.{from_on, is_few, names_written, picks_of}
-use Rattle.prepare_rules.specs.Made.{row_made}
+use Rattle.prepare_rules.specs.Made.{row_made, row_told}
 use Rattle.prepare_rules.specs.Names.{named_picks, names_refusal}
 use Rattle.prepare_rules.specs.Records.{Record}
+use Rattle.prepare_rules.specs.Tally.{no_tally}
 use Rattle.prepare_text.specs.Walk.{Lined, text_records}
 use Rattle.prepare_text.specs.declared.place.Marks.{Marks}
 use Rattle.prepare_rules.specs.declared.cause.Cause.{Cause}
@@ -16,28 +17,39 @@ use Rattle.prepare_rules.specs.declared.cause.Cause.TheVariants as cause
 use Rattle.prepare_rules.specs.declared.cause.Refusal.{Refusal}
 use Rattle.prepare_rules.specs.declared.columns.Pick.{Pick}
 use Rattle.prepare_rules.specs.declared.columns.Plan.{Plan}
+use Rattle.prepare_rules.specs.declared.report.Report.{Report}
 use Rattle.prepare_rules.specs.declared.rules.Rules.{Rules}
+use Rattle.prepare_rules.specs.declared.tally.Tally.{Tally}
 use Rattle.table_sets.specs.declared.limits.TheConstants.{MOST_ROWS}
 
--- the records that are written, and the one that isn't taken, if there is one
+-- no record is refused, and this is told of all
+abbrev pub unrefused : Tally → Report
+unrefused told = record { tally = told; refusal = None }
+
+-- this record is refused, which begins on this line, if it is there, and this is told of those before it
+abbrev pub refused_in : ℕ → Option ℕ → Cause → Tally → Report
+refused_in at line c told = record { tally = told; refusal = Some (record { number = at; line = line; cause = c }) }
+
+-- the first record that isn't left out is refused
+abbrev pub refused_first : ℕ → Option ℕ → Cause → Report
+refused_first skip line c = refused_in (skip + 1) line c no_tally
+
+-- the records that are written, and what is told: what the rules did in them, and the one that isn't taken, if there is
+-- one
 pub record Outcome : Type 0 where
   pub rows : List Record
-  pub refusal : Option Refusal
+  pub report : Report
 
-abbrev pub all_done : Outcome
-all_done = record { rows = []; refusal = None }
-
--- this record is refused, which begins on this line, if it is there
-abbrev pub refused : ℕ → Option ℕ → Cause → Outcome
-refused at line c = record { rows = []; refusal = Some (record { number = at; line = line; cause = c }) }
+abbrev pub all_done : Report → Outcome
+all_done report = record { rows = []; report = report }
 
 -- this record is written, and then the rest
 abbrev pub with_row : Record → Outcome → Outcome
-with_row row rest = record { rows = row ∷ rest.rows; refusal = rest.refusal }
+with_row row rest = record { rows = row ∷ rest.rows; report = rest.report }
 
-abbrev pub made_first : ℕ → ℕ → Result Record Cause → Outcome → Outcome
-made_first at line (Err c) rest = refused at (Some line) c
-made_first at line (Ok row) rest = with_row row rest
+abbrev pub made_first : ℕ → ℕ → Tally → Result Record Cause → Outcome → Outcome
+made_first at line told (Err c) rest = all_done (refused_in at (Some line) c told)
+made_first at line told (Ok row) rest = with_row row rest
 
 -- the number of the first record below the names
 abbrev pub first_row : Rules → ℕ
@@ -47,17 +59,20 @@ first_row rules = if rules.has_names then rules.skip + 2 else rules.skip + 1
 abbrev pub number_past : Rules → ℕ
 number_past rules = first_row rules + MOST_ROWS
 
--- the records below the names, of which the first has this number; a row more than a table has is written, and refused
-abbrev pub below : Rules → ℕ → List Pick → ℕ → List Lined → Outcome
-below rules names picks at [] = all_done
-below rules names picks at (r ∷ rows) = made_first at r.line (row_made rules names picks r.fields)
-    (if at == number_past rules then refused at (Some r.line) cause.TooManyRows
-    else below rules names picks (at + 1) rows)
+-- the records below the names, of which the first has this number, behind those of which this is told; a row more than
+-- a table has is written, and refused
+abbrev pub below : Rules → ℕ → List Pick → ℕ → Tally → List Lined → Outcome
+below rules names picks at told [] = all_done (unrefused told)
+below rules names picks at told (r ∷ rows) = made_first at r.line told (row_made rules names picks r.fields)
+    (if at == number_past rules
+    then all_done (refused_in at (Some r.line) cause.TooManyRows (row_told rules names picks r told))
+    else below rules names picks (at + 1) (row_told rules names picks r told) rows)
 
 -- the names that are written, and the records below them; the names were found on this line
 abbrev pub under_picks : Rules → Record → ℕ → ℕ → List Lined → Result (List Pick) Cause → Outcome
-under_picks rules names line at rows (Err c) = refused (rules.skip + 1) (Some line) c
-under_picks rules names line at rows (Ok picks) = with_row (names_written rules names picks) (below rules (length names) picks at rows)
+under_picks rules names line at rows (Err c) = all_done (refused_first rules.skip (Some line) c)
+under_picks rules names line at rows (Ok picks) =
+    with_row (names_written rules names picks) (below rules (length names) picks at no_tally rows)
 
 abbrev pub under : Rules → Record → ℕ → ℕ → List Lined → Outcome
 under rules names line at rows = under_picks rules names line at rows (named_picks rules names (picks_of rules names))
@@ -72,7 +87,7 @@ from_first rules first rows = under rules (counted_names (length first.fields)) 
 
 -- the records that aren't left out
 abbrev pub kept : Rules → List Lined → Outcome
-kept rules [] = refused (rules.skip + 1) None cause.NoHeader
+kept rules [] = all_done (refused_first rules.skip None cause.NoHeader)
 kept rules (first ∷ rows) = if rules.has_names then under rules first.fields first.line (rules.skip + 2) rows else from_first rules first rows
 
 -- WHAT BECOMES OF ALL RECORDS
@@ -84,10 +99,11 @@ unfoldable pub rows_text : List Record → List ℕ
 rows_text [] = []
 rows_text (row ∷ rows) = row_text default_writer row ++ rows_text rows
 
--- known records came to this: what was written is their text, and this one was refused
-abbrev pub Becomes : (List Lined → Outcome) → Option (List Lined) → Option Refusal → Option (List ℕ) → Option (List ℕ) → Type 0
-Becomes ideal None refusal old new = ⊤
-Becomes ideal (Some rows) refusal old new = (refusal ≡ (ideal rows).refusal) × Appends old new (rows_text (ideal rows).rows)
+-- known records came to this: what was written is their text, and this is told
+abbrev pub Becomes : (List Lined → Outcome) → Option (List Lined) → Report → Option (List ℕ) → Option (List ℕ) → Type 0
+Becomes ideal None report old new = ⊤
+Becomes ideal (Some rows) report old new =
+    (report ≡ (ideal rows).report) × Appends old new (rows_text (ideal rows).rows)
 
 -- a writer between two records that writes as coop_cli reads
 pub record IsWriting {W : Type 0} (writer : Writer W) : Type 0 where
@@ -106,9 +122,10 @@ abbrev pub marks_of : Rules → Marks
 marks_of rules = record { delimiter = rules.delimiter; quote = rules.quote }
 
 -- the text of an export, where it is known, became this
-abbrev pub IsPrepared : Rules → Option (List ℕ) → Option Refusal → Option (List ℕ) → Option (List ℕ) → Type 0
-IsPrepared rules None refusal old new = ⊤
-IsPrepared rules (Some text) refusal old new = Becomes (prepared rules) (Some (text_records (marks_of rules) text)) refusal old new
+abbrev pub IsPrepared : Rules → Option (List ℕ) → Report → Option (List ℕ) → Option (List ℕ) → Type 0
+IsPrepared rules None report old new = ⊤
+IsPrepared rules (Some text) report old new =
+    Becomes (prepared rules) (Some (text_records (marks_of rules) text)) report old new
 
 -- these records have so many fields
 abbrev pub AreWide : ℕ → List Record → Type 0

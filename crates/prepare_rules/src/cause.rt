@@ -56,6 +56,12 @@ pub enum Cause {
         /// How many names there are.
         names: usize,
     },
+    /// A number of the record has more digits behind the point than the limit says, and isn't to be rounded.
+    #[error("the number in column {column} has too many digits behind the point")]
+    LongNumber {
+        /// The number of its column among those that are written, from 1.
+        column: usize,
+    },
     /// The record is one row more than a table has. It is written, alone of all that are refused, so that coop_cli
     /// refuses the table too.
     #[error("more than 2097152 rows")]

@@ -3,20 +3,31 @@
 #![tactic(auto)]
 
 mod cause;
+mod change;
 mod columns;
 mod failure;
 mod field;
+mod hits;
 mod laws;
 mod names;
 mod preparing;
+mod progress;
+mod report;
 mod room;
 mod row;
 mod rules;
+mod tally;
 mod trimming;
 mod writing;
 
 pub use cause::{Cause, Refusal};
 pub use failure::Failure;
-pub use laws::{numbers_keep_their_value, written_records_are_read_back};
+pub use hits::Hits;
+pub use laws::{
+    numbers_are_rounded_to_the_nearest, numbers_keep_their_value, written_records_are_read_back,
+};
+pub use prepare_numbers::Limit;
 pub use preparing::prepare;
+pub use report::Report;
 pub use rules::{Column, Mark, Rename, Rules};
+pub use tally::Tally;

@@ -1,9 +1,10 @@
 // All records of an export.
-ghost use Rattle.std.specs.Prelude.{◌≡◌, ◌<◌, ◌+◌, ◌^◌, IfOk, Ok, drop, false, option_map, true};
+ghost use Rattle.std.specs.Prelude.{◌≡◌, ◌<◌, ◌+◌, ◌^◌, IfOk, Ok, Some, drop, false, option_map, true};
 ghost use Rattle.csv.specs.Records.{fields_of};
 ghost use Rattle.csv.specs.Writing.{text_written};
 ghost use Rattle.prepare_rules.specs.Outcome.{Becomes, Begins, IsPrepared, IsWriting};
-ghost use Rattle.prepare_rules.specs.Outcome.{below, from_first, marks_of, number_past, prepared, under};
+ghost use Rattle.prepare_rules.specs.Outcome.{below, from_first, marks_of, number_past, prepared, refused_first};
+ghost use Rattle.prepare_rules.specs.Outcome.{refused_in, under, unrefused};
 ghost use Rattle.prepare_text.specs.Source.{IsOver, Stays, Takes, begun, left, record_of};
 ghost use Rattle.prepare_text.specs.Walk.{text_records};
 
@@ -11,9 +12,12 @@ use crate::cause::{Cause, Refusal};
 use crate::columns::{Plan, picks_of};
 use crate::failure::Failure;
 use crate::names::{counted_names, make_names};
+use crate::progress::Progress;
+use crate::report::Report;
 use crate::room::Room;
 use crate::row::make_row;
 use crate::rules::Rules;
+use crate::tally::Tally;
 use crate::writing::{finish, put};
 use csv::{ByteRecord, Writer, WriterBuilder};
 use prepare_text::{Marks, Source};
@@ -25,7 +29,8 @@ use table_sets::MOST_ROWS;
 const MOST_RECORDS: u64 = 1 << 62;
 
 /// Reads the records of an export and writes what the rules make of them, one by one, to the output, which is given
-/// back with the first record that is refused, if there is one. Memory is bounded by the longest record and the rules.
+/// back with what was done: how often each rule changed something, and the first record that is refused, if there is
+/// one. Memory is bounded by the longest record and the rules.
 ///
 /// # Errors
 ///
@@ -36,14 +41,14 @@ pub fn prepare<R: Read + Drop, W: Write + Drop>(
     rules: &Rules<'_>,
     input: R,
     output: W,
-) -> Result<(W, Option<Refusal>), Failure>
+) -> Result<(W, Report), Failure>
     ensures { IfOk result (λ p. IsPrepared rules.now (R.remaining input) p.1
         (W.contents output) (W.contents p.0)) }
 {
     let mut source = source_of(alloc, rules, input)?;
     let mut writer = WriterBuilder::new().from_writer(output);
-    let refusal = copy(alloc, rules, &mut source, &mut writer)?;
-    Ok((finish(writer)?, refusal))
+    let report = copy(alloc, rules, &mut source, &mut writer)?;
+    Ok((finish(writer)?, report))
 }
 
 // The records of the export.
@@ -68,14 +73,14 @@ fn copy<R: Read, W: Write + Drop>(
     rules: &Rules<'_>,
     reader: &mut Source<R>,
     writer: &mut Writer<W>,
-) -> Result<Option<Refusal>, Failure>
+) -> Result<Report, Failure>
     requires { IsWriting writer.old }
-    ensures { IfOk result (λ refusal. Becomes (prepared rules.now) (left R.remaining reader.old)
-        refusal (text_written W.contents writer.old) (text_written W.contents writer.new)) }
+    ensures { IfOk result (λ report. Becomes (prepared rules.now) (left R.remaining reader.old)
+        report (text_written W.contents writer.old) (text_written W.contents writer.new)) }
 {
     let mut row = ByteRecord::new(alloc);
     if !first_kept(rules.skip, reader, &mut row)? {
-        return Ok(Some(refused(rules.skip, None, Cause::NoHeader)));
+        return Ok(refused(rules.skip, None, Cause::NoHeader));
     }
     if rules.has_names {
         return copy_under(alloc, rules, &row, reader, writer);
@@ -114,25 +119,41 @@ fn first_kept<R: Read>(
     next_record(reader, row)
 }
 
-// The refusal of the first record that isn't left out.
-fn refused(skip: u32, line: Option<u64>, cause: Cause) -> Refusal
-    ensures { result ≡ record { number = skip + 1; line = line; cause = cause } }
+// The first record that isn't left out is refused.
+fn refused(skip: u32, line: Option<u64>, cause: Cause) -> Report
+    ensures { result ≡ refused_first skip line cause }
 {
-    Refusal {
-        number: skip as u64 + 1,
-        line,
-        cause,
+    Report {
+        tally: Tally::none(),
+        refusal: Some(Refusal {
+            number: skip as u64 + 1,
+            line,
+            cause,
+        }),
     }
 }
 
-// The refusal of the record of this number, which begins on this line.
-fn refused_at(number: u64, line: u64, cause: Cause) -> Refusal
-    ensures { result ≡ record { number = number; line = Some line; cause = cause } }
+// The record of this number is refused, which begins on this line, behind those of which this is told.
+fn refused_at(number: u64, line: u64, cause: Cause, tally: Tally) -> Report
+    ensures { result ≡ refused_in number (Some line) cause tally }
 {
-    Refusal {
-        number,
-        line: Some(line),
-        cause,
+    Report {
+        tally,
+        refusal: Some(Refusal {
+            number,
+            line: Some(line),
+            cause,
+        }),
+    }
+}
+
+// No record is refused.
+fn all_read(tally: Tally) -> Report
+    ensures { result ≡ unrefused tally }
+{
+    Report {
+        tally,
+        refusal: None,
     }
 }
 
@@ -151,18 +172,21 @@ fn copy_under<R: Read, W: Write + Drop>(
     names: &ByteRecord,
     reader: &mut Source<R>,
     writer: &mut Writer<W>,
-) -> Result<Option<Refusal>, Failure>
+) -> Result<Report, Failure>
     requires { IsWriting writer.old }
-    ensures { IfOk result (λ refusal. Becomes
+    ensures { IfOk result (λ report. Becomes
         (under rules.now (fields_of names.now) (begun reader.old) (rules.now.skip + 2)) (left R.remaining reader.old)
-        refusal (text_written W.contents writer.old) (text_written W.contents writer.new)) }
+        report (text_written W.contents writer.old) (text_written W.contents writer.new)) }
 {
     match begin(alloc, rules, names, writer)? {
         Ok(plan) => {
-            let first = rules.skip as u64 + 2;
-            return copy_below(alloc, rules, &plan, first, reader, writer);
+            let from = Progress {
+                number: rules.skip as u64 + 2,
+                tally: Tally::none(),
+            };
+            return copy_below(alloc, rules, &plan, from, reader, writer);
         }
-        Err(cause) => return Ok(Some(refused(rules.skip, Some(reader.line()), cause))),
+        Err(cause) => return Ok(refused(rules.skip, Some(reader.line()), cause)),
     }
 }
 
@@ -173,26 +197,27 @@ fn copy_from<R: Read, W: Write + Drop>(
     row: &ByteRecord,
     reader: &mut Source<R>,
     writer: &mut Writer<W>,
-) -> Result<Option<Refusal>, Failure>
+) -> Result<Report, Failure>
     requires { IsWriting writer.old }
-    ensures { IfOk result (λ refusal. Becomes
+    ensures { IfOk result (λ report. Becomes
         (from_first rules.now (record_of (begun reader.old) (fields_of row.now))) (left R.remaining reader.old)
-        refusal (text_written W.contents writer.old) (text_written W.contents writer.new)) }
+        report (text_written W.contents writer.old) (text_written W.contents writer.new)) }
 {
     let line = reader.line();
     let names = counted_names(alloc, row.len())?;
     let plan = match begin(alloc, rules, &names, writer)? {
         Ok(plan) => plan,
-        Err(cause) => return Ok(Some(refused(rules.skip, Some(line), cause))),
+        Err(cause) => return Ok(refused(rules.skip, Some(line), cause)),
     };
     let mut room = Room::new(alloc);
-    let mut made = ByteRecord::new(alloc);
-    if let Some(cause) = make_row(rules, &plan, row, &mut room, &mut made)? {
-        return Ok(Some(refused(rules.skip, Some(line), cause)));
-    }
-    put(writer, &made)?;
-    let first = rules.skip as u64 + 2;
-    copy_below(alloc, rules, &plan, first, reader, writer)
+    let tally = match make_row(rules, &plan, row, line, Tally::none(), &mut room)? {
+        Ok(tally) => tally,
+        Err(cause) => return Ok(refused(rules.skip, Some(line), cause)),
+    };
+    put(writer, &room.made)?;
+    let number = rules.skip as u64 + 2;
+    let from = Progress { number, tally };
+    copy_below(alloc, rules, &plan, from, reader, writer)
 }
 
 // Writes the names of the columns that are written, and gives those; or why there are none.
@@ -222,39 +247,41 @@ fn begin<W: Write + Drop>(
     }))
 }
 
-// Copies the records that are left, of which the first has this number. One row more than a table has is written and
-// then refused, so that coop_cli refuses the table too, and doesn't answer over a part of it.
+// Copies the records that are left. One row more than a table has is written and then refused, so that coop_cli refuses
+// the table too, and doesn't answer over a part of it.
 fn copy_below<R: Read, W: Write + Drop>(
     alloc: Global,
     rules: &Rules<'_>,
     plan: &Plan,
-    first: u64,
+    from: Progress,
     reader: &mut Source<R>,
     writer: &mut Writer<W>,
-) -> Result<Option<Refusal>, Failure>
-    requires low { first < 2 ^ 63 }
+) -> Result<Report, Failure>
+    requires low { from.number < 2 ^ 63 }
     requires writing { IsWriting writer.old }
-    ensures { IfOk result (λ refusal. Becomes
-        (below rules.now plan.now.names plan.now.picks.items first) (left R.remaining reader.old)
-        refusal (text_written W.contents writer.old) (text_written W.contents writer.new)) }
+    ensures { IfOk result (λ report. Becomes
+        (below rules.now plan.now.names plan.now.picks.items from.number from.tally) (left R.remaining reader.old)
+        report (text_written W.contents writer.old) (text_written W.contents writer.new)) }
 {
     let past = number_past(rules);
     let mut row = ByteRecord::new(alloc);
     let mut room = Room::new(alloc);
-    let mut made = ByteRecord::new(alloc);
+    let mut tally = from.tally;
     for done in 0..MOST_RECORDS {
         if !next_record(reader, &mut row)? {
-            return Ok(None);
+            return Ok(all_read(tally));
         }
-        let number = first + done;
-        if let Some(cause) = make_row(rules, plan, &row, &mut room, &mut made)? {
-            return Ok(Some(refused_at(number, reader.line(), cause)));
-        }
-        put(writer, &made)?;
+        let number = from.number + done;
+        let line = reader.line();
+        let told = match make_row(rules, plan, &row, line, tally, &mut room)? {
+            Ok(told) => told,
+            Err(cause) => return Ok(refused_at(number, line, cause, tally)),
+        };
+        put(writer, &room.made)?;
         if number == past {
-            let cause = Cause::TooManyRows;
-            return Ok(Some(refused_at(number, reader.line(), cause)));
+            return Ok(refused_at(number, line, Cause::TooManyRows, told));
         }
+        tally = told;
     }
     Err(Failure::TooLong)
 }

@@ -1,11 +1,14 @@
 // Memory that is used again.
+use csv::ByteRecord;
 use std::alloc::Global;
 
-/// Memory in which numbers are made, used again for each.
+/// Memory in which numbers and records are made, used again for each.
 #[derive(Drop)]
 pub(crate) struct Room {
     pub digits: Vec<u8>,
     pub text: Vec<u8>,
+    /// The record that is made.
+    pub made: ByteRecord,
 }
 
 impl Room {
@@ -13,6 +16,7 @@ impl Room {
         Room {
             digits: Vec::new(alloc),
             text: Vec::new(alloc),
+            made: ByteRecord::new(alloc),
         }
     }
 }

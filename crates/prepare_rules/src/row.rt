@@ -1,38 +1,48 @@
 // What the rules make of a field and of a record.
-ghost use Rattle.std.specs.Prelude.{◌≡◌, ◌++◌, ◌∷◌, [], IfOk, Ok, OnOk, false, true};
+ghost use Rattle.std.specs.Prelude.{◌≡◌, ◌<◌, ◌^◌, ◌-◌, ◌++◌, ◌∷◌, [], IfOk};
 ghost use Rattle.csv.specs.Records.{fields_of, partial_of};
-ghost use Rattle.prepare_rules.specs.Made.{IsMade, bare, field_made, fields_made, is_mark, is_taken, number_field, row_made};
-ghost use Rattle.prepare_rules.specs.Numbers.{number_made};
+ghost use Rattle.prepare_numbers.specs.Values.{digits_in};
+ghost use Rattle.prepare_rules.specs.Made.{IsRowMade, bare, bare_change, bare_made, fields_told, is_mark, is_taken};
+ghost use Rattle.prepare_rules.specs.Made.{number_change, number_field, picked_made, row_made, row_told};
+ghost use Rattle.prepare_rules.specs.Numbers.{IsFitted, fit_by, text_by};
+ghost use Rattle.prepare_text.specs.Source.{record_of};
 
 use crate::cause::Cause;
+use crate::change::Change;
 use crate::columns::{Pick, Plan};
+use crate::failure::Failure;
 use crate::field::field_or_none;
 use crate::room::Room;
 use crate::rules::Rules;
+use crate::tally::Tally;
 use crate::trimming::trimmed;
 use csv::ByteRecord;
-use prepare_numbers::{Form, push_number, spelling_of};
+use prepare_numbers::{Fit, Form, Limit, Spelling, push_number, push_within, spelling_of};
 use std::alloc::AllocError;
 
-/// Makes the record that is written of one that was read below so many names, in memory that is used again, or tells why it is
-/// refused.
+/// Makes the record that is written of one that was read below so many names and begins on this line, in memory that is
+/// used again, and tells what the rules did up to it; or tells why it is refused.
 pub(crate) fn make_row(
     rules: &Rules<'_>,
     plan: &Plan,
     row: &ByteRecord,
+    line: u64,
+    tally: Tally,
     room: &mut Room,
-    made: &mut ByteRecord,
-) -> Result<Option<Cause>, AllocError>
-    ensures { IfOk result (λ refused. IsMade (row_made rules.now plan.now.names plan.now.picks.items (fields_of row.now)) refused (fields_of made.new)) }
+) -> Result<Result<Tally, Cause>, Failure>
+    ensures { IfOk result (λ told. IsRowMade
+        (row_made rules.now plan.now.names plan.now.picks.items (fields_of row.now))
+        (row_told rules.now plan.now.names plan.now.picks.items (record_of line (fields_of row.now)) tally)
+        told (fields_of room.new.made)) }
 {
     if !is_taken(rules, plan.names, row.len()) {
-        return Ok(Some(Cause::Fields {
+        return Ok(Err(Cause::Fields {
             fields: row.len(),
             names: plan.names,
         }));
     }
-    push_fields(rules, plan.picks.as_slice(), row, room, made)?;
-    Ok(None)
+    let padded = tally.with_pad(row.len() < plan.names, line)?;
+    make_fields(rules, plan.picks.as_slice(), row, line, padded, room)
 }
 
 // Whether a record with so many fields is taken where there are so many names.
@@ -45,75 +55,114 @@ fn is_taken(rules: &Rules<'_>, names: usize, fields: usize) -> bool
     rules.pads && fields < names
 }
 
-fn push_fields(
+// Makes the fields of these columns.
+fn make_fields(
     rules: &Rules<'_>,
     picks: &[Pick],
     row: &ByteRecord,
+    line: u64,
+    tally: Tally,
     room: &mut Room,
-    made: &mut ByteRecord,
-) -> Result<(), AllocError>
-    ensures { OnOk result (fields_of made.new ≡ fields_made rules.now picks.now (fields_of row.now)) }
+) -> Result<Result<Tally, Cause>, Failure>
+    ensures { IfOk result (λ told. IsRowMade
+        (picked_made rules.now picks.now (fields_of row.now))
+        (fields_told rules.now line picks.now (fields_of row.now) tally)
+        told (fields_of room.new.made)) }
 {
-    made.clear();
+    room.made.clear();
+    let mut told = tally;
     for i in 0..picks.len() {
         let field = field_or_none(row, picks[i].place);
-        push_field(rules, picks[i].is_number, field, room, made)?;
+        let bare = bare(rules, field);
+        let change = push_bare(rules, picks[i].is_number, bare, room)?;
+        if change.is_long() {
+            return Ok(Err(Cause::LongNumber { column: i + 1 }));
+        }
+        told = told
+            .with_trim(bare.len() < field.len(), line)?
+            .with_change(change, line)?;
     }
-    Ok(())
+    Ok(Ok(told))
 }
 
-// Puts what becomes of a field at the end.
-fn push_field(
+// Puts what becomes of a field with nothing around it at the end, and tells what is changed in it.
+fn push_bare(
     rules: &Rules<'_>,
     is_number: bool,
     field: &[u8],
     room: &mut Room,
-    made: &mut ByteRecord,
-) -> Result<(), AllocError>
-    requires { partial_of made.old ≡ [] }
-    ensures field { OnOk result (fields_of made.new ≡ fields_of made.old ++ (field_made rules.now is_number field.now ∷ [])) }
-    ensures clear { OnOk result (partial_of made.new ≡ []) }
+) -> Result<Change, AllocError>
+    requires { partial_of room.old.made ≡ [] }
+    ensures field { IfOk result (λ change. fields_of room.new.made
+        ≡ fields_of room.old.made ++ (bare_made rules.now is_number field.now ∷ [])) }
+    ensures clear { IfOk result (λ change. partial_of room.new.made ≡ []) }
+    ensures change { IfOk result (λ change. change ≡ bare_change rules.now is_number field.now) }
 {
-    let bare = bare(rules, field);
     if is_number {
-        return push_number_field(rules, bare, room, made);
+        return push_number_field(rules, field, room);
     }
-    made.push_field(bare)
+    room.made.push_field(field)?;
+    Ok(Change::Kept)
 }
 
 // The same of a field of a column of numbers.
-fn push_number_field(
-    rules: &Rules<'_>,
-    field: &[u8],
-    room: &mut Room,
-    made: &mut ByteRecord,
-) -> Result<(), AllocError>
-    requires { partial_of made.old ≡ [] }
-    ensures field { OnOk result (fields_of made.new ≡ fields_of made.old ++ (number_field rules.now field.now ∷ [])) }
-    ensures clear { OnOk result (partial_of made.new ≡ []) }
+fn push_number_field(rules: &Rules<'_>, field: &[u8], room: &mut Room) -> Result<Change, AllocError>
+    requires { partial_of room.old.made ≡ [] }
+    ensures field { IfOk result (λ change. fields_of room.new.made
+        ≡ fields_of room.old.made ++ (number_field rules.now field.now ∷ [])) }
+    ensures clear { IfOk result (λ change. partial_of room.new.made ≡ []) }
+    ensures change { IfOk result (λ change. change ≡ number_change rules.now field.now) }
 {
     if is_mark(rules.missing, field) {
-        return made.push_field(&[]);
+        room.made.push_field(&[])?;
+        return Ok(Change::of_mark(field));
     }
-    if make_number(rules.form(), field, room)? {
-        return made.push_field(room.text.as_slice());
-    }
-    made.push_field(field)
+    let Some(fit) = make_number(rules.limit, rules.form(), field, room)? else {
+        room.made.push_field(field)?;
+        return Ok(Change::Kept);
+    };
+    room.made.push_field(room.text.as_slice())?;
+    Ok(Change::by(fit, room.text.as_slice() == field))
 }
 
-// Makes the number that a field spells in memory that is used again, or tells that it spells none.
-#[tactic(auto, using(crate::proofs::Spelled::made_number))]
-fn make_number(form: Form, field: &[u8], room: &mut Room) -> Result<bool, AllocError>
-    ensures made { result ≡ Ok true → room.new.text.items ≡ number_made form field.now }
-    ensures none { result ≡ Ok false → field.now ≡ number_made form field.now }
+// Makes the number that a field spells in memory that is used again, and tells how it fits the limit; or that the field
+// spells none.
+#[tactic(auto, using(crate::proofs::Spelled::fitted))]
+fn make_number(
+    limit: Option<Limit>,
+    form: Form,
+    field: &[u8],
+    room: &mut Room,
+) -> Result<Option<Fit>, AllocError>
+    ensures fitted { IfOk result (λ fit. IsFitted limit form field.now fit room.new.text.items) }
+    ensures made { room.new.made ≡ room.old.made }
 {
     match spelling_of(form, field) {
-        Some(spelling) => {
-            room.text.clear();
-            push_number(&spelling, &mut room.digits, &mut room.text)?;
-            Ok(true)
+        Some(spelling) => Ok(Some(push_fitted(limit, &spelling, room)?)),
+        None => Ok(None),
+    }
+}
+
+// Makes a number within the limit, if there is one, and tells how it fits.
+fn push_fitted(
+    limit: Option<Limit>,
+    spelling: &Spelling<'_>,
+    room: &mut Room,
+) -> Result<Fit, AllocError>
+    requires { spelling.now.down < 2 ^ 64 - 1 }
+    ensures fits { IfOk result (λ fit. fit
+        ≡ fit_by limit spelling.now.up spelling.now.down (digits_in spelling.now.mantissa.now)) }
+    ensures text { IfOk result (λ fit. room.new.text.items ≡ text_by limit spelling.now.is_minus
+        spelling.now.up spelling.now.down (digits_in spelling.now.mantissa.now)) }
+    ensures made { room.new.made ≡ room.old.made }
+{
+    room.text.clear();
+    match limit {
+        Some(limit) => Ok(push_within(spelling, limit, &mut room.digits, &mut room.text)?),
+        None => {
+            push_number(spelling, &mut room.digits, &mut room.text)?;
+            Ok(Fit::Whole)
         }
-        None => Ok(false),
     }
 }
 

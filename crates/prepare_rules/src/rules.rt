@@ -2,7 +2,7 @@
 ghost use Rattle.std.specs.Prelude.{◌≡◌};
 ghost use Rattle.prepare_rules.specs.Numbers.{form_of, mark_byte};
 
-use prepare_numbers::Form;
+use prepare_numbers::{Form, Limit};
 
 /// A column of the export.
 #[derive(Clone, Copy, Debug, PartialEq, Eq)]
@@ -65,6 +65,9 @@ pub struct Rules<'a> {
     pub parts: Option<u8>,
     /// A power of ten may stand behind the numbers, as in `1.5e3`; they are written out.
     pub exponents: bool,
+    /// The most digits behind the point of the numbers, and whether one that has more is rounded, half to even, or
+    /// refuses its record; none lets digits stay as they are. Zeros past the limit are dropped.
+    pub limit: Option<Limit>,
     /// ASCII white space around each field is left out.
     pub trims: bool,
     /// A record with fewer fields than there are names gets empty ones at its end, and isn't refused.

@@ -1,5 +1,5 @@
 -- What the words ask for.
-use Rattle.std.specs.Prelude.{◌≡◌, ⊤, Bool, not, List, [], ◌∷◌, Option, Some, None, Result, Ok, Err, codes}
+use Rattle.std.specs.Prelude.{◌≡◌, ◌&&◌, ⊤, Bool, not, List, [], ◌∷◌, Option, Some, None, Result, Ok, Err, codes}
 use Rattle.std.specs.Prelude.{if◌then◌else◌, map, string_bytes, String}
 use Rattle.std.specs.declared.alloc.Global.{Global}
 use Rattle.std.specs.Str.{bytes_eq}
@@ -12,7 +12,7 @@ use Rattle.prepare_rules.specs.declared.rules.Mark.{Mark}
 use Rattle.prepare_rules.specs.declared.rules.Mark.TheVariants as mark
 use Rattle.prepare_words.specs.Command.{prepare}
 use Rattle.prepare_words.specs.Reading.{◌>>=◌, Fails, Faulty, alone, columns_in, pads_of, parts_of, quote_of}
-use Rattle.prepare_words.specs.Reading.{delimiter_of, encoding_of, renames_in, skip_of, wrong}
+use Rattle.prepare_words.specs.Reading.{delimiter_of, encoding_of, limit_of, renames_in, skip_of, wrong}
 use Rattle.prepare_words.specs.Views.{WritingIs, byte_of, is_set, is_there, values_in, writing_view}
 use Rattle.prepare_words.specs.declared.asked.Asked.{Asked}
 use Rattle.prepare_words.specs.declared.asked.Asked.TheVariants as asked
@@ -34,12 +34,18 @@ abbrev pub mark_of : Bool → Mark
 mark_of is_comma = if is_comma then mark.Comma else mark.Point
 
 -- the first rule on numbers or missing values that acts nowhere
-abbrev pub lone_word : List Row → Option Word
-lone_word rows = if is_there (codes "numbers") rows then None
+abbrev pub lone_rule : List Row → Option Word
+lone_rule rows = if is_there (codes "numbers") rows then None
     else if is_there (codes "missing") rows then Some word.Missing
     else if is_set (codes "decimal-comma") rows then Some word.DecimalComma
     else if is_there (codes "thousands") rows then Some word.Thousands
-    else if is_set (codes "exponents") rows then Some word.Exponents else None
+    else if is_set (codes "exponents") rows then Some word.Exponents
+    else if is_there (codes "places") rows then Some word.Places else None
+
+-- the same, and before it rounding to no limit
+abbrev pub lone_word : List Row → Option Word
+lone_word rows = if is_set (codes "round") rows && not (is_there (codes "places") rows) then Some word.Round
+    else lone_rule rows
 
 abbrev pub unless_alone : Option Word → Result WritingIs Faulty → Result WritingIs Faulty
 unless_alone (Some w) rest = Err (alone w)
@@ -55,6 +61,7 @@ writing_of rows = do
   skip ← skip_of (first_of (codes "skip") rows)
   pads ← pads_of (first_of (codes "ragged") rows)
   parts ← parts_of (mark_of (is_set (codes "decimal-comma") rows)) (first_of (codes "thousands") rows)
+  limit ← limit_of (is_set (codes "round") rows) (first_of (codes "places") rows)
   unless_alone (lone_word rows) (do
     columns ← columns_in word.Columns (values_in (codes "columns") rows)
     renames ← renames_in (values_in (codes "rename") rows)
@@ -62,6 +69,7 @@ writing_of rows = do
     Ok (record {
       file = file;
       is_auto = is_set (codes "auto") rows;
+      is_quiet = is_set (codes "quiet") rows;
       has_encoding = is_there (codes "encoding") rows;
       has_delimiter = is_there (codes "delimiter") rows;
       has_skip = is_there (codes "skip") rows;
@@ -77,6 +85,7 @@ writing_of rows = do
       mark = mark_of (is_set (codes "decimal-comma") rows);
       parts = parts;
       exponents = is_set (codes "exponents") rows;
+      limit = limit;
       trims = is_set (codes "trim") rows;
       pads = pads;
     }))

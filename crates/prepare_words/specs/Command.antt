@@ -21,9 +21,9 @@ flag name = record (new_rule name) { long = Some name; action = Some SetTrue }
 abbrev pub place : Text → Rule
 place name = record (new_rule name) { action = Some Set; required = true }
 
--- how the records of the export are found
+-- how the records of the export are found, and whether it is told what was done
 abbrev pub record_rules : List Rule
-record_rules = flag (codes "auto") ∷ option (codes "delimiter") ∷ option (codes "quote")
+record_rules = flag (codes "auto") ∷ flag (codes "quiet") ∷ option (codes "delimiter") ∷ option (codes "quote")
     ∷ option (codes "encoding") ∷ option (codes "skip") ∷ flag (codes "no-header") ∷ option (codes "ragged") ∷ []
 
 -- which columns are written
@@ -33,7 +33,8 @@ table_rules = options (codes "columns") ∷ options (codes "rename") ∷ flag (c
 -- what becomes of the fields of numbers
 abbrev pub number_rules : List Rule
 number_rules = options (codes "numbers") ∷ options (codes "missing")
-    ∷ flag (codes "decimal-comma") ∷ option (codes "thousands") ∷ flag (codes "exponents") ∷ []
+    ∷ flag (codes "decimal-comma") ∷ option (codes "thousands") ∷ flag (codes "exponents")
+    ∷ option (codes "places") ∷ flag (codes "round") ∷ []
 
 abbrev pub export_place : List Rule
 export_place = place (codes "FILE") ∷ []

@@ -9,6 +9,7 @@ use Rattle.std.specs.Str.Parse.{digits_value}
 use Rattle.clap.specs.Walk.{Text}
 use Rattle.prepare_decode.specs.declared.encoding.Encoding.{Encoding}
 use Rattle.prepare_decode.specs.declared.encoding.Encoding.TheVariants as encoding
+use Rattle.prepare_numbers.specs.declared.limit.Limit.{Limit}
 use Rattle.prepare_rules.specs.Numbers.{mark_byte}
 use Rattle.prepare_rules.specs.declared.rules.Mark.{Mark}
 use Rattle.prepare_words.specs.Views.{ColumnIs, named, placed}
@@ -24,7 +25,7 @@ use Rattle.prepare_words.specs.declared.fault.Word.TheVariants as word
 pub data Faulty : Type 0 where
   -- no such value can stand behind the option
   wrong : Word → Text → Faulty
-  -- the option acts in the columns of `--numbers`, which isn't there
+  -- the option acts in the columns of `--numbers`, or by `--places`, which isn't there
   alone : Word → Faulty
 
 -- one step of reading behind another: the first fault ends it
@@ -123,6 +124,16 @@ number_of text = if begins_with_digit text && is_number text then Some (digits_v
 abbrev pub skip_of : Option Text → Result ℕ Faulty
 skip_of None = Ok 0
 skip_of (Some text) = or_wrong word.Skip text (number_of text)
+
+-- at most nine digits behind the point
+abbrev pub limit_named : Bool → Option ℕ → Option Limit
+limit_named rounds None = None
+limit_named rounds (Some n) = if nat_le n 9 then Some (record { places = n; rounds = rounds }) else None
+
+-- how many digits stand behind the point at most, where it is said, and whether a number that has more is rounded
+abbrev pub limit_of : Bool → Option Text → Result (Option Limit) Faulty
+limit_of rounds None = Ok None
+limit_of rounds (Some text) = or_wrong word.Places text (option_map Some (limit_named rounds (number_of text)))
 
 -- ---- short records
 

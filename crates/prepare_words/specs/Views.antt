@@ -5,6 +5,7 @@ use Rattle.std.specs.Option.{option_map_or}
 use Rattle.std.specs.Str.{bytes_eq}
 use Rattle.clap.specs.Walk.{Row, Text, all_of, first_of}
 use Rattle.prepare_decode.specs.declared.encoding.Encoding.{Encoding}
+use Rattle.prepare_numbers.specs.declared.limit.Limit.{Limit}
 use Rattle.prepare_rules.specs.declared.rules.Column.{Column}
 use Rattle.prepare_rules.specs.declared.rules.Column.TheVariants.{Named, Placed}
 use Rattle.prepare_rules.specs.declared.rules.Mark.{Mark}
@@ -61,6 +62,7 @@ byte_of by.Blanks = 9
 pub record WritingIs : Type 0 where
   pub file : Text
   pub is_auto : Bool
+  pub is_quiet : Bool
   pub has_encoding : Bool
   pub has_delimiter : Bool
   pub has_skip : Bool
@@ -76,6 +78,7 @@ pub record WritingIs : Type 0 where
   pub mark : Mark
   pub parts : Option ℕ
   pub exponents : Bool
+  pub limit : Option Limit
   pub trims : Bool
   pub pads : Bool
 
@@ -83,6 +86,7 @@ abbrev pub writing_view : Writing → WritingIs
 writing_view w = record {
   file = w.file.now;
   is_auto = w.is_auto;
+  is_quiet = w.is_quiet;
   has_encoding = w.has_encoding;
   has_delimiter = w.has_delimiter;
   has_skip = w.has_skip;
@@ -98,6 +102,7 @@ writing_view w = record {
   mark = w.mark;
   parts = w.parts;
   exponents = w.exponents;
+  limit = w.limit;
   trims = w.trims;
   pads = w.pads;
 }
@@ -115,5 +120,6 @@ pub record HasRules (w : Writing) (r : Rules) : Type 0 where
   pub mark : r.mark ≡ w.mark
   pub parts : r.parts ≡ w.parts
   pub exponents : r.exponents ≡ w.exponents
+  pub limit : r.limit ≡ w.limit
   pub trims : r.trims ≡ w.trims
   pub pads : r.pads ≡ w.pads

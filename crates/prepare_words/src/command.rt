@@ -48,7 +48,7 @@ fn write<'a>(alloc: Global) -> Result<Command<'a>, AllocError>
     numbers.arg(place(alloc, "FILE", "The export; a pipe does as well"))
 }
 
-// How the records of the export are found.
+// How the records of the export are found, and whether it is told what was done.
 fn with_records<'a>(alloc: Global, command: Command<'a>) -> Result<Command<'a>, AllocError>
     ensures { (a : App) → IsCommand a command.entry → IfOk result (IsCommand (with_rules a record_rules)) }
 {
@@ -57,6 +57,11 @@ fn with_records<'a>(alloc: Global, command: Command<'a>) -> Result<Command<'a>, 
             alloc,
             "auto",
             "What isn't asked for is done as look says, but for what changes a value or leaves out a record"
+        ),
+        flag(
+            alloc,
+            "quiet",
+            "It isn't told which rules were taken and what they changed"
         ),
         option(
             alloc,
@@ -142,6 +147,17 @@ fn with_numbers<'a>(alloc: Global, command: Command<'a>) -> Result<Command<'a>, 
             alloc,
             "exponents",
             "A power of ten may stand behind a number, as in 1.5e3: it is written out"
+        ),
+        option(
+            alloc,
+            "places",
+            "N",
+            "A number with more than so many digits behind the point refuses its record: 0 to 9"
+        ),
+        flag(
+            alloc,
+            "round",
+            "Such a number is rounded instead, half to even"
         ),
     ]?;
     command.args(rules)

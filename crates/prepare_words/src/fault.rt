@@ -19,6 +19,8 @@ pub enum Word {
     DecimalComma,
     Thousands,
     Exponents,
+    Places,
+    Round,
     Ragged,
     File,
 }
@@ -38,6 +40,8 @@ impl Word {
             Word::DecimalComma => "--decimal-comma",
             Word::Thousands => "--thousands",
             Word::Exponents => "--exponents",
+            Word::Places => "--places",
+            Word::Round => "--round",
             Word::Ragged => "--ragged",
             Word::File => "FILE",
         }
@@ -56,8 +60,17 @@ impl Word {
             Word::Rename => "OLD=NEW, where NEW isn't empty",
             Word::Thousands => "a byte that isn't a digit, the decimal mark or a minus",
             Word::Ragged => "refuse or pad",
+            Word::Places => "a number of digits, 0 to 9",
             Word::File => "the name of a file",
-            Word::Missing | Word::DecimalComma | Word::Exponents => "any",
+            Word::Missing | Word::DecimalComma | Word::Exponents | Word::Round => "any",
+        }
+    }
+
+    // By what it acts.
+    fn ground(self) -> &'static str {
+        match self {
+            Word::Round => "by '--places'",
+            _ => "in the columns of '--numbers'",
         }
     }
 }
@@ -67,7 +80,7 @@ impl Word {
 pub enum Fault<'a> {
     /// No such value can stand behind the option.
     Value { word: Word, value: &'a str },
-    /// The option acts in the columns of `--numbers`, which isn't there.
+    /// The option acts in the columns of `--numbers`, or by `--places`, which isn't there.
     Alone { word: Word },
     /// Out of memory.
     Memory,
@@ -100,11 +113,8 @@ impl fmt::Display for Fault<'_> {
                 )
             }
             Fault::Alone { word } => {
-                let name = word.name();
-                writeln!(
-                    f,
-                    "error: '{name}' acts in the columns of '--numbers', which isn't there"
-                )
+                let (name, ground) = (word.name(), word.ground());
+                writeln!(f, "error: '{name}' acts {ground}, which isn't there")
             }
             Fault::Memory => Ok(()),
         }

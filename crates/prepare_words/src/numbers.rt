@@ -1,8 +1,10 @@
 // Numbers as words.
 ghost use Rattle.std.specs.Prelude.{◌≡◌, option_map};
-ghost use Rattle.prepare_words.specs.Reading.{Gives, begins_with_digit, number_of, pads_of, skip_of};
+ghost use Rattle.prepare_words.specs.Reading.{Gives, begins_with_digit, limit_named, limit_of, number_of, pads_of};
+ghost use Rattle.prepare_words.specs.Reading.{skip_of};
 
 use crate::fault::{Fault, Word};
+use prepare_rules::Limit;
 
 /// The number that digits write, below 2^32.
 pub(crate) fn number_of(text: &str) -> Option<u32>
@@ -37,6 +39,43 @@ pub(crate) fn skip_of<'a>(text: Option<&'a str>) -> Result<u32, Fault<'a>>
         Some(number) => Ok(number),
         None => Err(Fault::Value {
             word: Word::Skip,
+            value,
+        }),
+    }
+}
+
+// At most nine digits behind the point.
+fn limit_named(rounds: bool, text: &str) -> Option<Limit>
+    ensures { result ≡ limit_named rounds (number_of text.now) }
+{
+    match number_of(text) {
+        Some(number) => {
+            if number <= 9 {
+                return Some(Limit {
+                    places: number as u8,
+                    rounds,
+                });
+            }
+            None
+        }
+        None => None,
+    }
+}
+
+/// How many digits stand behind the point at most, where it is said, and whether a number that has more is rounded.
+pub(crate) fn limit_of<'a>(
+    rounds: bool,
+    text: Option<&'a str>,
+) -> Result<Option<Limit>, Fault<'a>>
+    ensures { Gives (λ l. l) result (limit_of rounds (option_map (λ s. s.now) text.entry)) }
+{
+    let Some(value) = text else {
+        return Ok(None);
+    };
+    match limit_named(rounds, value) {
+        Some(limit) => Ok(Some(limit)),
+        None => Err(Fault::Value {
+            word: Word::Places,
             value,
         }),
     }

@@ -3,7 +3,7 @@ ghost use Rattle.prepare_words.specs.Views.{HasRules};
 
 use crate::delimiter::Delimiter;
 use prepare_decode::Encoding;
-use prepare_rules::{Column, Mark, Rename, Rules};
+use prepare_rules::{Column, Limit, Mark, Rename, Rules};
 
 /// What is made of an export.
 #[derive(Drop)]
@@ -12,6 +12,8 @@ pub struct Writing<'a> {
     pub file: &'a str,
     /// What isn't asked for is done as a look at the export says.
     pub is_auto: bool,
+    /// It isn't told which rules were taken and what they changed.
+    pub is_quiet: bool,
     /// The encoding is asked for.
     pub has_encoding: bool,
     /// What stands between two fields is asked for.
@@ -42,6 +44,8 @@ pub struct Writing<'a> {
     pub parts: Option<u8>,
     /// A power of ten may stand behind the numbers.
     pub exponents: bool,
+    /// The most digits behind the point of the numbers, and whether one that has more is rounded.
+    pub limit: Option<Limit>,
     /// White space around fields is left out.
     pub trims: bool,
     /// Short records get empty fields.
@@ -65,6 +69,7 @@ impl Writing<'_> {
             mark: self.mark,
             parts: self.parts,
             exponents: self.exponents,
+            limit: self.limit,
             trims: self.trims,
             pads: self.pads,
         }

@@ -3,7 +3,7 @@ ghost use Rattle.std.specs.Prelude.{◌≡◌, IfOk, codes, option_map};
 ghost use Rattle.clap.specs.Matches.{found_of};
 ghost use Rattle.clap.specs.Walk.{first_of, rows_of};
 ghost use Rattle.prepare_words.specs.Reading.{Gives};
-ghost use Rattle.prepare_words.specs.Asked.{file_of, lone_word, mark_of, writing_of};
+ghost use Rattle.prepare_words.specs.Asked.{file_of, lone_rule, lone_word, mark_of, writing_of};
 ghost use Rattle.prepare_words.specs.Views.{texts_given, texts_of, writing_view};
 
 use crate::bytes::{parts_of, quote_of};
@@ -12,7 +12,7 @@ use crate::delimiter::delimiter_of;
 use crate::encodings::encoding_of;
 use crate::fault::{Fault, Word};
 use crate::found::{is_set, is_there, value_in, values_in};
-use crate::numbers::{pads_of, skip_of};
+use crate::numbers::{limit_of, pads_of, skip_of};
 use crate::renames::renames_given;
 use crate::writing::Writing;
 use clap::ArgMatches;
@@ -35,6 +35,7 @@ pub(crate) fn writing_of<'a>(
     let pads = pads_of(value_in(found, "ragged"))?;
     let mark = mark_of(is_set(found, "decimal-comma"));
     let parts = parts_of(mark, value_in(found, "thousands"))?;
+    let limit = limit_of(is_set(found, "round"), value_in(found, "places"))?;
     if let Some(word) = lone_word(found) {
         return Err(Fault::Alone { word });
     }
@@ -45,6 +46,7 @@ pub(crate) fn writing_of<'a>(
     Ok(Writing {
         file,
         is_auto: is_set(found, "auto"),
+        is_quiet: is_set(found, "quiet"),
         has_encoding: is_there(found, "encoding"),
         has_delimiter: is_there(found, "delimiter"),
         has_skip: is_there(found, "skip"),
@@ -60,6 +62,7 @@ pub(crate) fn writing_of<'a>(
         mark,
         parts,
         exponents: is_set(found, "exponents"),
+        limit,
         trims: is_set(found, "trim"),
         pads,
     })
@@ -103,9 +106,19 @@ fn mark_of(is_comma: bool) -> Mark
     Mark::Point
 }
 
-// The first rule on numbers or missing values that acts nowhere.
+// Rounding to no limit, or the first rule on numbers or missing values that acts nowhere.
 fn lone_word(found: &ArgMatches<'_>) -> Option<Word>
     ensures { result ≡ lone_word (rows_of (found_of found.now)) }
+{
+    if is_set(found, "round") && !is_there(found, "places") {
+        return Some(Word::Round);
+    }
+    lone_rule(found)
+}
+
+// The first rule on numbers or missing values that acts nowhere.
+fn lone_rule(found: &ArgMatches<'_>) -> Option<Word>
+    ensures { result ≡ lone_rule (rows_of (found_of found.now)) }
 {
     if is_there(found, "numbers") {
         return None;
@@ -121,6 +134,9 @@ fn lone_word(found: &ArgMatches<'_>) -> Option<Word>
     }
     if is_set(found, "exponents") {
         return Some(Word::Exponents);
+    }
+    if is_there(found, "places") {
+        return Some(Word::Places);
     }
     None
 }

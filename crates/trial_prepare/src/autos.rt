@@ -20,7 +20,7 @@ fn gives(
     wanted: Option<Stop>,
 ) -> bool {
     match write_auto(alloc, rules, given, export, Vec::new(alloc)) {
-        Ok((made, stop, _)) => made.as_slice() == text && stop == wanted,
+        Ok((made, ending, _)) => made.as_slice() == text && ending.stop == wanted,
         Err(_) => false,
     }
 }

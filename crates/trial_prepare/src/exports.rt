@@ -1,5 +1,5 @@
 // Exports, the rules for them, and what they become.
-use prepare_rules::{Cause, Column, Failure, Mark, Refusal, Rename, Rules, prepare};
+use prepare_rules::{Cause, Column, Failure, Mark, Refusal, Rename, Report, Rules, prepare};
 use std::alloc::{AllocError, Global};
 use std::process::Abort;
 use std::test::Fail;
@@ -17,22 +17,23 @@ pub(crate) const PLAIN: Rules<'static> = Rules {
     mark: Mark::Point,
     parts: None,
     exponents: false,
+    limit: None,
     trims: false,
     pads: false,
 };
 
-// The text that becomes of an export, and the refusal that ends it.
+// The text that becomes of an export, and what is told of it.
 fn prepared(
     alloc: Global,
     rules: &Rules<'_>,
     export: &[u8],
-) -> Result<(Vec<u8>, Option<Refusal>), Failure> {
+) -> Result<(Vec<u8>, Report), Failure> {
     prepare(alloc, rules, export, Vec::new(alloc))
 }
 
 fn becomes(alloc: Global, rules: &Rules<'_>, export: &[u8], text: &[u8]) -> bool {
     match prepared(alloc, rules, export) {
-        Ok((made, refused)) => made.as_slice() == text && refused.is_none(),
+        Ok((made, report)) => made.as_slice() == text && report.refusal.is_none(),
         Err(_) => false,
     }
 }
@@ -49,7 +50,7 @@ fn at(number: u64, line: u64, cause: Cause) -> Refusal {
 // Whether this text is written, and then this record refused.
 fn ends(alloc: Global, rules: &Rules<'_>, export: &[u8], text: &[u8], refusal: Refusal) -> bool {
     match prepared(alloc, rules, export) {
-        Ok((made, refused)) => made.as_slice() == text && refused == Some(refusal),
+        Ok((made, report)) => made.as_slice() == text && report.refusal == Some(refusal),
         Err(_) => false,
     }
 }

@@ -1,6 +1,6 @@
-//! Trials of `prepare`: exports whose prepared text is written down, refusals with their records, and an input or an output
-//! that fails. And of dates, of the page that tells of an export, of texts in other encodings, and of what a look
-//! gives.
+//! Trials of `prepare`: exports whose prepared text is written down, with what is told of it, refusals with their
+//! records, and an input or an output that fails. And of dates, of the page that tells of an export, of texts in other
+//! encodings, and of what a look gives.
 //!
 //! All of it is tests.
 #![tactic(auto)]
@@ -21,3 +21,5 @@ mod faults;
 mod looks;
 #[cfg(test)]
 mod places;
+#[cfg(test)]
+mod tallies;

@@ -88,3 +88,24 @@ fn an_encoding_is_asked_for(rt: HostRuntime) {
     );
     assert!(rt; page.as_bytes() == told.as_bytes());
 }
+
+#[test]
+fn rounding_is_asked_for(rt: HostRuntime) {
+    let export = "id,rate,mass,note\n1,0.1234567891,1,0.1234567891\n2,NA,1.5e3,x\n3,.5,NA,\n4,2,0.00000000001,y\n";
+    let told = "file x.csv: UTF-8, 5 line ends\n\
+        delimiter ',': 5 of 5 records have 4 fields\n\
+        names: in line 1\n\
+        column 1 \"id\": 4 whole\n\
+        column 2 \"rate\": 1 whole; 1 with more than 9 places, the first in line 2; \
+        1 as .5 or 5., the first in line 4; 1 marked as missing, the first in line 3\n\
+        column 3 \"mass\": 1 whole; 1 with more than 9 places, the first in line 5; \
+        1 with an exponent, the first in line 3; 1 marked as missing, the first in line 4\n\
+        column 4 \"note\": 2 texts; 1 with more than 9 places, the first in line 2; 1 empty, the first in line 4\n\
+        to be asked for: --places 9 --round, since columns have numbers with more places, which are rounded: 2,3\n\
+        \n\
+        ./coop_prepare write x.csv\n\
+        and with what has to be asked for:\n\
+        ./coop_prepare write --numbers 2,3 --missing=NA --exponents --places 9 --round x.csv\n";
+    let page = page(&rt, rt.alloc(), "x.csv", Encoding::Utf8, export);
+    assert!(rt; page.as_bytes() == told.as_bytes());
+}

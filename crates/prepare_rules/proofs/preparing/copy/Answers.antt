@@ -20,7 +20,7 @@ returns-then-rules g c =
     let old = text_written g.W.Write.contents c.args.writer.now in
     let new = text_written g.W.Write.contents c.copy_under.new.writer in
     then-ok (under rules first.fields first.line (rules.skip + 2)) (prepared rules) left rows old old new c.copy_under.result
-    (λ refusal h. kept-under rules first rows left refusal old new ((rw c.if-not-branch.false at c.in_ok-first_kept.ensures.found) refl) c.if-rules.true h) c.copy_under.ensures
+    (λ report h. kept-under rules first rows left report old new ((rw c.if-not-branch.false at c.in_ok-first_kept.ensures.found) refl) c.if-rules.true h) c.copy_under.ensures
 
 pub returns : goal.returns
 returns g c =
@@ -31,4 +31,4 @@ returns g c =
     let old = text_written g.W.Write.contents c.args.writer.now in
     let new = text_written g.W.Write.contents c.copy_from.new.writer in
     then-ok (from_first rules first) (prepared rules) left rows old old new c.copy_from.result
-    (λ refusal h. kept-from rules first rows left refusal old new ((rw c.if-not-branch.false at c.in_ok-first_kept.ensures.found) refl) c.if-rules.false h) c.copy_from.ensures
+    (λ report h. kept-from rules first rows left report old new ((rw c.if-not-branch.false at c.in_ok-first_kept.ensures.found) refl) c.if-rules.false h) c.copy_from.ensures

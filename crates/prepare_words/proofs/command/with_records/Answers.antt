@@ -5,5 +5,5 @@ use Rattle.prepare_words.proofs.command.with_records.Goals as goal
 
 pub returns : goal.returns
 returns c = λ a is. IfOk-weaker c.args-2.result _ _
-    (λ new. all c.args.command c.in_ok-rules.rules.items new a record_rules (rw c.in_ok-rules.ensures.items (c.flag.ensures.rule, c.flag.ensures.local, (c.option.ensures.rule, c.option.ensures.local, (c.option-2.ensures.rule, c.option-2.ensures.local, (c.option-3.ensures.rule, c.option-3.ensures.local, (c.option-4.ensures.rule, c.option-4.ensures.local, (c.flag-2.ensures.rule, c.flag-2.ensures.local, (c.option-5.ensures.rule, c.option-5.ensures.local, tt)))))))) is)
+    (λ new. all c.args.command c.in_ok-rules.rules.items new a record_rules (rw c.in_ok-rules.ensures.items (c.flag.ensures.rule, c.flag.ensures.local, (c.flag-2.ensures.rule, c.flag-2.ensures.local, (c.option.ensures.rule, c.option.ensures.local, (c.option-2.ensures.rule, c.option-2.ensures.local, (c.option-3.ensures.rule, c.option-3.ensures.local, (c.option-4.ensures.rule, c.option-4.ensures.local, (c.flag-3.ensures.rule, c.flag-3.ensures.local, (c.option-5.ensures.rule, c.option-5.ensures.local, tt))))))))) is)
     c.args-2.ensures
