@@ -6,7 +6,7 @@ use std::fmt;
 
 // What the rules did: a line for each that changed something, with how often and where first.
 #[derive(Clone, Copy)]
-struct Told<'a>(&'a Tally);
+struct Lines<'a>(&'a Tally);
 
 /// The lines of what the rules did; none where it isn't to be told.
 pub(crate) fn told(
@@ -17,7 +17,7 @@ pub(crate) fn told(
     if writing.is_quiet {
         return Ok(String::new(alloc));
     }
-    format!(in alloc; "{}", Told(tally))
+    format!(in alloc; "{}", Lines(tally))
 }
 
 // The line of a rule, where it changed something.
@@ -36,7 +36,7 @@ fn write_hits<W: fmt::Write>(
     writeln!(f, "{rule}: {count} {noun} {what}, the first in line {line}")
 }
 
-impl fmt::Display for Told<'_> {
+impl fmt::Display for Lines<'_> {
     fn fmt<W: fmt::Write>(&self, f: &mut fmt::Formatter<W>) -> fmt::Result {
         let (tally, fields) = (self.0, ("field", "fields"));
         write_hits(f, "--trim", tally.trimmed, fields, "trimmed")?;

@@ -75,7 +75,7 @@ by-spell taken field r false e l = inl refl
 by-spell taken field r true e l =
     let mark = mark_byte taken.mark in
     let whole = fits taken.limit (value_of mark field).up (value_of mark field).down (digits_in (mantissa field))
-        (bytes_eq (number_text taken.limit mark field) field) r l in
+    (bytes_eq (number_text taken.limit mark field) field) r l in
     inr (inl (refl, rw e at (keeps-worth taken.limit (form_of taken) field e whole)))
 
 by-mark : (taken : Rules) (field : List ℕ) → rounds taken.limit ≡ false → (b : Bool) → is_mark taken.missing.now field ≡ b

@@ -1,5 +1,5 @@
 -- Definitions by recursion over records and fields, where a loop stands in the middle of them.
-use Rattle.std.proofs.Common.{◌≡◌, ◌+◌, ◌<◌, ◌≤◌, ℕ, zero, suc, true, false, List, [], ◌∷◌, length, drop, replicate, get_or, refl, sym, ap, ◌∙◌, arith, add-one, drop-cons, drop_of_length-le}
+use Rattle.std.proofs.Common.{◌≡◌, ◌+◌, ◌<◌, ◌≤◌, ℕ, zero, suc, true, false, List, [], ◌∷◌, length, drop, replicate, refl, ap, ◌∙◌, add-one, drop-cons, drop_of_length-le}
 use Rattle.std.specs.Prelude.{nat_le, slice_index_or}
 use Rattle.prepare_look.specs.Lines.{one_if}
 use Rattle.prepare_look.specs.Rows.{Row}

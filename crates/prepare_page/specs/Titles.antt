@@ -1,5 +1,5 @@
 -- Records above the names.
-use Rattle.std.specs.Prelude.{◌+◌, ◌*◌, ◌&&◌, ℕ, Bool, not, nat_le, Option, Some, None, List, [], ◌∷◌, length, if◌then◌else◌}
+use Rattle.std.specs.Prelude.{◌+◌, ◌*◌, ◌&&◌, ℕ, Bool, nat_le, Option, Some, None, List, [], ◌∷◌, length, if◌then◌else◌}
 use Rattle.prepare_look.specs.Lines.{one_if}
 use Rattle.prepare_look.specs.Rows.{Row}
 

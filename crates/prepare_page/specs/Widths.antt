@@ -2,8 +2,7 @@
 use Rattle.std.specs.Prelude.{◌≡◌, ◌==◌, ◌+◌, ◌*◌, ◌<◌, ◌≤◌, ℕ, Bool, nat_lt, List, [], ◌∷◌, length}
 use Rattle.std.specs.Prelude.{slice_index_or, slice_set, if◌then◌else◌}
 use Rattle.prepare_look.specs.Lines.{one_if}
-use Rattle.prepare_look.specs.Rows.{Row, rows_of}
-use Rattle.prepare_look.specs.declared.place.Marks.{Marks}
+use Rattle.prepare_look.specs.Rows.{Row}
 use Rattle.prepare_page.specs.declared.usual.Usual.{Usual}
 use Rattle.prepare_page.specs.declared.counts.TheConstants.{WIDEST}
 use Rattle.prepare_page.specs.declared.counts.Widths.{Widths}

@@ -63,10 +63,7 @@ fn limit_named(rounds: bool, text: &str) -> Option<Limit>
 }
 
 /// How many digits stand behind the point at most, where it is said, and whether a number that has more is rounded.
-pub(crate) fn limit_of<'a>(
-    rounds: bool,
-    text: Option<&'a str>,
-) -> Result<Option<Limit>, Fault<'a>>
+pub(crate) fn limit_of<'a>(rounds: bool, text: Option<&'a str>) -> Result<Option<Limit>, Fault<'a>>
     ensures { Gives (λ l. l) result (limit_of rounds (option_map (λ s. s.now) text.entry)) }
 {
     let Some(value) = text else {

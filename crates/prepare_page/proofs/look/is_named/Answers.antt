@@ -1,5 +1,4 @@
 use Rattle.std.proofs.Common.{◌∙◌, ap}
-use Rattle.std.specs.Prelude.{length}
 use Rattle.csv.specs.Records.{fields_of}
 use Rattle.prepare_page.proofs.Adding.{named-by}
 use Rattle.prepare_page.specs.Looks.{looked_at}

@@ -1,4 +1,4 @@
-use Rattle.std.proofs.Common.{◌≡◌, ◌+◌, ◌≤◌, ◌∙◌, refl, arith}
+use Rattle.std.proofs.Common.{refl, arith}
 use Rattle.csv.specs.Records.{fields_of}
 use Rattle.prepare_look.specs.Rows.{rows_of}
 use Rattle.prepare_page.proofs.Adding.{adds-first, adds-last, adds-next, few-first, few-next, wider}
