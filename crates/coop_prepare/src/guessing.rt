@@ -121,11 +121,7 @@ fn page_by<'a>(
 
 // The line that tells the rules of a look, with those on numbers where none are asked for; none where it isn't to be
 // told.
-fn rules_told(
-    alloc: Global,
-    writing: &Writing<'_>,
-    page: &Page<'_>,
-) -> Result<String, AllocError> {
+fn rules_told(alloc: Global, writing: &Writing<'_>, page: &Page<'_>) -> Result<String, AllocError> {
     if writing.is_quiet {
         return Ok(String::new(alloc));
     }

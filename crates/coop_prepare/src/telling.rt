@@ -43,6 +43,12 @@ impl fmt::Display for Lines<'_> {
         write_hits(f, "--missing", tally.missing, fields, "made empty")?;
         write_hits(f, "--numbers", tally.spelled, fields, "spelled anew")?;
         write_hits(f, "--round", tally.rounded, fields, "rounded")?;
-        write_hits(f, "--ragged pad", tally.padded, ("record", "records"), "padded")
+        write_hits(
+            f,
+            "--ragged pad",
+            tally.padded,
+            ("record", "records"),
+            "padded",
+        )
     }
 }

@@ -23,11 +23,7 @@ pub(crate) const PLAIN: Rules<'static> = Rules {
 };
 
 // The text that becomes of an export, and what is told of it.
-fn prepared(
-    alloc: Global,
-    rules: &Rules<'_>,
-    export: &[u8],
-) -> Result<(Vec<u8>, Report), Failure> {
+fn prepared(alloc: Global, rules: &Rules<'_>, export: &[u8]) -> Result<(Vec<u8>, Report), Failure> {
     prepare(alloc, rules, export, Vec::new(alloc))
 }
 

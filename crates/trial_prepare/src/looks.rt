@@ -91,7 +91,8 @@ fn an_encoding_is_asked_for(rt: HostRuntime) {
 
 #[test]
 fn rounding_is_asked_for(rt: HostRuntime) {
-    let export = "id,rate,mass,note\n1,0.1234567891,1,0.1234567891\n2,NA,1.5e3,x\n3,.5,NA,\n4,2,0.00000000001,y\n";
+    let export =
+        "id,rate,mass,note\n1,0.1234567891,1,0.1234567891\n2,NA,1.5e3,x\n3,.5,NA,\n4,2,0.00000000001,y\n";
     let told = "file x.csv: UTF-8, 5 line ends\n\
         delimiter ',': 5 of 5 records have 4 fields\n\
         names: in line 1\n\

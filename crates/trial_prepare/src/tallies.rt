@@ -5,6 +5,7 @@ use std::alloc::Global;
 
 /// Nothing was done.
 const NONE: Hits = Hits { count: 0, line: 0 };
+
 const NOTHING: Tally = Tally {
     trimmed: NONE,
     missing: NONE,
@@ -110,7 +111,15 @@ fn a_record_that_is_refused_is_not_told(rt: HostRuntime) {
             cause: Cause::LongNumber { column: 2 },
         }),
     };
-    assert!(rt; gives(rt.alloc(), &rules, b"a,b,c\n +1,0.125\n", b"a,b,c\n", report));
+    assert!(rt;
+        gives(
+            rt.alloc(),
+            &rules,
+            b"a,b,c\n +1,0.125\n",
+            b"a,b,c\n",
+            report
+        )
+    );
 }
 
 #[test]
