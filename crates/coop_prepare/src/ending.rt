@@ -57,6 +57,10 @@ pub(crate) fn refused(
     match refusal.cause {
         Cause::NoColumn { word } => lacking(alloc, "--columns", writing.columns.as_slice(), word),
         Cause::NoNumbers { word } => lacking(alloc, "--numbers", writing.numbers.as_slice(), word),
+        Cause::NoDates { word } => {
+            lacking(alloc, "--date-columns", writing.dates.as_slice(), word)
+        }
+        Cause::NumberAndDate { word } => both(alloc, writing.dates.as_slice(), word),
         Cause::NoName { word } => {
             let name = match writing.renames.get(word) {
                 Some(rename) => rename.from,
@@ -68,6 +72,19 @@ pub(crate) fn refused(
             Some(line) => format!(in alloc; "stopped 3: record {number}, line {line}: {cause}\n"),
             None => format!(in alloc; "stopped 3: record {number}: {cause}\n"),
         },
+    }
+}
+
+// The line of a column that is one of numbers and of dates.
+fn both(alloc: Global, columns: &[Column<'_>], word: usize) -> Result<String, AllocError> {
+    match columns.get(word) {
+        Some(Column::Named(name)) => {
+            format!(in alloc; "stopped 3: column '{name}' is one of numbers and of dates\n")
+        }
+        Some(Column::Placed(place)) => {
+            format!(in alloc; "stopped 3: column {place} is one of numbers and of dates\n")
+        }
+        None => format!(in alloc; "stopped 3: a column is one of numbers and of dates\n"),
     }
 }
 

@@ -43,6 +43,7 @@ impl fmt::Display for Lines<'_> {
         write_hits(f, "--missing", tally.missing, fields, "made empty")?;
         write_hits(f, "--numbers", tally.spelled, fields, "spelled anew")?;
         write_hits(f, "--round", tally.rounded, fields, "rounded")?;
+        write_hits(f, "--dates", tally.dated, fields, "written as YYYY-MM-DD")?;
         write_hits(
             f,
             "--ragged pad",

@@ -16,7 +16,10 @@ use Rattle.prepare_numbers.specs.declared.limit.Fit.TheVariants as fit
 use Rattle.prepare_numbers.specs.declared.limit.Limit.{Limit}
 use Rattle.prepare_rules.proofs.Spelled.{keeps-worth}
 use Rattle.prepare_rules.specs.Columns.{picks_of}
-use Rattle.prepare_rules.specs.Made.{change_by, field_change, field_made, is_long, is_mark, mark_change, row_made, row_told, spelled_change}
+use Rattle.prepare_dates.specs.Days.{Numbers, date_in}
+use Rattle.prepare_rules.proofs.Dated.{keeps-day}
+use Rattle.prepare_rules.specs.Dates.{date_made, date_or}
+use Rattle.prepare_rules.specs.Made.{change_by, change_refusal, field_change, field_made, is_mark, mark_change, row_made, row_told, spelled_change}
 use Rattle.prepare_rules.specs.Names.{named_picks}
 use Rattle.prepare_rules.specs.Numbers.{fit_by, form_of, mark_byte, number_made, number_text}
 use Rattle.prepare_rules.specs.Outcome.{Outcome, all_done, below, counted_names, kept, made_first, number_past, prepared, refused_in, under, under_picks}
@@ -26,6 +29,8 @@ use Rattle.prepare_rules.specs.Tally.{no_tally}
 use Rattle.prepare_rules.specs.declared.cause.Cause.{Cause}
 use Rattle.prepare_rules.specs.declared.change.Change.TheVariants as change
 use Rattle.prepare_rules.specs.declared.columns.Pick.{Pick}
+use Rattle.prepare_rules.specs.declared.kind.Kind.{Kind}
+use Rattle.prepare_rules.specs.declared.kind.Kind.TheVariants as kind
 use Rattle.prepare_rules.specs.declared.rules.Column.{Column}
 use Rattle.prepare_rules.specs.declared.rules.Rules.{Rules}
 use Rattle.prepare_rules.specs.declared.tally.Tally.{Tally}
@@ -60,34 +65,44 @@ same-skip (c ∷ cs) shape reading places taken is = ap (λ (r : Rules). r.skip)
 -- ---- fields
 
 -- a number that isn't rounded and isn't too long fits
-fits : (limit : Option Limit) (up down : ℕ) (digits : List ℕ) (is_same : Bool) → rounds limit ≡ false
-    → is_long (change_by (fit_by limit up down digits) is_same) ≡ false → fit_by limit up down digits ≡ fit.Whole
-fits None up down digits is_same r l = refl
-fits (Some limit) up down digits is_same r l = elim (cases_Bool (list_any is_nonzero (dropped (excess limit (down - up)) (spread up down digits)))) [
+fits : (limit : Option Limit) (up down : ℕ) (digits : List ℕ) (is_same : Bool) (column : ℕ) → rounds limit ≡ false
+    → change_refusal column (change_by (fit_by limit up down digits) is_same) ≡ None → fit_by limit up down digits ≡ fit.Whole
+fits None up down digits is_same column r l = refl
+fits (Some limit) up down digits is_same column r l = elim (cases_Bool (list_any is_nonzero (dropped (excess limit (down - up)) (spread up down digits)))) [
   | inl past ↦ cc (rw (past, r) at l)
   | inr none ↦ rw none refl
 ]
 
-by-spell : (taken : Rules) (field : List ℕ) → rounds taken.limit ≡ false → (b : Bool) → spells (form_of taken) field ≡ b
-    → is_long (if b then spelled_change taken field else change.Kept) ≡ false
-    → Keeps taken true field (if b then number_text taken.limit (mark_byte taken.mark) field else field)
-by-spell taken field r false e l = inl refl
-by-spell taken field r true e l =
+by-spell : (taken : Rules) (column : ℕ) (field : List ℕ) → rounds taken.limit ≡ false → (b : Bool) → spells (form_of taken) field ≡ b
+    → change_refusal column (if b then spelled_change taken field else change.Kept) ≡ None
+    → Keeps taken kind.Numbers field (if b then number_text taken.limit (mark_byte taken.mark) field else field)
+by-spell taken column field r false e l = inl refl
+by-spell taken column field r true e l =
     let mark = mark_byte taken.mark in
     let whole = fits taken.limit (value_of mark field).up (value_of mark field).down (digits_in (mantissa field))
-    (bytes_eq (number_text taken.limit mark field) field) r l in
-    inr (inl (refl, rw e at (keeps-worth taken.limit (form_of taken) field e whole)))
+    (bytes_eq (number_text taken.limit mark field) field) column r l in
+    inr (inl (rw e at (keeps-worth taken.limit (form_of taken) field e whole)))
 
-by-mark : (taken : Rules) (field : List ℕ) → rounds taken.limit ≡ false → (b : Bool) → is_mark taken.missing.now field ≡ b
-    → is_long (if b then mark_change field else (if spells (form_of taken) field then spelled_change taken field else change.Kept)) ≡ false
-    → Keeps taken true field (if b then [] else number_made taken.limit (form_of taken) field)
-by-mark taken field r true e l = inr (inr (refl, e, refl))
-by-mark taken field r false e l = by-spell taken field r (spells (form_of taken) field) refl l
+by-mark : (taken : Rules) (column : ℕ) (field : List ℕ) → rounds taken.limit ≡ false → (b : Bool) → is_mark taken.missing.now field ≡ b
+    → change_refusal column (if b then mark_change field else (if spells (form_of taken) field then spelled_change taken field else change.Kept)) ≡ None
+    → Keeps taken kind.Numbers field (if b then [] else number_made taken.limit (form_of taken) field)
+by-mark taken column field r true e l = inr (inr (e, refl))
+by-mark taken column field r false e l = by-spell taken column field r (spells (form_of taken) field) refl l
 
-bare-kept : (taken : Rules) → taken.trims ≡ false → rounds taken.limit ≡ false → (is_number : Bool) (field : List ℕ)
-    → is_long (field_change taken is_number field) ≡ false → Keeps taken is_number field (field_made taken is_number field)
-bare-kept taken t r false field l = inl (rw t refl)
-bare-kept taken t r true field l = rw t (by-mark taken field r (is_mark taken.missing.now field) refl (rw t at l))
+by-day : (taken : Rules) (field : List ℕ) (o : Option Numbers) → date_in taken.order field ≡ o → Keeps taken kind.Dates field (date_or field o)
+by-day taken field None e = inl refl
+by-day taken field (Some d) e = inr (inl (d, e, rw e at (keeps-day taken.order taken.order field d e)))
+
+dated : (taken : Rules) (field : List ℕ) (b : Bool) → is_mark taken.missing.now field ≡ b
+    → Keeps taken kind.Dates field (if b then [] else date_made taken.order field)
+dated taken field true e = inr (inr (e, refl))
+dated taken field false e = by-day taken field (date_in taken.order field) refl
+
+bare-kept : (taken : Rules) → taken.trims ≡ false → rounds taken.limit ≡ false → (k : Kind) (column : ℕ) (field : List ℕ)
+    → change_refusal column (field_change taken k field) ≡ None → Keeps taken k field (field_made taken k field)
+bare-kept taken t r kind.Texts column field l = rw t refl
+bare-kept taken t r kind.Numbers column field l = rw t (by-mark taken column field r (is_mark taken.missing.now field) refl (rw t at l))
+bare-kept taken t r kind.Dates column field l = rw t (dated taken field (is_mark taken.missing.now field) refl)
 
 pub keeps-fields : KeepsFields
 keeps-fields asked look taken is untrimmed unrounded =

@@ -1,6 +1,7 @@
 -- The rules that a look at an export gives, and what they make of it.
 use Rattle.std.specs.Prelude.{◌≡◌, ◌+◌, ◌&&◌, ℕ, zero, suc, Bool, true, false, not, nat_lt, List, [], ◌∷◌, ◌++◌}
 use Rattle.std.specs.Prelude.{Option, Some, None, if◌then◌else◌, map}
+use Rattle.std.specs.Borrow.{Bor}
 use Rattle.prepare_look.specs.declared.failure.Failure.TheVariants as broken
 use Rattle.prepare_look.specs.declared.failure.Failure.{Failure as Broken}
 use Rattle.prepare_page.specs.Advice.{has_comma, needs_rules, parts, reading_of}
@@ -50,7 +51,15 @@ mark_of reading = if has_comma reading then mark.Comma else mark.Point
 abbrev pub shaped : Rules → Look → Rules
 shaped asked look = record asked { delimiter = look.guess.delimiter; has_names = look.has_names }
 
--- and with its rules on numbers, which act in these columns
+abbrev pub texts : List (Bor (List ℕ)) → List (List ℕ)
+texts = map (λ m. m.now)
+
+-- the marks for missing values that a look knows
+abbrev pub look_marks : List (List ℕ)
+look_marks = map (λ m. m.now) MARKS
+
+-- and with its rules on numbers, which act in these columns, and its marks for missing values behind those that are
+-- asked for, as they may be for columns of dates
 pub record IsNumbered (shape : Rules) (reading : Reading) (places : List Column) (taken : Rules) : Type 0 where
   pub rules : taken ≡ record shape {
     numbers = taken.numbers;
@@ -59,7 +68,7 @@ pub record IsNumbered (shape : Rules) (reading : Reading) (places : List Column)
     parts = parts reading;
   }
   pub numbers : taken.numbers.now ≡ places
-  pub missing : map (λ m. m.now) taken.missing.now ≡ map (λ m. m.now) MARKS
+  pub missing : texts taken.missing.now ≡ texts shape.missing.now ++ look_marks
 
 -- columns of numbers that are asked for come with their own rules, and else a look gives both
 abbrev pub IsNumberedFor : List Column → Rules → Reading → List Column → Rules → Type 0

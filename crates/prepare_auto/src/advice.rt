@@ -1,8 +1,8 @@
 // The rules that a look at an export gives.
-ghost use Rattle.std.specs.Prelude.{◌≡◌, ◌<◌, ◌≤◌, IfOk, OnOk};
+ghost use Rattle.std.specs.Prelude.{◌≡◌, ◌<◌, ◌≤◌, ◌++◌, IfOk, OnOk};
 ghost use Rattle.prepare_page.specs.Advice.{needs_rules};
 ghost use Rattle.prepare_page.specs.declared.counts.TheConstants.{WIDEST};
-ghost use Rattle.prepare_auto.specs.Advised.{IsAdvice, mark_of, places_below, shaped, taken_at};
+ghost use Rattle.prepare_auto.specs.Advised.{IsAdvice, look_marks, mark_of, places_below, shaped, taken_at, texts};
 
 use prepare_look::Survey;
 use prepare_page::{Look, MARKS, Reading, needs_rules};
@@ -61,14 +61,25 @@ fn shaped<'a>(asked: &'a Rules<'_>, look: &Look) -> Rules<'a>
     }
 }
 
+/// The marks for missing values that are asked for, and behind them a look's.
+pub(crate) fn marks_with<'a>(alloc: Global, asked: &[&'a str]) -> Result<Vec<&'a str>, AllocError>
+    ensures { IfOk result (λ v. texts v.items ≡ texts asked.now ++ look_marks) }
+{
+    let mut marks = Vec::from_slice(alloc, asked)?;
+    marks.extend_from_slice(&MARKS)?;
+    Ok(marks)
+}
+
 /// The rules that are asked for, and with them what a look gives: the delimiter, whether there are names, and in which
-/// columns numbers are read how, unless columns of numbers are asked for.
+/// columns numbers are read how, unless columns of numbers are asked for; with these marks for missing values.
 pub(crate) fn advised<'a>(
     asked: &'a Rules<'_>,
     look: &Look,
     reading: Reading,
     numbers: &'a [Column<'_>],
+    missing: &'a [&'a str],
 ) -> Rules<'a>
+    requires { texts missing.now ≡ texts asked.now.missing.now ++ look_marks }
     ensures { IsAdvice asked.now look.now reading numbers.now result }
 {
     let shaped = shaped(asked, look);
@@ -77,7 +88,7 @@ pub(crate) fn advised<'a>(
     }
     Rules {
         numbers,
-        missing: &MARKS,
+        missing,
         mark: mark_of(reading),
         parts: reading.parts(),
         ..shaped

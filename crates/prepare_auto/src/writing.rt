@@ -4,7 +4,7 @@ ghost use Rattle.prepare_page.specs.Looks.{IsLookBy};
 ghost use Rattle.prepare_page.specs.declared.counts.TheConstants.{WIDEST};
 ghost use Rattle.prepare_auto.specs.Advised.{IsDone, IsWritten, failure_of, has_titles, hint_of};
 
-use crate::advice::{advised, numbers_of};
+use crate::advice::{advised, marks_with, numbers_of};
 use crate::ending::Ending;
 use crate::given::Given;
 use crate::stop::Stop;
@@ -43,7 +43,8 @@ fn write_by<W: Write + Drop>(
 {
     let reading = reading_of(&look.survey);
     let numbers = numbers_of(alloc, &look.survey, reading)?;
-    let rules = advised(asked, look, reading, numbers.as_slice());
+    let missing = marks_with(alloc, asked.missing)?;
+    let rules = advised(asked, look, reading, numbers.as_slice(), missing.as_slice());
     prepare(alloc, &rules, text, output)
 }
 

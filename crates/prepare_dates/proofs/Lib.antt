@@ -1,3 +1,3 @@
 mod Digits
-mod Back
+pub mod Back
 mod Staying

@@ -6,30 +6,41 @@ use Rattle.std.proofs.lemmas.List.{length-map}
 use Rattle.std.specs.Prelude.{Result, Ok, Err, nat_lt, slice_index_or}
 use Rattle.prepare_text.specs.Walk.{Lined}
 use Rattle.prepare_rules.proofs.Choosing.{first-of, second-of}
-use Rattle.prepare_rules.specs.Columns.{is_few, lost_name, names_written, pick_at, picks_among, picks_from, picks_named, picks_of, renamed, written_places}
-use Rattle.prepare_rules.specs.Made.{field_change, field_made, fields_made, is_long, is_taken, long_refusal, picked_made, row_made, row_told}
-use Rattle.prepare_rules.specs.Names.{named_picks, names_refusal, unless}
+use Rattle.prepare_rules.specs.Columns.{both_from, is_few, lost_name, names_written, pick_at, picks_among, picks_dated, picks_from, picks_meant, picks_named, picks_of, places_from, renamed, written_places}
+use Rattle.prepare_rules.specs.Made.{change_refusal, field_change, field_made, fields_made, fields_refusal, is_taken, picked_made, row_made, row_told}
+use Rattle.prepare_rules.specs.Names.{named_picks, names_refusal, or_cause, unless}
 use Rattle.prepare_rules.specs.Outcome.{AreWide, IsTable, Outcome, below, counted_names, first_row, from_first, is_full, is_full_for, kept, made_first, number_past, prepared, under, under_picks}
 use Rattle.prepare_rules.specs.Records.{Record}
 use Rattle.prepare_rules.specs.Tally.{no_tally}
 use Rattle.prepare_rules.specs.declared.cause.Cause.{Cause}
 use Rattle.prepare_rules.specs.declared.cause.Cause.TheVariants as cause
+use Rattle.prepare_rules.specs.declared.change.Change.{Change}
+use Rattle.prepare_rules.specs.declared.change.Change.TheVariants as change
 use Rattle.prepare_rules.specs.declared.columns.Pick.{Pick}
 use Rattle.prepare_rules.specs.declared.rules.Rules.{Rules}
 use Rattle.prepare_rules.specs.declared.tally.Tally.{Tally}
 use Rattle.table_sets.specs.declared.limits.TheConstants.{MOST_ROWS}
 
 -- columns that are as many as a table has
-among : (r : Result (List ℕ) ℕ) (places : List ℕ) (picks : List Pick) → picks_among r places ≡ Ok picks → is_few (length places) ≡ true → is_few (length picks) ≡ true
-among (Err word) places picks e few = cc e
-among (Ok numbers) places picks e few =
-    let g : map (pick_at numbers) places ≡ picks = cc e in
-    ap is_few (ap length (sym g) ∙ length-map places (pick_at numbers)) ∙ few
+meant : (o : Option ℕ) (found picks : List Pick) → picks_meant o found ≡ Ok picks → found ≡ picks
+meant None found picks e = cc e
+meant (Some word) found picks e = cc e
+
+dated : (numbers : List ℕ) (d : Result (List ℕ) ℕ) (places : List ℕ) (picks : List Pick) → picks_dated numbers d places ≡ Ok picks → is_few (length places) ≡ true
+    → is_few (length picks) ≡ true
+dated numbers (Err word) places picks e few = cc e
+dated numbers (Ok dates) places picks e few =
+    let g = meant (both_from 0 numbers dates) (map (pick_at numbers dates) places) picks e in
+    ap is_few (ap length (sym g) ∙ length-map places (pick_at numbers dates)) ∙ few
+
+among : (r d : Result (List ℕ) ℕ) (places : List ℕ) (picks : List Pick) → picks_among r d places ≡ Ok picks → is_few (length places) ≡ true → is_few (length picks) ≡ true
+among (Err word) d places picks e few = cc e
+among (Ok numbers) d places picks e few = dated numbers d places picks e few
 
 from : (rules : Rules) (names : Record) (r : Result (List ℕ) ℕ) (picks : List Pick) → picks_from rules names r ≡ Ok picks → is_few (length picks) ≡ true
 from rules names (Err word) picks e = cc e
 from rules names (Ok places) picks e = elim (cases_Bool (is_few (length places))) [
-  | inl so ↦ among _ places picks (rw so at e) so
+  | inl so ↦ among (places_from names 0 rules.numbers.now) (places_from names 0 rules.dates.now) places picks (rw so at e) so
   | inr not ↦ cc (rw not at e)
 ]
 
@@ -56,12 +67,12 @@ taken rules names (Ok found) picks e =
 
 -- a record that is made is as wide as the columns
 made-wide : (rules : Rules) (picks : List Pick) (fields row : Record) → picked_made rules picks fields ≡ Ok row → length row ≡ length picks
-made-wide rules picks fields row e = go (long_refusal rules 1 picks fields) e
+made-wide rules picks fields row e = go (fields_refusal rules 1 picks fields) e
   where
     go : (o : Option Cause) → unless o (fields_made rules picks fields) ≡ Ok row → length row ≡ length picks
     go None is =
         let same : fields_made rules picks fields ≡ row = cc is in
-        ap length (sym same) ∙ length-map picks (λ (p : Pick). field_made rules p.is_number (slice_index_or fields p.place []))
+        ap length (sym same) ∙ length-map picks (λ (p : Pick). field_made rules p.kind (slice_index_or fields p.place []))
     go (Some c) is = cc is
 
 -- rows as wide as the names
@@ -97,17 +108,28 @@ first-full : (room at line : ℕ) (told : Tally) (r : Result Record Cause) (rest
 first-full room at line told (Ok row) rest is more = more
 first-full room at line told (Err c) rest is more = none-more room ∙ sym (is c refl)
 
-long-other : (rules : Rules) (column : ℕ) (picks : List Pick) (fields : Record) (c : Cause) → long_refusal rules column picks fields ≡ Some c → is_full_for c ≡ false
-long-other rules column [] fields c e = cc e
-long-other rules column (p ∷ picks) fields c e = elim (cases_Bool (is_long (field_change rules p.is_number (slice_index_or fields p.place [])))) [
-  | inl so ↦
-      let is : cause.LongNumber column ≡ c = cc (rw so at e) in
-      rw (← is) refl
-  | inr not ↦ long-other rules (column + 1) picks fields c (rw not at e)
-]
+change-other : (column : ℕ) (x : Change) (c : Cause) → change_refusal column x ≡ Some c → is_full_for c ≡ false
+change-other column change.Kept c e = cc e
+change-other column change.Missing c e = cc e
+change-other column change.Spelled c e = cc e
+change-other column change.Rounded c e = cc e
+change-other column change.Dated c e = cc e
+change-other column change.TooLong c e = let is : cause.LongNumber column ≡ c = cc e in rw (← is) refl
+change-other column change.NoDate c e = let is : cause.NoDate column ≡ c = cc e in rw (← is) refl
+
+fields-other : (rules : Rules) (column : ℕ) (picks : List Pick) (fields : Record) (c : Cause) → fields_refusal rules column picks fields ≡ Some c → is_full_for c ≡ false
+fields-other rules column [] fields c e = cc e
+fields-other rules column (p ∷ picks) fields c e =
+    go (change_refusal column (field_change rules p.kind (slice_index_or fields p.place [])))
+    (change-other column (field_change rules p.kind (slice_index_or fields p.place [])) c) (fields-other rules (column + 1) picks fields c) e
+  where
+    go : (o : Option Cause) → (o ≡ Some c → is_full_for c ≡ false) → (fields_refusal rules (column + 1) picks fields ≡ Some c → is_full_for c ≡ false)
+        → or_cause o (fields_refusal rules (column + 1) picks fields) ≡ Some c → is_full_for c ≡ false
+    go None first rest is = rest is
+    go (Some d) first rest is = first is
 
 picked-other : (rules : Rules) (picks : List Pick) (fields : Record) (c : Cause) → picked_made rules picks fields ≡ Err c → is_full_for c ≡ false
-picked-other rules picks fields c e = go (long_refusal rules 1 picks fields) (long-other rules 1 picks fields) e
+picked-other rules picks fields c e = go (fields_refusal rules 1 picks fields) (fields-other rules 1 picks fields) e
   where
     go : (o : Option Cause) → ((d : Cause) → o ≡ Some d → is_full_for d ≡ false) → unless o (fields_made rules picks fields) ≡ Err c → is_full_for c ≡ false
     go None is same = cc same

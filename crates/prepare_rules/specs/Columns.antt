@@ -11,6 +11,8 @@ use Rattle.prepare_rules.specs.declared.rules.Column.TheVariants.{Named, Placed}
 use Rattle.prepare_rules.specs.declared.rules.Rename.{Rename}
 use Rattle.prepare_rules.specs.declared.rules.Rules.{Rules}
 use Rattle.prepare_rules.specs.declared.columns.Pick.{Pick}
+use Rattle.prepare_rules.specs.declared.kind.Kind.{Kind}
+use Rattle.prepare_rules.specs.declared.kind.Kind.TheVariants as kind
 use Rattle.table_sets.specs.declared.limits.TheConstants.{MOST_COLUMNS}
 
 -- where a name stands first, counted on from a place
@@ -59,20 +61,40 @@ abbrev pub renamed : List Rename → List ℕ → List ℕ
 renamed [] name = name
 renamed (r ∷ renames) name = if bytes_eq name r.from.now then r.to.now else renamed renames name
 
--- a place, and whether it is among those of numbers
-abbrev pub pick_at : List ℕ → ℕ → Pick
-pick_at numbers place = record { place = place; is_number = list_any (λ n. n == place) numbers }
+-- what the column at a place holds
+abbrev pub kind_at : List ℕ → List ℕ → ℕ → Kind
+kind_at numbers dates place = if list_any (λ n. n == place) dates then kind.Dates
+    else if list_any (λ n. n == place) numbers then kind.Numbers else kind.Texts
+
+abbrev pub pick_at : List ℕ → List ℕ → ℕ → Pick
+pick_at numbers dates place = record { place = place; kind = kind_at numbers dates place }
+
+-- the first column of dates that is one of numbers too, by its number from this one on
+abbrev pub both_from : ℕ → List ℕ → List ℕ → Option ℕ
+both_from word numbers [] = None
+both_from word numbers (date ∷ dates) = if list_any (λ n. n == date) numbers then Some word
+    else both_from (word + 1) numbers dates
 
 abbrev pub is_few : ℕ → Bool
 is_few n = nat_le 1 n && nat_le n MOST_COLUMNS
 
-abbrev pub picks_among : Result (List ℕ) ℕ → List ℕ → Result (List Pick) Cause
-picks_among (Err word) places = Err (cause.NoNumbers word)
-picks_among (Ok numbers) places = Ok (map (pick_at numbers) places)
+abbrev pub picks_meant : Option ℕ → List Pick → Result (List Pick) Cause
+picks_meant None picks = Ok picks
+picks_meant (Some word) picks = Err (cause.NumberAndDate word)
+
+abbrev pub picks_dated : List ℕ → Result (List ℕ) ℕ → List ℕ → Result (List Pick) Cause
+picks_dated numbers (Err word) places = Err (cause.NoDates word)
+picks_dated numbers (Ok dates) places = picks_meant (both_from 0 numbers dates) (map (pick_at numbers dates) places)
+
+-- the columns at these places, with what they hold, where those of numbers and of dates are there and none is both
+abbrev pub picks_among : Result (List ℕ) ℕ → Result (List ℕ) ℕ → List ℕ → Result (List Pick) Cause
+picks_among (Err word) dates places = Err (cause.NoNumbers word)
+picks_among (Ok numbers) dates places = picks_dated numbers dates places
 
 abbrev pub picks_from : Rules → Record → Result (List ℕ) ℕ → Result (List Pick) Cause
 picks_from rules names (Err word) = Err (cause.NoColumn word)
-picks_from rules names (Ok places) = if is_few (length places) then picks_among (places_from names 0 rules.numbers.now) places
+picks_from rules names (Ok places) = if is_few (length places)
+    then picks_among (places_from names 0 rules.numbers.now) (places_from names 0 rules.dates.now) places
     else Err (cause.Columns (length places))
 
 abbrev pub picks_named : Option ℕ → Result (List Pick) Cause → Result (List Pick) Cause

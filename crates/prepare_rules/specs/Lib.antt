@@ -1,4 +1,5 @@
 pub mod Columns
+pub mod Dates
 pub mod Made
 pub mod Names
 pub mod Numbers

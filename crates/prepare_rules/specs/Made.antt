@@ -7,7 +7,10 @@ use Rattle.csv.specs.Records.{trimmed}
 use Rattle.prepare_numbers.specs.Spells.{spells}
 use Rattle.prepare_numbers.specs.declared.limit.Fit.{Fit}
 use Rattle.prepare_numbers.specs.declared.limit.Fit.TheVariants as fit
-use Rattle.prepare_rules.specs.Names.{unless}
+use Rattle.prepare_dates.specs.Days.{Numbers, date_in}
+use Rattle.prepare_dates.specs.Written.{date_text}
+use Rattle.prepare_rules.specs.Dates.{date_made}
+use Rattle.prepare_rules.specs.Names.{or_cause, unless}
 use Rattle.prepare_rules.specs.Numbers.{form_of, mark_byte, number_fit, number_made, number_text}
 use Rattle.prepare_rules.specs.Records.{Record}
 use Rattle.prepare_rules.specs.Tally.{with_change, with_pad, with_trim}
@@ -16,6 +19,8 @@ use Rattle.prepare_rules.specs.declared.cause.Cause.TheVariants as cause
 use Rattle.prepare_rules.specs.declared.change.Change.{Change}
 use Rattle.prepare_rules.specs.declared.change.Change.TheVariants as change
 use Rattle.prepare_rules.specs.declared.columns.Pick.{Pick}
+use Rattle.prepare_rules.specs.declared.kind.Kind.{Kind}
+use Rattle.prepare_rules.specs.declared.kind.Kind.TheVariants as kind
 use Rattle.prepare_rules.specs.declared.rules.Rules.{Rules}
 use Rattle.prepare_rules.specs.declared.tally.Tally.{Tally}
 use Rattle.prepare_text.specs.Walk.{Lined}
@@ -34,17 +39,23 @@ abbrev pub number_field : Rules → List ℕ → List ℕ
 number_field rules field = if is_mark rules.missing.now field then []
     else number_made rules.limit (form_of rules) field
 
+-- a field of a column of dates: a mark for a missing value is left out, and a date is written as YYYY-MM-DD
+abbrev pub date_field : Rules → List ℕ → List ℕ
+date_field rules field = if is_mark rules.missing.now field then [] else date_made rules.order field
+
 -- a field with nothing around it
-abbrev pub bare_made : Rules → Bool → List ℕ → List ℕ
-bare_made rules is_number field = if is_number then number_field rules field else field
+abbrev pub bare_made : Rules → Kind → List ℕ → List ℕ
+bare_made rules kind.Texts field = field
+bare_made rules kind.Numbers field = number_field rules field
+bare_made rules kind.Dates field = date_field rules field
 
 -- WHAT BECOMES OF A FIELD
-abbrev pub field_made : Rules → Bool → List ℕ → List ℕ
-field_made rules is_number field = bare_made rules is_number (bare rules field)
+abbrev pub field_made : Rules → Kind → List ℕ → List ℕ
+field_made rules kind field = bare_made rules kind (bare rules field)
 
 -- the fields of these columns; a field that isn't there is empty
 abbrev pub fields_made : Rules → List Pick → Record → Record
-fields_made rules picks fields = map (λ (p : Pick). field_made rules p.is_number (slice_index_or fields p.place [])) picks
+fields_made rules picks fields = map (λ (p : Pick). field_made rules p.kind (slice_index_or fields p.place [])) picks
 
 -- ---- what is changed in a field
 
@@ -67,17 +78,38 @@ abbrev pub number_change : Rules → List ℕ → Change
 number_change rules field = if is_mark rules.missing.now field then mark_change field
     else if spells (form_of rules) field then spelled_change rules field else change.Kept
 
--- what the rules on numbers do to a field with nothing around it
-abbrev pub bare_change : Rules → Bool → List ℕ → Change
-bare_change rules is_number field = if is_number then number_change rules field else change.Kept
+-- a date that is written as it was, or not
+abbrev pub dated_change : Bool → Change
+dated_change is_same = if is_same then change.Kept else change.Dated
 
--- WHAT THE RULES ON NUMBERS DO TO A FIELD
-abbrev pub field_change : Rules → Bool → List ℕ → Change
-field_change rules is_number field = bare_change rules is_number (bare rules field)
+-- a field of a column of dates that is none: the empty one stays
+abbrev pub undated_change : List ℕ → Change
+undated_change [] = change.Kept
+undated_change (b ∷ field) = change.NoDate
 
-abbrev pub is_long : Change → Bool
-is_long change.TooLong = true
-is_long _ = false
+abbrev pub day_change : List ℕ → Option Numbers → Change
+day_change field None = undated_change field
+day_change field (Some d) = dated_change (bytes_eq (date_text d) field)
+
+abbrev pub date_change : Rules → List ℕ → Change
+date_change rules field = if is_mark rules.missing.now field then mark_change field
+    else day_change field (date_in rules.order field)
+
+-- what the rules of its column do to a field with nothing around it
+abbrev pub bare_change : Rules → Kind → List ℕ → Change
+bare_change rules kind.Texts field = change.Kept
+bare_change rules kind.Numbers field = number_change rules field
+bare_change rules kind.Dates field = date_change rules field
+
+-- WHAT THE RULES OF ITS COLUMN DO TO A FIELD
+abbrev pub field_change : Rules → Kind → List ℕ → Change
+field_change rules kind field = bare_change rules kind (bare rules field)
+
+-- a number that is too long refuses its record, and so does what is no date, by the number of its column
+abbrev pub change_refusal : ℕ → Change → Option Cause
+change_refusal column change.TooLong = Some (cause.LongNumber column)
+change_refusal column change.NoDate = Some (cause.NoDate column)
+change_refusal column _ = None
 
 -- white space at its ends is left out
 abbrev pub is_trimmed : Rules → List ℕ → Bool
@@ -85,20 +117,20 @@ is_trimmed rules field = nat_lt (length (bare rules field)) (length field)
 
 -- ---- records
 
--- the first number of these columns that is too long refuses its record, by the number of its column, counted on
-abbrev pub long_refusal : Rules → ℕ → List Pick → Record → Option Cause
-long_refusal rules column [] fields = None
-long_refusal rules column (p ∷ picks) fields =
-    if is_long (field_change rules p.is_number (slice_index_or fields p.place [])) then Some (cause.LongNumber column)
-    else long_refusal rules (column + 1) picks fields
+-- why the first field of these columns that refuses its record does, the columns counted on
+abbrev pub fields_refusal : Rules → ℕ → List Pick → Record → Option Cause
+fields_refusal rules column [] fields = None
+fields_refusal rules column (p ∷ picks) fields =
+    or_cause (change_refusal column (field_change rules p.kind (slice_index_or fields p.place [])))
+    (fields_refusal rules (column + 1) picks fields)
 
 -- a record with so many fields is taken where there are so many names
 abbrev pub is_taken : Rules → ℕ → ℕ → Bool
 is_taken rules names fields = (fields == names) || (rules.pads && nat_lt fields names)
 
--- the fields of these columns, unless a number is too long
+-- the fields of these columns, unless one refuses the record
 abbrev pub picked_made : Rules → List Pick → Record → Result Record Cause
-picked_made rules picks fields = unless (long_refusal rules 1 picks fields) (fields_made rules picks fields)
+picked_made rules picks fields = unless (fields_refusal rules 1 picks fields) (fields_made rules picks fields)
 
 -- WHAT BECOMES OF A RECORD below so many names
 abbrev pub row_made : Rules → ℕ → List Pick → Record → Result Record Cause
@@ -106,15 +138,15 @@ row_made rules names picks fields = if is_taken rules names (length fields) then
     else Err (cause.Fields (length fields) names)
 
 -- what is told of a field, in a record that begins on this line
-abbrev pub field_told : Rules → ℕ → Bool → List ℕ → Tally → Tally
-field_told rules line is_number field t =
-    with_change (field_change rules is_number field) line (with_trim (is_trimmed rules field) line t)
+abbrev pub field_told : Rules → ℕ → Kind → List ℕ → Tally → Tally
+field_told rules line kind field t =
+    with_change (field_change rules kind field) line (with_trim (is_trimmed rules field) line t)
 
 -- what is told of the fields of these columns, one behind the other
 abbrev pub fields_told : Rules → ℕ → List Pick → Record → Tally → Tally
 fields_told rules line [] fields t = t
 fields_told rules line (p ∷ picks) fields t = fields_told rules line picks fields
-    (field_told rules line p.is_number (slice_index_or fields p.place []) t)
+    (field_told rules line p.kind (slice_index_or fields p.place []) t)
 
 -- WHAT IS TOLD OF A RECORD that is written, behind those before it
 abbrev pub row_told : Rules → ℕ → List Pick → Lined → Tally → Tally

@@ -10,7 +10,14 @@ no_hit = record { count = 0; line = 0 }
 
 -- nothing was done
 abbrev pub no_tally : Tally
-no_tally = record { trimmed = no_hit; missing = no_hit; spelled = no_hit; rounded = no_hit; padded = no_hit }
+no_tally = record {
+  trimmed = no_hit;
+  missing = no_hit;
+  spelled = no_hit;
+  rounded = no_hit;
+  dated = no_hit;
+  padded = no_hit;
+}
 
 -- one more, in a record that begins on this line
 abbrev pub hit : ℕ → Hits → Hits
@@ -28,10 +35,12 @@ with_trim is line t = record t { trimmed = hit_if is line t.trimmed }
 unfoldable pub with_pad : Bool → ℕ → Tally → Tally
 with_pad is line t = record t { padded = hit_if is line t.padded }
 
--- with what the rules on numbers made of a field
+-- with what the rules of its column made of a field
 unfoldable pub with_change : Change → ℕ → Tally → Tally
 with_change change.Kept line t = t
 with_change change.Missing line t = record t { missing = hit line t.missing }
 with_change change.Spelled line t = record t { spelled = hit line t.spelled }
 with_change change.Rounded line t = record t { rounded = hit line t.rounded }
 with_change change.TooLong line t = t
+with_change change.Dated line t = record t { dated = hit line t.dated }
+with_change change.NoDate line t = t

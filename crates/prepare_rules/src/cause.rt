@@ -19,6 +19,18 @@ pub enum Cause {
         /// Its place in the rule, from 0.
         word: usize,
     },
+    /// No column is the one that the rule on dates names at this place, from 0.
+    #[error("there is no such column of dates")]
+    NoDates {
+        /// Its place in the rule, from 0.
+        word: usize,
+    },
+    /// The column that the rule on dates names at this place, from 0, is one of numbers too.
+    #[error("a column of dates is one of numbers too")]
+    NumberAndDate {
+        /// Its place in the rule on dates, from 0.
+        word: usize,
+    },
     /// No column has the name that the rule on names gives up at this place, from 0.
     #[error("there is no such name")]
     NoName {
@@ -59,6 +71,12 @@ pub enum Cause {
     /// A number of the record has more digits behind the point than the limit says, and isn't to be rounded.
     #[error("the number in column {column} has too many digits behind the point")]
     LongNumber {
+        /// The number of its column among those that are written, from 1.
+        column: usize,
+    },
+    /// A field of a column of dates is none, nor empty, nor a mark for a missing value.
+    #[error("the field in column {column} is no date")]
+    NoDate {
         /// The number of its column among those that are written, from 1.
         column: usize,
     },

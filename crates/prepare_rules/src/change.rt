@@ -1,10 +1,11 @@
-// What the rules on numbers make of a field.
+// What the rules of its column make of a field.
 ghost use Rattle.std.specs.Prelude.{◌≡◌};
-ghost use Rattle.prepare_rules.specs.Made.{change_by, is_long, mark_change};
+ghost use Rattle.prepare_rules.specs.Made.{change_by, change_refusal, dated_change, mark_change, undated_change};
 
+use crate::cause::Cause;
 use prepare_numbers::Fit;
 
-/// What the rules on numbers make of a field.
+/// What the rules of its column make of a field.
 #[derive(Clone, Copy, Debug, PartialEq, Eq)]
 pub enum Change {
     /// It stays as it was.
@@ -17,6 +18,10 @@ pub enum Change {
     Rounded,
     /// It has more digits behind the point than the limit says, and refuses its record.
     TooLong,
+    /// It is the same day in another spelling.
+    Dated,
+    /// It is no date where one has to stand, and refuses its record.
+    NoDate,
 }
 
 impl Change {
@@ -46,13 +51,34 @@ impl Change {
         }
     }
 
-    /// Whether it refuses its record.
-    pub(crate) fn is_long(self) -> bool
-        ensures { result ≡ is_long self }
+    /// Of a date that is written as it was or not.
+    pub(crate) fn of_date(is_same: bool) -> Change
+        ensures { result ≡ dated_change is_same }
+    {
+        if is_same {
+            return Change::Kept;
+        }
+        Change::Dated
+    }
+
+    /// Of a field of a column of dates that is none: the empty one stays.
+    pub(crate) fn of_no_date(field: &[u8]) -> Change
+        ensures { result ≡ undated_change field.now }
+    {
+        match field {
+            [] => Change::Kept,
+            _ => Change::NoDate,
+        }
+    }
+
+    /// Why it refuses its record, where it does, in a column of this number.
+    pub(crate) fn refusal(self, column: usize) -> Option<Cause>
+        ensures { result ≡ change_refusal column self }
     {
         match self {
-            Change::TooLong => true,
-            _ => false,
+            Change::TooLong => Some(Cause::LongNumber { column }),
+            Change::NoDate => Some(Cause::NoDate { column }),
+            _ => None,
         }
     }
 }

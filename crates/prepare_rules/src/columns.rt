@@ -1,20 +1,23 @@
 // The columns that are written.
 ghost use Rattle.std.specs.Prelude.{◌≡◌, IfOk, map};
 ghost use Rattle.csv.specs.Records.{fields_of};
-ghost use Rattle.prepare_rules.specs.Columns.{from_on, is_few, listed, lost_name, picks_of, pick_at, place_from, place_of, places_from, renamed, written_places};
+ghost use Rattle.prepare_rules.specs.Columns.{both_from, from_on, is_few, kind_at, listed, lost_name};
+ghost use Rattle.prepare_rules.specs.Columns.{pick_at, picks_among, picks_of};
+ghost use Rattle.prepare_rules.specs.Columns.{place_from, place_of, places_from, renamed, written_places};
 
 use crate::cause::Cause;
 use crate::field::field_or_none;
+use crate::kind::Kind;
 use crate::rules::{Column, Rename, Rules};
 use csv::ByteRecord;
 use std::alloc::{AllocError, Global};
 use table_sets::MOST_COLUMNS;
 
-/// A column that is written: its place in the export, from 0, and whether it is one of numbers.
+/// A column that is written: its place in the export, from 0, and what it holds.
 #[derive(Clone, Copy, Debug, PartialEq, Eq)]
 pub struct Pick {
     pub place: usize,
-    pub is_number: bool,
+    pub kind: Kind,
 }
 
 /// How many names there are, and which columns are written.
@@ -44,10 +47,56 @@ pub(crate) fn picks_of(
             columns: places.len(),
         }));
     }
-    match places_of(alloc, rules.numbers, names)? {
-        Ok(numbers) => return Ok(Ok(picks_at(alloc, places.as_slice(), numbers.as_slice())?)),
+    picks_among(alloc, rules, names, places.as_slice())
+}
+
+// The columns at these places, with what they hold.
+fn picks_among(
+    alloc: Global,
+    rules: &Rules<'_>,
+    names: &ByteRecord,
+    places: &[usize],
+) -> Result<Result<Vec<Pick>, Cause>, AllocError>
+    ensures { IfOk result (λ found. listed found ≡ picks_among (places_from (fields_of names.now) 0 rules.now.numbers.now)
+        (places_from (fields_of names.now) 0 rules.now.dates.now) places.now) }
+{
+    let numbers = match places_of(alloc, rules.numbers, names)? {
+        Ok(numbers) => numbers,
         Err(word) => return Ok(Err(Cause::NoNumbers { word })),
+    };
+    let dates = match places_of(alloc, rules.dates, names)? {
+        Ok(dates) => dates,
+        Err(word) => return Ok(Err(Cause::NoDates { word })),
+    };
+    match both_at(numbers.as_slice(), dates.as_slice()) {
+        Some(word) => Ok(Err(Cause::NumberAndDate { word })),
+        None => Ok(Ok(picks_at(alloc, places, numbers.as_slice(), dates.as_slice())?)),
     }
+}
+
+// The number of the first column of dates that is one of numbers too.
+fn both_at(numbers: &[usize], dates: &[usize]) -> Option<usize>
+    ensures { result ≡ both_from 0 numbers.now dates.now }
+{
+    for word in 0..dates.len() {
+        if numbers.contains(&dates[word]) {
+            return Some(word);
+        }
+    }
+    None
+}
+
+// What the column at a place holds.
+fn kind_at(numbers: &[usize], dates: &[usize], place: usize) -> Kind
+    ensures { result ≡ kind_at numbers.now dates.now place }
+{
+    if dates.contains(&place) {
+        return Kind::Dates;
+    }
+    if numbers.contains(&place) {
+        return Kind::Numbers;
+    }
+    Kind::Texts
 }
 
 // Whether a table may have so many columns.
@@ -139,15 +188,20 @@ fn lost_name(names: &ByteRecord, renames: &[Rename<'_>]) -> Option<usize>
     None
 }
 
-fn picks_at(alloc: Global, places: &[usize], numbers: &[usize]) -> Result<Vec<Pick>, AllocError>
-    ensures { IfOk result (λ picks. picks.items ≡ map (pick_at numbers.now) places.now) }
+fn picks_at(
+    alloc: Global,
+    places: &[usize],
+    numbers: &[usize],
+    dates: &[usize],
+) -> Result<Vec<Pick>, AllocError>
+    ensures { IfOk result (λ picks. picks.items ≡ map (pick_at numbers.now dates.now) places.now) }
 {
     let mut picks = Vec::new(alloc);
     for i in 0..places.len() {
         let place = places[i];
         picks.push(Pick {
             place,
-            is_number: numbers.contains(&place),
+            kind: kind_at(numbers, dates, place),
         })?;
     }
     Ok(picks)

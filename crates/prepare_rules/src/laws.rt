@@ -1,4 +1,5 @@
 // What holds of every export and all rules.
+ghost use Rattle.prepare_rules.specs.Dates.{KeepsDay};
 ghost use Rattle.prepare_rules.specs.Numbers.{KeepsWorth, RoundsNearest};
 ghost use Rattle.prepare_rules.specs.Outcome.{ReadsBack};
 
@@ -18,4 +19,9 @@ pub fn numbers_keep_their_value()
 /// is the one whose last digit is even. It has no more digits behind the point than the limit says.
 pub fn numbers_are_rounded_to_the_nearest()
     ensures { RoundsNearest }
+{}
+
+/// A date that is written anew, YYYY-MM-DD, is the day that it was, in whatever order it is read again.
+pub fn dates_keep_their_day()
+    ensures { KeepsDay }
 {}

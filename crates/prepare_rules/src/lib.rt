@@ -8,6 +8,7 @@ mod columns;
 mod failure;
 mod field;
 mod hits;
+mod kind;
 mod laws;
 mod names;
 mod preparing;
@@ -24,8 +25,10 @@ pub use cause::{Cause, Refusal};
 pub use failure::Failure;
 pub use hits::Hits;
 pub use laws::{
-    numbers_are_rounded_to_the_nearest, numbers_keep_their_value, written_records_are_read_back,
+    dates_keep_their_day, numbers_are_rounded_to_the_nearest, numbers_keep_their_value,
+    written_records_are_read_back,
 };
+pub use prepare_dates::Order;
 pub use prepare_numbers::Limit;
 pub use preparing::prepare;
 pub use report::Report;

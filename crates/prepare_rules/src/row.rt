@@ -2,8 +2,9 @@
 ghost use Rattle.std.specs.Prelude.{◌≡◌, ◌<◌, ◌^◌, ◌-◌, ◌++◌, ◌∷◌, [], IfOk};
 ghost use Rattle.csv.specs.Records.{fields_of, partial_of};
 ghost use Rattle.prepare_numbers.specs.Values.{digits_in};
-ghost use Rattle.prepare_rules.specs.Made.{IsRowMade, bare, bare_change, bare_made, fields_told, is_mark, is_taken};
-ghost use Rattle.prepare_rules.specs.Made.{number_change, number_field, picked_made, row_made, row_told};
+ghost use Rattle.prepare_rules.specs.Made.{IsRowMade, bare, bare_change, bare_made, date_change, date_field, fields_told};
+ghost use Rattle.prepare_rules.specs.Made.{is_mark, is_taken, mark_change, number_change, number_field, picked_made};
+ghost use Rattle.prepare_rules.specs.Made.{row_made, row_told};
 ghost use Rattle.prepare_rules.specs.Numbers.{IsFitted, fit_by, text_by};
 ghost use Rattle.prepare_text.specs.Source.{record_of};
 
@@ -12,11 +13,13 @@ use crate::change::Change;
 use crate::columns::{Pick, Plan};
 use crate::failure::Failure;
 use crate::field::field_or_none;
+use crate::kind::Kind;
 use crate::room::Room;
 use crate::rules::Rules;
 use crate::tally::Tally;
 use crate::trimming::trimmed;
 use csv::ByteRecord;
+use prepare_dates::{date_of, text_of};
 use prepare_numbers::{Fit, Form, Limit, Spelling, push_number, push_within, spelling_of};
 use std::alloc::AllocError;
 
@@ -74,9 +77,9 @@ fn make_fields(
     for i in 0..picks.len() {
         let field = field_or_none(row, picks[i].place);
         let bare = bare(rules, field);
-        let change = push_bare(rules, picks[i].is_number, bare, room)?;
-        if change.is_long() {
-            return Ok(Err(Cause::LongNumber { column: i + 1 }));
+        let change = push_bare(rules, picks[i].kind, bare, room)?;
+        if let Some(cause) = change.refusal(i + 1) {
+            return Ok(Err(cause));
         }
         told = told
             .with_trim(bare.len() < field.len(), line)?
@@ -88,21 +91,35 @@ fn make_fields(
 // Puts what becomes of a field with nothing around it at the end, and tells what is changed in it.
 fn push_bare(
     rules: &Rules<'_>,
-    is_number: bool,
+    kind: Kind,
     field: &[u8],
     room: &mut Room,
 ) -> Result<Change, AllocError>
     requires { partial_of room.old.made ≡ [] }
     ensures field { IfOk result (λ change. fields_of room.new.made
-        ≡ fields_of room.old.made ++ (bare_made rules.now is_number field.now ∷ [])) }
+        ≡ fields_of room.old.made ++ (bare_made rules.now kind field.now ∷ [])) }
     ensures clear { IfOk result (λ change. partial_of room.new.made ≡ []) }
-    ensures change { IfOk result (λ change. change ≡ bare_change rules.now is_number field.now) }
+    ensures change { IfOk result (λ change. change ≡ bare_change rules.now kind field.now) }
 {
-    if is_number {
-        return push_number_field(rules, field, room);
+    match kind {
+        Kind::Texts => {
+            room.made.push_field(field)?;
+            Ok(Change::Kept)
+        }
+        Kind::Numbers => push_number_field(rules, field, room),
+        Kind::Dates => push_date_field(rules, field, room),
     }
-    room.made.push_field(field)?;
-    Ok(Change::Kept)
+}
+
+// Leaves out a mark for a missing value.
+fn push_mark(mark: &[u8], room: &mut Room) -> Result<Change, AllocError>
+    requires { partial_of room.old.made ≡ [] }
+    ensures field { IfOk result (λ change. fields_of room.new.made ≡ fields_of room.old.made ++ ([] ∷ [])) }
+    ensures clear { IfOk result (λ change. partial_of room.new.made ≡ []) }
+    ensures change { IfOk result (λ change. change ≡ mark_change mark.now) }
+{
+    room.made.push_field(&[])?;
+    Ok(Change::of_mark(mark))
 }
 
 // The same of a field of a column of numbers.
@@ -114,8 +131,7 @@ fn push_number_field(rules: &Rules<'_>, field: &[u8], room: &mut Room) -> Result
     ensures change { IfOk result (λ change. change ≡ number_change rules.now field.now) }
 {
     if is_mark(rules.missing, field) {
-        room.made.push_field(&[])?;
-        return Ok(Change::of_mark(field));
+        return push_mark(field, room);
     }
     let Some(fit) = make_number(rules.limit, rules.form(), field, room)? else {
         room.made.push_field(field)?;
@@ -123,6 +139,26 @@ fn push_number_field(rules: &Rules<'_>, field: &[u8], room: &mut Room) -> Result
     };
     room.made.push_field(room.text.as_slice())?;
     Ok(Change::by(fit, room.text.as_slice() == field))
+}
+
+// The same of a field of a column of dates.
+fn push_date_field(rules: &Rules<'_>, field: &[u8], room: &mut Room) -> Result<Change, AllocError>
+    requires { partial_of room.old.made ≡ [] }
+    ensures field { IfOk result (λ change. fields_of room.new.made
+        ≡ fields_of room.old.made ++ (date_field rules.now field.now ∷ [])) }
+    ensures clear { IfOk result (λ change. partial_of room.new.made ≡ []) }
+    ensures change { IfOk result (λ change. change ≡ date_change rules.now field.now) }
+{
+    if is_mark(rules.missing, field) {
+        return push_mark(field, room);
+    }
+    let Some(date) = date_of(rules.order, field) else {
+        room.made.push_field(field)?;
+        return Ok(Change::of_no_date(field));
+    };
+    let text = text_of(date);
+    room.made.push_field(&text)?;
+    Ok(Change::of_date(text.as_slice() == field))
 }
 
 // Makes the number that a field spells in memory that is used again, and tells how it fits the limit; or that the field

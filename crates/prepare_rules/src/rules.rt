@@ -2,6 +2,7 @@
 ghost use Rattle.std.specs.Prelude.{◌≡◌};
 ghost use Rattle.prepare_rules.specs.Numbers.{form_of, mark_byte};
 
+use prepare_dates::Order;
 use prepare_numbers::{Form, Limit};
 
 /// A column of the export.
@@ -57,7 +58,12 @@ pub struct Rules<'a> {
     pub renames: &'a [Rename<'a>],
     /// The columns of numbers, in which marks for missing values and the rules on numbers act.
     pub numbers: &'a [Column<'a>],
-    /// Marks for missing values: a field of a column of numbers that is one of them becomes empty.
+    /// The columns of dates, none of which is one of numbers. A date is written as YYYY-MM-DD; a field that is none, and
+    /// isn't empty, refuses its record.
+    pub dates: &'a [Column<'a>],
+    /// Which of two numbers before the year of a date is the day.
+    pub order: Order,
+    /// Marks for missing values: a field of a column of numbers or of dates that is one of them becomes empty.
     pub missing: &'a [&'a str],
     /// The decimal mark of the numbers; a comma is written as a point.
     pub mark: Mark,

@@ -17,6 +17,8 @@ pub struct Tally {
     pub spelled: Hits,
     /// Numbers that are rounded.
     pub rounded: Hits,
+    /// Dates that are the same day in another spelling.
+    pub dated: Hits,
     /// Records that got empty fields at their end.
     pub padded: Hits,
 }
@@ -32,6 +34,7 @@ impl Tally {
             missing: none,
             spelled: none,
             rounded: none,
+            dated: none,
             padded: none,
         }
     }
@@ -58,7 +61,7 @@ impl Tally {
         })
     }
 
-    /// With what the rules on numbers made of a field.
+    /// With what the rules of its column made of a field.
     #[tactic(auto, unfolding(crate::specs::Tally::with_change))]
     pub(crate) fn with_change(self, change: Change, line: u64) -> Result<Tally, Failure>
         ensures { IfOk result (λ t. t ≡ with_change change line self) }
@@ -76,7 +79,11 @@ impl Tally {
                 rounded: self.rounded.hit_if(true, line)?,
                 ..self
             }),
-            Change::Kept | Change::TooLong => Ok(self),
+            Change::Dated => Ok(Tally {
+                dated: self.dated.hit_if(true, line)?,
+                ..self
+            }),
+            Change::Kept | Change::TooLong | Change::NoDate => Ok(self),
         }
     }
 }

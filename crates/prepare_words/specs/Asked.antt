@@ -1,5 +1,5 @@
 -- What the words ask for.
-use Rattle.std.specs.Prelude.{◌≡◌, ◌&&◌, ⊤, Bool, not, List, [], ◌∷◌, Option, Some, None, Result, Ok, Err, codes}
+use Rattle.std.specs.Prelude.{◌≡◌, ◌&&◌, ◌||◌, ⊤, Bool, not, List, [], ◌∷◌, Option, Some, None, Result, Ok, Err, codes}
 use Rattle.std.specs.Prelude.{if◌then◌else◌, map, string_bytes, String}
 use Rattle.std.specs.declared.alloc.Global.{Global}
 use Rattle.std.specs.Str.{bytes_eq}
@@ -12,7 +12,7 @@ use Rattle.prepare_rules.specs.declared.rules.Mark.{Mark}
 use Rattle.prepare_rules.specs.declared.rules.Mark.TheVariants as mark
 use Rattle.prepare_words.specs.Command.{prepare}
 use Rattle.prepare_words.specs.Reading.{◌>>=◌, Fails, Faulty, alone, columns_in, pads_of, parts_of, quote_of}
-use Rattle.prepare_words.specs.Reading.{delimiter_of, encoding_of, limit_of, renames_in, skip_of, wrong}
+use Rattle.prepare_words.specs.Reading.{delimiter_of, encoding_of, limit_of, order_of, renames_in, skip_of, wrong}
 use Rattle.prepare_words.specs.Views.{WritingIs, byte_of, is_set, is_there, values_in, writing_view}
 use Rattle.prepare_words.specs.declared.asked.Asked.{Asked}
 use Rattle.prepare_words.specs.declared.asked.Asked.TheVariants as asked
@@ -33,19 +33,29 @@ file_of None = Err (wrong word.File [])
 abbrev pub mark_of : Bool → Mark
 mark_of is_comma = if is_comma then mark.Comma else mark.Point
 
--- the first rule on numbers or missing values that acts nowhere
+-- the first rule on numbers that acts nowhere
 abbrev pub lone_rule : List Row → Option Word
 lone_rule rows = if is_there (codes "numbers") rows then None
-    else if is_there (codes "missing") rows then Some word.Missing
     else if is_set (codes "decimal-comma") rows then Some word.DecimalComma
     else if is_there (codes "thousands") rows then Some word.Thousands
     else if is_set (codes "exponents") rows then Some word.Exponents
     else if is_there (codes "places") rows then Some word.Places else None
 
+-- the same, and before it marks for missing values, which act in columns of dates too
+abbrev pub lone_mark : List Row → Option Word
+lone_mark rows = if is_there (codes "numbers") rows || is_there (codes "date-columns") rows then lone_rule rows
+    else if is_there (codes "missing") rows then Some word.Missing else lone_rule rows
+
+-- the same, and before it an order of dates without their columns, or columns without the order
+abbrev pub lone_date : List Row → Option Word
+lone_date rows = if is_there (codes "dates") rows && not (is_there (codes "date-columns") rows) then Some word.Dates
+    else if is_there (codes "date-columns") rows && not (is_there (codes "dates") rows) then Some word.DateColumns
+    else lone_mark rows
+
 -- the same, and before it rounding to no limit
 abbrev pub lone_word : List Row → Option Word
 lone_word rows = if is_set (codes "round") rows && not (is_there (codes "places") rows) then Some word.Round
-    else lone_rule rows
+    else lone_date rows
 
 abbrev pub unless_alone : Option Word → Result WritingIs Faulty → Result WritingIs Faulty
 unless_alone (Some w) rest = Err (alone w)
@@ -62,10 +72,12 @@ writing_of rows = do
   pads ← pads_of (first_of (codes "ragged") rows)
   parts ← parts_of (mark_of (is_set (codes "decimal-comma") rows)) (first_of (codes "thousands") rows)
   limit ← limit_of (is_set (codes "round") rows) (first_of (codes "places") rows)
+  order ← order_of (first_of (codes "dates") rows)
   unless_alone (lone_word rows) (do
     columns ← columns_in word.Columns (values_in (codes "columns") rows)
     renames ← renames_in (values_in (codes "rename") rows)
     numbers ← columns_in word.Numbers (values_in (codes "numbers") rows)
+    dates ← columns_in word.DateColumns (values_in (codes "date-columns") rows)
     Ok (record {
       file = file;
       is_auto = is_set (codes "auto") rows;
@@ -81,6 +93,8 @@ writing_of rows = do
       columns = columns;
       renames = renames;
       numbers = numbers;
+      dates = dates;
+      order = order;
       missing = values_in (codes "missing") rows;
       mark = mark_of (is_set (codes "decimal-comma") rows);
       parts = parts;

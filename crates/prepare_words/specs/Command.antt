@@ -36,6 +36,10 @@ number_rules = options (codes "numbers") ∷ options (codes "missing")
     ∷ flag (codes "decimal-comma") ∷ option (codes "thousands") ∷ flag (codes "exponents")
     ∷ option (codes "places") ∷ flag (codes "round") ∷ []
 
+-- what becomes of the fields of dates
+abbrev pub date_rules : List Rule
+date_rules = options (codes "date-columns") ∷ option (codes "dates") ∷ []
+
 abbrev pub export_place : List Rule
 export_place = place (codes "FILE") ∷ []
 
@@ -44,7 +48,7 @@ abbrev pub sub : Text → List Rule → Shape
 sub name rules = record (new_shape name) { rules = rules }
 
 abbrev pub write : Shape
-write = sub (codes "write") (record_rules ++ (table_rules ++ (number_rules ++ export_place)))
+write = sub (codes "write") (record_rules ++ (table_rules ++ (number_rules ++ (date_rules ++ export_place))))
 
 abbrev pub look : Shape
 look = sub (codes "look") export_place

@@ -7,6 +7,8 @@ use Rattle.std.specs.List.{after_first, before_first, list_all, list_any}
 use Rattle.std.specs.Str.{bytes_eq}
 use Rattle.std.specs.Str.Parse.{digits_value}
 use Rattle.clap.specs.Walk.{Text}
+use Rattle.prepare_dates.specs.declared.order.Order.{Order}
+use Rattle.prepare_dates.specs.declared.order.Order.TheVariants.{DayFirst, MonthFirst}
 use Rattle.prepare_decode.specs.declared.encoding.Encoding.{Encoding}
 use Rattle.prepare_decode.specs.declared.encoding.Encoding.TheVariants as encoding
 use Rattle.prepare_numbers.specs.declared.limit.Limit.{Limit}
@@ -25,7 +27,7 @@ use Rattle.prepare_words.specs.declared.fault.Word.TheVariants as word
 pub data Faulty : Type 0 where
   -- no such value can stand behind the option
   wrong : Word → Text → Faulty
-  -- the option acts in the columns of `--numbers`, or by `--places`, which isn't there
+  -- what the option acts by isn't there: columns of numbers or of dates, places, or an order of dates
   alone : Word → Faulty
 
 -- one step of reading behind another: the first fault ends it
@@ -106,6 +108,18 @@ encoding_named text = if bytes_eq text (codes "utf-8") then Some encoding.Utf8
 abbrev pub encoding_of : Option Text → Result Encoding Faulty
 encoding_of None = Ok encoding.Utf8
 encoding_of (Some text) = or_wrong word.Encoding text (encoding_named text)
+
+-- ---- dates
+
+-- the order of day and month that a word names
+abbrev pub order_named : Text → Option Order
+order_named text = if bytes_eq text (codes "dmy") then Some DayFirst
+    else if bytes_eq text (codes "mdy") then Some MonthFirst else None
+
+-- which of two numbers before a year is the day; without a word there are no columns of dates
+abbrev pub order_of : Option Text → Result Order Faulty
+order_of None = Ok DayFirst
+order_of (Some text) = or_wrong word.Dates text (order_named text)
 
 -- ---- numbers
 

@@ -4,6 +4,7 @@ use Rattle.std.specs.Borrow.{Bor}
 use Rattle.std.specs.Option.{option_map_or}
 use Rattle.std.specs.Str.{bytes_eq}
 use Rattle.clap.specs.Walk.{Row, Text, all_of, first_of}
+use Rattle.prepare_dates.specs.declared.order.Order.{Order}
 use Rattle.prepare_decode.specs.declared.encoding.Encoding.{Encoding}
 use Rattle.prepare_numbers.specs.declared.limit.Limit.{Limit}
 use Rattle.prepare_rules.specs.declared.rules.Column.{Column}
@@ -74,6 +75,8 @@ pub record WritingIs : Type 0 where
   pub columns : List ColumnIs
   pub renames : List (Text × Text)
   pub numbers : List ColumnIs
+  pub dates : List ColumnIs
+  pub order : Order
   pub missing : List Text
   pub mark : Mark
   pub parts : Option ℕ
@@ -98,6 +101,8 @@ writing_view w = record {
   columns = columns_view w.columns.items;
   renames = map rename_view w.renames.items;
   numbers = columns_view w.numbers.items;
+  dates = columns_view w.dates.items;
+  order = w.order;
   missing = texts_of w.missing.items;
   mark = w.mark;
   parts = w.parts;
@@ -116,6 +121,8 @@ pub record HasRules (w : Writing) (r : Rules) : Type 0 where
   pub columns : r.columns.now ≡ w.columns.items
   pub renames : r.renames.now ≡ w.renames.items
   pub numbers : r.numbers.now ≡ w.numbers.items
+  pub dates : r.dates.now ≡ w.dates.items
+  pub order : r.order ≡ w.order
   pub missing : r.missing.now ≡ w.missing.items
   pub mark : r.mark ≡ w.mark
   pub parts : r.parts ≡ w.parts

@@ -1,7 +1,7 @@
 // The command, as clap has it.
 ghost use Rattle.std.specs.Prelude.{◌≡◌, IfOk};
 ghost use Rattle.clap.specs.Simple.{App, app_of};
-ghost use Rattle.prepare_words.specs.Command.{IsCommand, export_place, look, number_rules, prepare, record_rules};
+ghost use Rattle.prepare_words.specs.Command.{IsCommand, date_rules, export_place, look, number_rules, prepare, record_rules};
 ghost use Rattle.prepare_words.specs.Command.{table_rules, with_rules, write};
 
 use crate::places::{flag, option, options, place};
@@ -45,7 +45,8 @@ fn write<'a>(alloc: Global) -> Result<Command<'a>, AllocError>
     let records = with_records(alloc, start)?;
     let table = with_table(alloc, records)?;
     let numbers = with_numbers(alloc, table)?;
-    numbers.arg(place(alloc, "FILE", "The export; a pipe does as well"))
+    let dates = with_dates(alloc, numbers)?;
+    dates.arg(place(alloc, "FILE", "The export; a pipe does as well"))
 }
 
 // How the records of the export are found, and whether it is told what was done.
@@ -158,6 +159,27 @@ fn with_numbers<'a>(alloc: Global, command: Command<'a>) -> Result<Command<'a>, 
             alloc,
             "round",
             "Such a number is rounded instead, half to even"
+        ),
+    ]?;
+    command.args(rules)
+}
+
+// What becomes of the fields of dates.
+fn with_dates<'a>(alloc: Global, command: Command<'a>) -> Result<Command<'a>, AllocError>
+    ensures { (a : App) → IsCommand a command.entry → IfOk result (IsCommand (with_rules a date_rules)) }
+{
+    let rules = vec![in alloc;
+        options(
+            alloc,
+            "date-columns",
+            "LIST",
+            "The columns of dates, in which --dates and --missing act: a,b,4-9"
+        ),
+        option(
+            alloc,
+            "dates",
+            "ORDER",
+            "Dates have the day first or the month, dmy or mdy, and are written as YYYY-MM-DD"
         ),
     ]?;
     command.args(rules)

@@ -15,6 +15,8 @@ pub enum Word {
     Columns,
     Rename,
     Numbers,
+    DateColumns,
+    Dates,
     Missing,
     DecimalComma,
     Thousands,
@@ -36,6 +38,8 @@ impl Word {
             Word::Columns => "--columns",
             Word::Rename => "--rename",
             Word::Numbers => "--numbers",
+            Word::DateColumns => "--date-columns",
+            Word::Dates => "--dates",
             Word::Missing => "--missing",
             Word::DecimalComma => "--decimal-comma",
             Word::Thousands => "--thousands",
@@ -54,12 +58,13 @@ impl Word {
             Word::Quote => "a byte that isn't the delimiter",
             Word::Encoding => "utf-8, latin-1, windows-1252 or utf-16",
             Word::Skip => "a number of records",
-            Word::Columns | Word::Numbers => {
+            Word::Columns | Word::Numbers | Word::DateColumns => {
                 "names, places from 1 and ranges such as 4-9, parted by commas, 16 columns at most"
             }
             Word::Rename => "OLD=NEW, where NEW isn't empty",
             Word::Thousands => "a byte that isn't a digit, the decimal mark or a minus",
             Word::Ragged => "refuse or pad",
+            Word::Dates => "dmy or mdy",
             Word::Places => "a number of digits, 0 to 9",
             Word::File => "the name of a file",
             Word::Missing | Word::DecimalComma | Word::Exponents | Word::Round => "any",
@@ -70,6 +75,9 @@ impl Word {
     fn ground(self) -> &'static str {
         match self {
             Word::Round => "by '--places'",
+            Word::DateColumns => "by '--dates'",
+            Word::Dates => "in the columns of '--date-columns'",
+            Word::Missing => "in the columns of '--numbers' or '--date-columns'",
             _ => "in the columns of '--numbers'",
         }
     }
@@ -80,7 +88,7 @@ impl Word {
 pub enum Fault<'a> {
     /// No such value can stand behind the option.
     Value { word: Word, value: &'a str },
-    /// The option acts in the columns of `--numbers`, or by `--places`, which isn't there.
+    /// What the option acts by isn't there: columns of numbers or of dates, places, or an order of dates.
     Alone { word: Word },
     /// Out of memory.
     Memory,

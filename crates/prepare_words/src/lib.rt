@@ -19,6 +19,7 @@ mod encodings;
 mod fault;
 mod found;
 mod numbers;
+mod orders;
 mod places;
 mod refused;
 mod renames;

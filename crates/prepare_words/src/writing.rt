@@ -3,7 +3,7 @@ ghost use Rattle.prepare_words.specs.Views.{HasRules};
 
 use crate::delimiter::Delimiter;
 use prepare_decode::Encoding;
-use prepare_rules::{Column, Limit, Mark, Rename, Rules};
+use prepare_rules::{Column, Limit, Mark, Order, Rename, Rules};
 
 /// What is made of an export.
 #[derive(Drop)]
@@ -36,7 +36,11 @@ pub struct Writing<'a> {
     pub renames: Vec<Rename<'a>>,
     /// The columns of numbers.
     pub numbers: Vec<Column<'a>>,
-    /// Marks for missing values in columns of numbers.
+    /// The columns of dates.
+    pub dates: Vec<Column<'a>>,
+    /// Which of two numbers before the year of a date is the day.
+    pub order: Order,
+    /// Marks for missing values in columns of numbers and of dates.
     pub missing: Vec<&'a str>,
     /// The decimal mark of the numbers.
     pub mark: Mark,
@@ -65,6 +69,8 @@ impl Writing<'_> {
             columns: self.columns.as_slice(),
             renames: self.renames.as_slice(),
             numbers: self.numbers.as_slice(),
+            dates: self.dates.as_slice(),
+            order: self.order,
             missing: self.missing.as_slice(),
             mark: self.mark,
             parts: self.parts,

@@ -3,7 +3,7 @@ ghost use Rattle.std.specs.Prelude.{◌≡◌, IfOk, codes, option_map};
 ghost use Rattle.clap.specs.Matches.{found_of};
 ghost use Rattle.clap.specs.Walk.{first_of, rows_of};
 ghost use Rattle.prepare_words.specs.Reading.{Gives};
-ghost use Rattle.prepare_words.specs.Asked.{file_of, lone_rule, lone_word, mark_of, writing_of};
+ghost use Rattle.prepare_words.specs.Asked.{file_of, lone_date, lone_mark, lone_rule, lone_word, mark_of, writing_of};
 ghost use Rattle.prepare_words.specs.Views.{texts_given, texts_of, writing_view};
 
 use crate::bytes::{parts_of, quote_of};
@@ -13,6 +13,7 @@ use crate::encodings::encoding_of;
 use crate::fault::{Fault, Word};
 use crate::found::{is_set, is_there, value_in, values_in};
 use crate::numbers::{limit_of, pads_of, skip_of};
+use crate::orders::order_of;
 use crate::renames::renames_given;
 use crate::writing::Writing;
 use clap::ArgMatches;
@@ -36,12 +37,14 @@ pub(crate) fn writing_of<'a>(
     let mark = mark_of(is_set(found, "decimal-comma"));
     let parts = parts_of(mark, value_in(found, "thousands"))?;
     let limit = limit_of(is_set(found, "round"), value_in(found, "places"))?;
+    let order = order_of(value_in(found, "dates"))?;
     if let Some(word) = lone_word(found) {
         return Err(Fault::Alone { word });
     }
     let columns = columns_given(alloc, Word::Columns, values_in(found, "columns"))?;
     let renames = renames_given(alloc, values_in(found, "rename"))?;
     let numbers = columns_given(alloc, Word::Numbers, values_in(found, "numbers"))?;
+    let dates = columns_given(alloc, Word::DateColumns, values_in(found, "date-columns"))?;
     let missing = marks_given(alloc, values_in(found, "missing"))?;
     Ok(Writing {
         file,
@@ -58,6 +61,8 @@ pub(crate) fn writing_of<'a>(
         columns,
         renames,
         numbers,
+        dates,
+        order,
         missing,
         mark,
         parts,
@@ -106,25 +111,48 @@ fn mark_of(is_comma: bool) -> Mark
     Mark::Point
 }
 
-// Rounding to no limit, or the first rule on numbers or missing values that acts nowhere.
+// Rounding to no limit, or the first rule on dates, missing values or numbers that acts nowhere.
 fn lone_word(found: &ArgMatches<'_>) -> Option<Word>
     ensures { result ≡ lone_word (rows_of (found_of found.now)) }
 {
     if is_set(found, "round") && !is_there(found, "places") {
         return Some(Word::Round);
     }
+    lone_date(found)
+}
+
+// An order of dates without their columns, or columns without the order, or the first other rule that acts nowhere.
+fn lone_date(found: &ArgMatches<'_>) -> Option<Word>
+    ensures { result ≡ lone_date (rows_of (found_of found.now)) }
+{
+    if is_there(found, "dates") && !is_there(found, "date-columns") {
+        return Some(Word::Dates);
+    }
+    if is_there(found, "date-columns") && !is_there(found, "dates") {
+        return Some(Word::DateColumns);
+    }
+    lone_mark(found)
+}
+
+// Marks for missing values without columns, or the first rule on numbers that acts nowhere.
+fn lone_mark(found: &ArgMatches<'_>) -> Option<Word>
+    ensures { result ≡ lone_mark (rows_of (found_of found.now)) }
+{
+    if is_there(found, "numbers") || is_there(found, "date-columns") {
+        return lone_rule(found);
+    }
+    if is_there(found, "missing") {
+        return Some(Word::Missing);
+    }
     lone_rule(found)
 }
 
-// The first rule on numbers or missing values that acts nowhere.
+// The first rule on numbers that acts nowhere.
 fn lone_rule(found: &ArgMatches<'_>) -> Option<Word>
     ensures { result ≡ lone_rule (rows_of (found_of found.now)) }
 {
     if is_there(found, "numbers") {
         return None;
-    }
-    if is_there(found, "missing") {
-        return Some(Word::Missing);
     }
     if is_set(found, "decimal-comma") {
         return Some(Word::DecimalComma);

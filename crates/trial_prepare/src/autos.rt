@@ -48,6 +48,22 @@ fn marks_of_another_country(rt: HostRuntime) {
 }
 
 #[test]
+fn dates_are_asked_for_beside_it(rt: HostRuntime) {
+    let days = Rules {
+        dates: &[Column::Named("day")],
+        missing: &["?"],
+        ..PLAIN
+    };
+    expect(
+        &rt,
+        rt.alloc(),
+        &days,
+        b"day;note;amount\n5.1.2026;5.1.2026;1.204,50\n?;?;NA\nNA;x;-7\n",
+        b"day,note,amount\n2026-01-05,5.1.2026,1204.50\n,?,\n,x,-7\n",
+    );
+}
+
+#[test]
 fn what_is_right_stays(rt: HostRuntime) {
     let export = b"id,price\n007,1.50\n008,-.5\n";
     expect(&rt, rt.alloc(), &PLAIN, export, export);

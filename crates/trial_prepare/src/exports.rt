@@ -1,5 +1,5 @@
 // Exports, the rules for them, and what they become.
-use prepare_rules::{Cause, Column, Failure, Mark, Refusal, Rename, Report, Rules, prepare};
+use prepare_rules::{Cause, Column, Failure, Mark, Order, Refusal, Rename, Report, Rules, prepare};
 use std::alloc::{AllocError, Global};
 use std::process::Abort;
 use std::test::Fail;
@@ -13,6 +13,8 @@ pub(crate) const PLAIN: Rules<'static> = Rules {
     columns: &[],
     renames: &[],
     numbers: &[],
+    dates: &[],
+    order: Order::DayFirst,
     missing: &[],
     mark: Mark::Point,
     parts: None,

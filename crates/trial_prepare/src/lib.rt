@@ -12,6 +12,8 @@ mod blanks;
 #[cfg(test)]
 mod dates;
 #[cfg(test)]
+mod days;
+#[cfg(test)]
 mod decodings;
 #[cfg(test)]
 mod exports;

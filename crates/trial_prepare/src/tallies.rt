@@ -3,32 +3,39 @@ use crate::exports::PLAIN;
 use prepare_rules::{Cause, Column, Hits, Limit, Mark, Refusal, Report, Rules, Tally, prepare};
 use std::alloc::Global;
 
-/// Nothing was done.
+// No field.
 const NONE: Hits = Hits { count: 0, line: 0 };
-
-const NOTHING: Tally = Tally {
+/// Nothing was done.
+pub(crate) const NOTHING: Tally = Tally {
     trimmed: NONE,
     missing: NONE,
     spelled: NONE,
     rounded: NONE,
+    dated: NONE,
     padded: NONE,
 };
 
-// Whether this text is written of an export, and this is told.
-fn gives(alloc: Global, rules: &Rules<'_>, export: &[u8], text: &[u8], report: Report) -> bool {
+/// Whether this text is written of an export, and this is told.
+pub(crate) fn gives(
+    alloc: Global,
+    rules: &Rules<'_>,
+    export: &[u8],
+    text: &[u8],
+    report: Report,
+) -> bool {
     match prepare(alloc, rules, export, Vec::new(alloc)) {
         Ok((made, told)) => made.as_slice() == text && told == report,
         Err(_) => false,
     }
 }
 
-// So many, the first in this line.
-fn hits(count: u64, line: u64) -> Hits {
+/// So many, the first in this line.
+pub(crate) fn hits(count: u64, line: u64) -> Hits {
     Hits { count, line }
 }
 
-// All records are written.
-fn all(tally: Tally) -> Report {
+/// All records are written.
+pub(crate) fn all(tally: Tally) -> Report {
     Report {
         tally,
         refusal: None,
@@ -140,6 +147,7 @@ fn what_each_rule_did(rt: HostRuntime) {
         missing: hits(2, 2),
         spelled: hits(2, 1),
         rounded: NONE,
+        dated: NONE,
         padded: hits(1, 5),
     };
     assert!(rt;
