@@ -131,7 +131,7 @@ const REFUSED: &[(&str, u8, &str)] = &[
         0,
         "Usage: coop_inspect judge --story [OPTIONS] <SETTING> <STORY>",
     ),
-    ("judge|--story|--version", 0, "2026-12-01"),
+    ("judge|--story|--version", 0, "2026-12-02"),
     ("judge|--story|a", 2, "<STORY>"),
     ("judge|--story|a|b|out", 2, "'out'"),
     ("judge|--story|--threads|2|a|b", 2, "'--threads'"),
