@@ -41,8 +41,8 @@ pub record ComesBack (o : Start) (h : History) (n : ℕ) (d : DepotView) : Type 
   pub gets : d.gets ≡ o.gets + reads h + n
   pub faults : last_fault o.faults h ≤ d.faults
 
--- why a read may be said to have failed: the depot's count rose between the last fault of the history and now, or a piece is
--- damaged, which is never said of a depot that tells what it holds
+-- why a read may be said to have failed: the depot's count rose between the last fault of the history and now, or a
+-- piece is damaged, which is never said of a depot that tells what it holds
 abbrev pub MayReport : Start → History → ℕ → Why → Type 0
 MayReport o h now (Fault before after) = (last_fault o.faults h ≤ before) × IsRise before after × (after ≤ now)
 MayReport o h now (Damage word) = tells o ≡ false

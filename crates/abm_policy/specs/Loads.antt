@@ -1,5 +1,6 @@
 -- A load, from its ticket. Slots are pairs of a frame and a piece, in the order of the fills.
-use Rattle.std.specs.Prelude.{◌≡◌, ◌+◌, ◌<◌, ◌≤◌, ◌++◌, ◌∷◌, [], ℕ, Bool, true, false, List, Option, Some, length, map, reverse}
+use Rattle.std.specs.Prelude.{◌≡◌, ◌+◌, ◌<◌, ◌≤◌, ◌++◌, ◌∷◌, [], ℕ, Bool, true}
+use Rattle.std.specs.Prelude.{false, List, Option, Some, length, map, reverse}
 use Rattle.scan_story.specs.declared.entry.Entry.{Entry}
 use Rattle.scan_story.specs.declared.entry.Entry.TheVariants.{Plan, Evict, Fill, Filled}
 use Rattle.scan_story.specs.declared.setting.Setting.{Setting}
@@ -52,8 +53,8 @@ abbrev pub AreLeastFills : Setting → History → ℕ → List (ℕ × ℕ) →
 AreLeastFills s h w [] = Unit {0}
 AreLeastFills s h w (b ∷ bs) = IsFirst (is_free s h) s.frames b.0 × AreLeastFills s (Fill w b.0 b.1 ∷ h) w bs
 
--- the new story is the old one, a Plan, Evicts, and a Fill for each missing piece, just those that the ticket names: each into the
--- free frame of least number
+-- the new story is the old one, a Plan, Evicts, and a Fill for each missing piece, just those that the ticket names:
+-- each into the free frame of least number
 pub record AddsLoad (s : Setting) (w : ℕ) (t : Ticket) (old new : List Entry) : Type 0 where
   pub by_worker : t.worker ≡ w
   pub evicted : List ℕ

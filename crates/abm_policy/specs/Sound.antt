@@ -38,7 +38,8 @@ pub record IsWritten (s : Setting) (b : Book) (k : Kept) : Type 0 where
   pub room : HasAllRoom s k
 
 -- what a desk keeps: an origin that a desk may be made for, its book and story, the policy at its cursor, and the depot
-pub record IsSound (o : Start) (name : PolicyName) (cursor : List ℕ) (b : Book) (k : Kept) (d : Option DepotView) : Type 0 where
+pub record IsSound (o : Start) (name : PolicyName) (cursor : List ℕ) (b : Book) (k : Kept)
+    (d : Option DepotView) : Type 0 where
   pub start : IsStart o
   pub written : IsWritten o.setting b k
   pub named : name ≡ o.setting.policy

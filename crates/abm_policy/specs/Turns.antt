@@ -36,8 +36,8 @@ pub data Row : Type 0 where
   NotYetRow : Row
   LoadRow : Row
 
--- the first row that fits: the story stopped the query; the query needs nothing; a chunk is available to it; a plan is underway;
--- none of these
+-- the first row that fits: the story stopped the query; the query needs nothing; a chunk is available to it; a plan is
+-- underway; none of these
 abbrev pub row : Setting → History → ℕ → Row
 row s h q =
     if is_stopped h q then StoppedRow else (
@@ -57,7 +57,8 @@ abbrev pub StandIn : Setting → History → List (ℕ × ℕ) → Type 0
 StandIn s h [] = Unit {0}
 StandIn s h (b ∷ bs) = (b.0 < s.frames) × (piece_in s h b.0 ≡ Some b.1) × StandIn s h bs
 
--- the chunk was available to the query and was delivered to it; the slots are the frames of its pieces that the query reads
+-- the chunk was available to the query and was delivered to it; the slots are the frames of its pieces that the query
+-- reads
 pub record Takes (s : Setting) (w q c : ℕ) (slots : List (ℕ × ℕ)) (old new : List Entry) : Type 0 where
   pub ready : is_ready s (past old) q c ≡ true
   pub added : new ≡ old ++ Deliver w q c ∷ []

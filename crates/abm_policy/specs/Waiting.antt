@@ -30,24 +30,29 @@ pub record IsLoadedStill (s : Setting) (from : ℕ) (l : Load) (old new : Histor
 -- while a worker waits, it may register what it might have registered
 abbrev pub RegistersStay : Type 0
 RegistersStay =
-    (s : Setting) (w q : ℕ) (old new : List Entry) → IsSetting s → WentOn s w old new → MayRegister s (past old) w q → MayRegister s (past new) w q
+    (s : Setting) (w q : ℕ) (old new : List Entry) → IsSetting s → WentOn s w old new → MayRegister s (past old) w q
+    → MayRegister s (past new) w q
 
 -- its query runs on
 abbrev pub RunsStay : Type 0
-RunsStay = (s : Setting) (w q : ℕ) (old new : List Entry) → WentOn s w old new → RunsOn s (past old) q w → RunsOn s (past new) q w
+RunsStay = (s : Setting) (w q : ℕ) (old new : List Entry) → WentOn s w old new → RunsOn s (past old) q w
+    → RunsOn s (past new) q w
 
 -- it may take the turn that it might have taken
 abbrev pub TurnsStay : Type 0
-TurnsStay = (s : Setting) (w q : ℕ) (old new : List Entry) → WentOn s w old new → MayTurn s (past old) w q → MayTurn s (past new) w q
+TurnsStay = (s : Setting) (w q : ℕ) (old new : List Entry) → WentOn s w old new → MayTurn s (past old) w q
+    → MayTurn s (past new) w q
 
 -- it holds what it held
 abbrev pub HoldsStay : Type 0
-HoldsStay = (s : Setting) (w : ℕ) (old new : List Entry) → WentOn s w old new → held_by (past new) w ≡ held_by (past old) w
+HoldsStay = (s : Setting) (w : ℕ) (old new : List Entry) → WentOn s w old new
+    → held_by (past new) w ≡ held_by (past old) w
 
 -- its load stays underway as it was
 abbrev pub LoadsStay : Type 0
 LoadsStay =
-    (s : Setting) (w from : ℕ) (l : Load) (old new : List Entry) → WentOn s w old new → underway s (past old) ≡ Some l → l.worker ≡ w
+    (s : Setting) (w from : ℕ) (l : Load) (old new : List Entry) → WentOn s w old new → underway s (past old) ≡ Some l
+    → l.worker ≡ w
     → IsLoadedStill s from l (past old) (past new)
 
 -- Which of a worker's queries may be active
@@ -60,10 +65,12 @@ last_registered w (_ ∷ h) = last_registered w h
 
 -- a query that is active is the one that its worker registered last
 abbrev pub ActiveIsLast : Type 0
-ActiveIsLast = (s : Setting) (h : History) (w q : ℕ) → Legal s h → worker_of s q ≡ Some w → is_active h q ≡ true → last_registered w h ≡ Some q
+ActiveIsLast = (s : Setting) (h : History) (w q : ℕ) → Legal s h → worker_of s q ≡ Some w → is_active h q ≡ true
+    → last_registered w h ≡ Some q
 
 -- where the query that a worker registered last is active no more, no query of the worker is
 abbrev pub RestsAlone : Type 0
 RestsAlone =
-    (s : Setting) (h : History) (w : ℕ) → IsSetting s → Legal s h → ((q : ℕ) → last_registered w h ≡ Some q → is_active h q ≡ false)
+    (s : Setting) (h : History) (w : ℕ) → IsSetting s → Legal s h
+    → ((q : ℕ) → last_registered w h ≡ Some q → is_active h q ≡ false)
     → list_any (λ n. n.worker == w && is_active h n.query) s.needs ≡ false

@@ -54,7 +54,8 @@ impl<S: Origin, P: Policy, D: Depot> Model for Desk<S, P, D> {
 
     ghost view = { λ d. d.story.entries };
 
-    ghost invariant = { λ d. IsSound S.origin (P.name d.policy) (P.cursor d.policy) d.book.value d.story (option_map (λ x. depot_view (D.held x) (D.gets x) (D.faults x)) d.depot) };
+    ghost invariant = { λ d. IsSound S.origin (P.name d.policy) (P.cursor d.policy) d.book.value d.story
+        (option_map (λ x. depot_view (D.held x) (D.gets x) (D.faults x)) d.depot) };
 }
 
 impl<S: Origin, P: Policy, D: Depot> Storied for Desk<S, P, D> {
@@ -79,8 +80,8 @@ impl<S: Origin, P: Policy, D: Depot> Desk<S, P, D> {
     /// A desk for these needs, with no entry yet. It takes all memory that the desk ever needs.
     ///
     /// The needs, chunks, workers, frames and groups are those that a book may be made for; there are at least
-    /// `frames_needed` frames, and the depot had at most 2^63 gets. They, the policy and the depot as they are now make the
-    /// origin. `Memory` hands the policy and the depot back.
+    /// `frames_needed` frames, and the depot had at most 2^63 gets. They, the policy and the depot as they are now make
+    /// the origin. `Memory` hands the policy and the depot back.
     pub fn new(
         alloc: Global,
         needs: Vec<Need>,
@@ -182,8 +183,8 @@ impl<S: Origin, P: Policy, D: Depot> Desk<S, P, D> {
         });
     }
 
-    /// Appends a Stop: the query, which is active on the worker, is given up when out of memory. The worker holds nothing
-    /// and loads nothing.
+    /// Appends a Stop: the query, which is active on the worker, is given up when out of memory. The worker holds
+    /// nothing and loads nothing.
     pub fn stop(&mut self, w: u32, q: u32)
         requires may { MayStop S.origin.setting (past self.old) w q }
         ensures entries { self.new ≡ self.old ++ Stop w q ∷ [] }
@@ -207,9 +208,9 @@ impl<S: Origin, P: Policy, D: Depot> Desk<S, P, D> {
 
     /// Takes the desk apart, while no load is underway: its story, the policy at the story's cursor, and the depot.
     ///
-    /// The story loaded no more than is paid for by its deliveries, its stopped queries and what is still available, and
-    /// a whole one without stopped queries no more than separate scans would. Each victim was close to no query, and no
-    /// chunk was evicted or filled over while a worker held it.
+    /// The story loaded no more than is paid for by its deliveries, its stopped queries and what is still available,
+    /// and a whole one without stopped queries no more than separate scans would. Each victim was close to no query,
+    /// and no chunk was evicted or filled over while a worker held it.
     pub fn into_parts(self) -> (Vec<Entry>, P, D)
         requires idle { underway S.origin.setting (past self) ≡ None }
         ensures entries { result.0.items ≡ self }

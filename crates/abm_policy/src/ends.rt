@@ -1,5 +1,6 @@
 //! A load ends: each of its pieces was filled, or one of them failed.
-ghost use Rattle.std.specs.Prelude.{◌≡◌, ◌+◌, ◌<◌, ◌≤◌, ◌++◌, ◌∷◌, [], ℕ, Bool, true, false, None, Some, length, take, slice_index};
+ghost use Rattle.std.specs.Prelude.{◌≡◌, ◌+◌, ◌<◌, ◌≤◌, ◌++◌, ◌∷◌, [], ℕ, Bool, true};
+ghost use Rattle.std.specs.Prelude.{false, None, Some, length, take, slice_index};
 ghost use Rattle.std.specs.Option.{option_map};
 ghost use Rattle.scan_story.specs.declared.entry.Entry.TheVariants.{Filled, Failed};
 ghost use Rattle.scan_story.specs.declared.view.Load.{Load};
@@ -99,11 +100,11 @@ impl<S: Origin, P: Policy, D: Depot> Desk<S, P, D> {
         }
     }
 
-    /// Ends the ticket's load: each of its slots' pieces was read and now stands in the slot's frame. It appends a Filled
-    /// for each slot, in their order, and takes the depot back.
+    /// Ends the ticket's load: each of its slots' pieces was read and now stands in the slot's frame. It appends a
+    /// Filled for each slot, in their order, and takes the depot back.
     ///
-    /// The load underway is the ticket's. The depot holds what the origin says, had one get for each read in the story and
-    /// for each slot besides, and its count of faults is at least the last one in the story.
+    /// The load underway is the ticket's. The depot holds what the origin says, had one get for each read in the story
+    /// and for each slot besides, and its count of faults is at least the last one in the story.
     pub fn filled(&mut self, ticket: Ticket, depot: D)
         requires load { underway S.origin.setting (past self.old) ≡ Some (load_of ticket []) }
         requires depot { ComesBack S.origin (past self.old) (length ticket.slots)
@@ -128,13 +129,13 @@ impl<S: Origin, P: Policy, D: Depot> Desk<S, P, D> {
     }
 
     /// Ends the ticket's load: the pieces of its first `done` slots were read, and that of the next one wasn't, or is
-    /// damaged. It appends a Filled for each of the first and a Failed for the next, which stops the load's query where it
-    /// is active, and takes the depot back.
+    /// damaged. It appends a Filled for each of the first and a Failed for the next, which stops the load's query where
+    /// it is active, and takes the depot back.
     ///
-    /// The load underway is the ticket's. The depot holds what the origin says, had one get for each read in the story and
-    /// `done + 1` besides, and its count of faults is at least the last one in the story. A fault's counts lie between that
-    /// one and the depot's, the first below the second, or both at 2^64 - 1. Damage is reported only of a depot that
-    /// doesn't tell what it holds.
+    /// The load underway is the ticket's. The depot holds what the origin says, had one get for each read in the story
+    /// and `done + 1` besides, and its count of faults is at least the last one in the story. A fault's counts lie
+    /// between that one and the depot's, the first below the second, or both at 2^64 - 1. Damage is reported only of a
+    /// depot that doesn't tell what it holds.
     pub fn failed(&mut self, ticket: Ticket, depot: D, done: u32, why: Why)
         requires load { underway S.origin.setting (past self.old) ≡ Some (load_of ticket []) }
         requires done { done < length ticket.slots }

@@ -8,7 +8,8 @@ ghost use Rattle.scan_story.specs.MayFollow.{is_trigger};
 ghost use Rattle.scan_story.specs.Legal.{Legal};
 ghost use Rattle.story_laws.specs.Lists.{NoneTwice};
 ghost use Rattle.interest_book.specs.Firsts.{IsFirst};
-ghost use Rattle.abm_policy.specs.Loads.{load_at, pieces, fills, AddsEvicts, AddsLoad, AreLeastFills, IsUnbegun, MayBegin};
+ghost use Rattle.abm_policy.specs.Loads.{load_at, pieces, fills, AddsEvicts, AddsLoad};
+ghost use Rattle.abm_policy.specs.Loads.{AreLeastFills, IsUnbegun, MayBegin};
 ghost use Rattle.abm_policy.specs.Depots.{depot_view, Agrees, IsHandedOut};
 ghost use Rattle.abm_policy.specs.Turns.{MayTurn};
 

@@ -4,8 +4,8 @@ use table_sets::Slots;
 
 /// What a turn answers.
 pub enum Turn<D> {
-    /// The worker now holds the chunk. Each piece of it that the query reads, by rising piece, stands in its slot's frame
-    /// until the worker releases.
+    /// The worker now holds the chunk. Each piece of it that the query reads, by rising piece, stands in its slot's
+    /// frame until the worker releases.
     Take { chunk: u32, slots: Slots },
     /// The worker now loads, and has the depot to read from.
     Load(Ticket, D),

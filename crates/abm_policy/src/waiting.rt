@@ -1,5 +1,6 @@
 //! What stays true for a worker while others add to the story.
-ghost use Rattle.abm_policy.specs.Waiting.{RegistersStay, RunsStay, TurnsStay, HoldsStay, LoadsStay, ActiveIsLast, RestsAlone};
+ghost use Rattle.abm_policy.specs.Waiting.{RegistersStay, RunsStay, TurnsStay, HoldsStay};
+ghost use Rattle.abm_policy.specs.Waiting.{LoadsStay, ActiveIsLast, RestsAlone};
 
 /// While a worker adds nothing, it may register each query that it might have registered.
 pub fn registers_stay()

@@ -1,5 +1,7 @@
 -- Where groups are kept: a place for each key, in key order, and the running values at each place.
-use Rattle.std.specs.Prelude.{◌≡◌, ◌<◌, ◌≤◌, ◌^◌, ◌==◌, ◌||◌, nat_lt, ℕ, Bool, true, false, is_some, take, filter, if◌then◌else◌, List, [], ◌∷◌, ◌++◌, length, map, Option, Some, None, slice_index_or, All, MatchOption, Vec, ℤ}
+use Rattle.std.specs.Prelude.{◌≡◌, ◌<◌, ◌≤◌, ◌^◌, ◌==◌, ◌||◌, nat_lt, ℕ, Bool, true, false}
+use Rattle.std.specs.Prelude.{is_some, take, filter, if◌then◌else◌, List, [], ◌∷◌, ◌++◌, length}
+use Rattle.std.specs.Prelude.{map, Option, Some, None, slice_index_or, All, MatchOption, Vec, ℤ}
 use Rattle.std.specs.Global.{Global}
 use Rattle.std.specs.Int.{bit_at}
 use Rattle.std.specs.declared.cmp.Ordering.TheVariants.{Less}
@@ -73,11 +75,13 @@ StaySound m old new = (n : ℕ) → AreSound n m old → AreSound n m new
 pub record IsNewPlace (items : List Item) (key : List Cell) (place : ℕ) (old new : Placed) : Type 0 where
   pub is_last : place ≡ length old.values
   pub starts : new.values ≡ old.values ++ runnings items [] ∷ []
-  pub placed : (q : List Cell) → place_at new.places q ≡ (if same_key codes q key then Some place else place_at old.places q)
+  pub placed : (q : List Cell)
+      → place_at new.places q ≡ (if same_key codes q key then Some place else place_at old.places q)
 
 -- the place of the key after it was looked for: the one that it had, or else a new one
 abbrev pub IsPlaceFor : List Item → List Cell → ℕ → Placed → Placed → Type 0
-IsPlaceFor items key place old new = MatchOption (place_at old.places key) (IsNewPlace items key place old new) (λ i. (place ≡ i) × (new ≡ old))
+IsPlaceFor items key place old new = MatchOption (place_at old.places key) (IsNewPlace items key place old new)
+    (λ i. (place ≡ i) × (new ≡ old))
 
 -- the running values that are kept at a key
 abbrev pub at : List Group → List Cell → Option (List Running)
@@ -135,14 +139,16 @@ KeepsPlaces old new = (q : List Cell) (i : ℕ) → place_at old q ≡ Some i �
 -- new places with the values of no rows, and what there was as it was
 pub record HasGrown (items : List Item) (old new : Placed) : Type 0 where
   pub kept : KeepsPlaces old.places new.places
-  pub first : (q : List Cell) (i : ℕ) → place_at new.places q ≡ Some i → i < length old.values → place_at old.places q ≡ Some i
+  pub first : (q : List Cell) (i : ℕ) → place_at new.places q ≡ Some i → i < length old.values
+      → place_at old.places q ≡ Some i
   pub long : length old.values ≤ length new.values
   pub values : take (length old.values) new.values ≡ old.values
   pub base : (q : List Cell) → base items (at (seen new) q) ≡ base items (at (seen old) q)
 
 -- each chosen row of a block has the place of its key
 abbrev pub AreFound : List ℕ → BlockView → ℕ → List ℕ → Placed → Type 0
-AreFound keys b word places t = (i : ℕ) → i < b.count → bit_at word i ≡ 1 → place_at t.places (key_of codes keys (row_at b i)) ≡ Some (slice_index_or places i 0)
+AreFound keys b word places t = (i : ℕ) → i < b.count → bit_at word i ≡ 1
+    → place_at t.places (key_of codes keys (row_at b i)) ≡ Some (slice_index_or places i 0)
 
 -- the key of each of these rows has a place
 abbrev pub KnowsRows : List ℕ → List (List Cell) → Placed → Type 0
@@ -150,11 +156,13 @@ KnowsRows keys rows t = All (λ row. is_some (place_at t.places (key_of codes ke
 
 -- the chosen rows that f picks are those with this place
 abbrev pub PicksPlace : BlockView → ℕ → List ℕ → ℕ → (List Cell → Bool) → Type 0
-PicksPlace b word places p f = (i : ℕ) → i < b.count → bit_at word i ≡ 1 → (slice_index_or places i 0 == p) ≡ f (row_at b i)
+PicksPlace b word places p f = (i : ℕ) → i < b.count → bit_at word i ≡ 1
+    → (slice_index_or places i 0 == p) ≡ f (row_at b i)
 
 -- the values over the rows of each place, with the chosen rows of that place
 abbrev pub AddsRows : List Item → BlockView → ℕ → List ℕ → List (List Running) → List (List Running) → Type 0
-AddsRows items b word places old new = (p : ℕ) (f : List Cell → Bool) (rows : List (List Cell)) → p < length old → PicksPlace b word places p f
+AddsRows items b word places old new = (p : ℕ) (f : List Cell → Bool) (rows : List (List Cell)) → p < length old
+    → PicksPlace b word places p f
     → values_at old p ≡ runnings items rows → values_at new p ≡ runnings items (rows ++ filter f (chosen_in b word))
 
 -- the value of the item with the number k at a place
@@ -166,8 +174,10 @@ pub record HasItem (n k : ℕ) (vs : List (List Running)) : Type 0 where
   pub there : (p : ℕ) → p < length vs → k < length (values_at vs p)
   pub room : (p : ℕ) → p < length vs → HasRoom n (value_at vs p k)
 
--- the values of an item, the one with the number k, over the rows of each place, with those of these rows that have that place, over at most n rows; all other values stay
-pub record AddsItem (item : Item) (k n : ℕ) (b : BlockView) (word : ℕ) (places : List ℕ) (more : List (List Cell)) (old new : List (List Running)) : Type 0 where
+-- the values of an item, the one with the number k, over the rows of each place, with those of these rows that have
+-- that place, over at most n rows; all other values stay
+pub record AddsItem (item : Item) (k n : ℕ) (b : BlockView) (word : ℕ) (places : List ℕ) (more : List (List Cell))
+    (old new : List (List Running)) : Type 0 where
   pub long : length new ≡ length old
   pub same : (p : ℕ) → length (values_at new p) ≡ length (values_at old p)
   pub others : (p j : ℕ) → (j ≡ k → ⊥) → value_at new p j ≡ value_at old p j
@@ -198,14 +208,17 @@ HasRoomAt n m None = Unit {0}
 HasRoomAt n m (Some vs) = (length vs ≡ m) × All (HasRoom n) vs
 
 -- places of keys of so many cells can be looked for: what is remembered of a table is so
-pub record IsReady (width : ℕ) (key : List Cell) (place : Option ℕ) (slots : List (Option Met)) (t : Placed) : Type 0 where
+pub record IsReady (width : ℕ) (key : List Cell) (place : Option ℕ) (slots : List (Option Met))
+    (t : Placed) : Type 0 where
   pub long : length key ≡ width
   pub placed : IsPlaced t
   pub last : IsLast key place t
   pub met : AreMet width t slots
 
--- what the parts of kept groups are to one another: few rows, few items, values with room, and groups met lately that are there
-pub record IsKept (items : List Item) (keys : List ℕ) (rows : ℕ) (key : List Cell) (place : Option ℕ) (slots : List (Option Met)) (t : Placed) : Type 0 where
+-- what the parts of kept groups are to one another: few rows, few items, values with room, and groups met lately that
+-- are there
+pub record IsKept (items : List Item) (keys : List ℕ) (rows : ℕ) (key : List Cell) (place : Option ℕ)
+    (slots : List (Option Met)) (t : Placed) : Type 0 where
   pub few : rows ≤ MOST_ROWS
   pub short : length items < 2 ^ 32
   pub ready : IsReady (length keys) key place slots t

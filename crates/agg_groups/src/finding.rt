@@ -4,7 +4,8 @@ ghost use Rattle.row_blocks.specs.Blocks.{row_at};
 ghost use Rattle.agg_groups.specs.Blocks.{AreInBlock, chosen_in};
 ghost use Rattle.query_meaning.specs.Cells.{codes};
 ghost use Rattle.query_meaning.specs.Meaning.{cell, key_of};
-ghost use Rattle.agg_groups.specs.Table.{AreFound, HasGrown, HasNamed, IsPlaceFor, IsReady, KnowsRows, StaySound, place_at, seen};
+ghost use Rattle.agg_groups.specs.Table.{AreFound, HasGrown, HasNamed, IsPlaceFor};
+ghost use Rattle.agg_groups.specs.Table.{IsReady, KnowsRows, StaySound, place_at, seen};
 
 use crate::chosen::next_chosen;
 use crate::lanes::cell_in;

@@ -1,5 +1,6 @@
 // The groups of a query's rows.
-ghost use Rattle.std.specs.Prelude.{◌≡◌, ◌<◌, ◌≤◌, ◌+◌, ◌++◌, ℕ, List, [], ◌∷◌, length, None, OnOk, OnErr, IfOk, IfErr, IsOk};
+ghost use Rattle.std.specs.Prelude.{◌≡◌, ◌<◌, ◌≤◌, ◌+◌, ◌++◌, ℕ, List, [], ◌∷◌};
+ghost use Rattle.std.specs.Prelude.{length, None, OnOk, OnErr, IfOk, IfErr, IsOk};
 ghost use Rattle.std.specs.Bool.{OnFalse};
 ghost use Rattle.table_core.specs.declared.cell.Cell.{Cell};
 ghost use Rattle.agg_groups.specs.Blocks.{AreInBlock, chosen_in};
@@ -41,7 +42,8 @@ impl Model for Groups {
 
     ghost view = { λ g. record { items = g.items.items; keys = g.keys.items; rows = g.rows; groups = seen g.table } };
 
-    ghost invariant = { λ g. IsKept g.items.items g.keys.items g.rows g.last.key.items g.last.place g.last.met.items g.table };
+    ghost invariant = { λ g. IsKept g.items.items g.keys.items g.rows g.last.key.items g.last.place
+        g.last.met.items g.table };
 }
 
 // The groups of no rows: none, but for the one group of a query without key columns.
@@ -167,7 +169,8 @@ impl Groups {
         Ok(())
     }
 
-    /// Adds the rows of a block whose bits are set in `chosen`, in their order. A bit past the block's rows chooses none.
+    /// Adds the rows of a block whose bits are set in `chosen`, in their order. A bit past the block's rows chooses
+    /// none.
     /// Where a row of each key was met before it takes no memory, so it is never refused.
     ///
     /// Out of memory, the groups stay as they were.

@@ -1,5 +1,6 @@
 // The running value of an item over the chosen rows of a block, column by column.
-ghost use Rattle.std.specs.Prelude.{◌≡◌, ◌<◌, ◌≤◌, ◌+◌, ◌*◌, ◌^◌, ◌==◌, ℕ, All, length, false, if◌then◌else◌, count_ones, neg_ℤ, pos, ◌+ℤ◌, ◌≤ℤ◌};
+ghost use Rattle.std.specs.Prelude.{◌≡◌, ◌<◌, ◌≤◌, ◌+◌, ◌*◌, ◌^◌, ◌==◌, ℕ, All, length};
+ghost use Rattle.std.specs.Prelude.{false, if◌then◌else◌, count_ones, neg_ℤ, pos, ◌+ℤ◌, ◌≤ℤ◌};
 ghost use Rattle.std.specs.Int.{bit_at};
 ghost use Rattle.row_blocks.specs.Blocks.{row_at};
 ghost use Rattle.row_blocks.specs.Chosen.{chosen};

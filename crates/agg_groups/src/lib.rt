@@ -1,4 +1,5 @@
-//! Groups of rows with the running values of their items: what an aggregate query answers, in whatever order its rows come.
+//! Groups of rows with the running values of their items: what an aggregate query answers, in whatever order its rows
+//! come.
 //!
 //!     let mut groups = Groups::new(alloc, items, keys)?;    // Item::Sum(1), Item::Key(0); keys [0]
 //!     groups.add_row(row)?;                             // in any order of the rows

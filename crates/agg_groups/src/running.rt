@@ -1,5 +1,6 @@
 // The running value of an item over the rows of a group.
-ghost use Rattle.std.specs.Prelude.{◌≡◌, ◌<◌, ◌≤◌, ◌+◌, ◌^◌, ◌*◌, ◌==◌, ℕ, List, [], length, All, true, false, IfOk, neg_ℤ, pos, ◌≤ℤ◌, ◌+ℤ◌, if◌then◌else◌};
+ghost use Rattle.std.specs.Prelude.{◌≡◌, ◌<◌, ◌≤◌, ◌+◌, ◌^◌, ◌*◌, ◌==◌, ℕ, List, [], length, All};
+ghost use Rattle.std.specs.Prelude.{true, false, IfOk, neg_ℤ, pos, ◌≤ℤ◌, ◌+ℤ◌, if◌then◌else◌};
 ghost use Rattle.table_core.specs.declared.cell.Cell.TheVariants.{Null, Int};
 ghost use Rattle.agg_groups.specs.declared.running.Running.TheVariants as running;
 ghost use Rattle.query_meaning.specs.Cells as cells;

@@ -1,5 +1,6 @@
 // Where groups are kept: a map from keys to places, and the running values at each place.
-ghost use Rattle.std.specs.Prelude.{◌≡◌, ◌<◌, ◌≤◌, ◌+◌, ◌^◌, ℕ, List, [], length, map, set, count_ones, All, Contains, Some, None, is_some, true, OnOk, OnErr, IfOk, if◌then◌else◌, slice_index_or, take};
+ghost use Rattle.std.specs.Prelude.{◌≡◌, ◌<◌, ◌≤◌, ◌+◌, ◌^◌, ℕ, List, [], length, map, set, count_ones, All, Contains};
+ghost use Rattle.std.specs.Prelude.{Some, None, is_some, true, OnOk, OnErr, IfOk, if◌then◌else◌, slice_index_or, take};
 ghost use Rattle.std.specs.Int.{bit_at};
 ghost use Rattle.table_core.specs.declared.cell.Cell.{Cell};
 ghost use Rattle.query_meaning.specs.Cells.{codes};
@@ -7,7 +8,10 @@ ghost use Rattle.agg_groups.specs.Running.{HasRoom, nexts, joins, runnings, all_
 ghost use Rattle.query_meaning.specs.Places.{IsInRow};
 ghost use Rattle.table_core.specs.Lists.{lists};
 ghost use Rattle.agg_groups.specs.Blocks.{AreInBlock, chosen_in};
-ghost use Rattle.agg_groups.specs.Table.{AddsRows, first_places, Placed, IsPlaced, IsNewPlace, IsPlaceFor, AreSound, StaySound, place_at, values_at, seen, at, merged, first_over, result_rows, AllFit, AreBelow, Puts, base, HasGrown, HasNamed, HasValues, HavePlaces, HasRoomAt, KeepsPlaces, names, plain_places};
+ghost use Rattle.agg_groups.specs.Table.{AddsRows, first_places, Placed, IsPlaced, IsNewPlace, IsPlaceFor};
+ghost use Rattle.agg_groups.specs.Table.{AreSound, StaySound, place_at, values_at, seen, at, merged, first_over};
+ghost use Rattle.agg_groups.specs.Table.{result_rows, AllFit, AreBelow, Puts, base, HasGrown, HasNamed};
+ghost use Rattle.agg_groups.specs.Table.{HasValues, HavePlaces, HasRoomAt, KeepsPlaces, names, plain_places};
 
 use crate::lanes::add_chosen;
 use crate::running::{Running, join_all, over, row_of, starts, step};
@@ -35,7 +39,8 @@ impl Model for GroupTable {
 
     ghost view = { λ t. record { places = plain_places t.places.entries; values = lists t.values.items } };
 
-    ghost invariant = { λ t. IsPlaced (record { places = plain_places t.places.entries; values = lists t.values.items }) };
+    ghost invariant = { λ t. IsPlaced
+        (record { places = plain_places t.places.entries; values = lists t.values.items }) };
 }
 
 // Puts a key that had no place at a new one, with the values of no rows.

@@ -1,5 +1,6 @@
 -- The answer to a query, by what came of its parts.
-use Rattle.std.specs.Prelude.{◌≡◌, ◌≤◌, ◌⊎◌, ℕ, zero, suc, All, List, [], ◌∷◌, IsPermutation, length, map, take, drop, Option, None, Some, Result, Ok, Err}
+use Rattle.std.specs.Prelude.{◌≡◌, ◌≤◌, ◌⊎◌, ℕ, zero, suc, All, List, [], ◌∷◌, IsPermutation}
+use Rattle.std.specs.Prelude.{length, map, take, drop, Option, None, Some, Result, Ok, Err}
 use Rattle.scan_story.specs.declared.cause.Cause.{Cause}
 use Rattle.scan_story.specs.declared.cause.Cause.TheVariants as cause
 use Rattle.table_core.specs.declared.cell.Cell.{Cell}
@@ -23,8 +24,8 @@ first_cause [] = None
 first_cause (Ok partial ∷ rs) = first_cause rs
 first_cause (Err why ∷ rs) = Some why
 
--- what is kept of the results of some parts: what they gathered, in part order, or why the first was stopped; memory may have
--- run out for it only where none was stopped
+-- what is kept of the results of some parts: what they gathered, in part order, or why the first was stopped; memory
+-- may have run out for it only where none was stopped
 abbrev pub AreParts : List Came → Parts → Type 0
 AreParts rs (parts.All all) = rs ≡ map Ok all.items
 AreParts rs (parts.Stopped why) = first_cause rs ≡ Some why
@@ -48,10 +49,12 @@ AreApart _ _ = Unit {0}
 
 -- the answer to each plan that all parts fit, over the rows for which they stand together, in any order
 abbrev pub AnswersParts : List Partial → Answer → Type 0
-AnswersParts all a = (p : Plan) (lists : List (List (Numbered Cell))) (rows : List (Numbered Cell)) → All (FitsPlan p) all → StandForEach all lists → AreApart all lists
+AnswersParts all a = (p : Plan) (lists : List (List (Numbered Cell))) (rows : List (Numbered Cell))
+    → All (FitsPlan p) all → StandForEach all lists → AreApart all lists
     → IsPermutation (joined lists) rows → IsAnswerOver p rows a
 
--- a query is stopped for the first cause of its parts; where none of them was stopped it isn't, or is stopped when out of memory
+-- a query is stopped for the first cause of its parts; where none of them was stopped it isn't, or is stopped when out
+-- of memory
 abbrev pub IsStoppedFor : Option Cause → Option Cause → Type 0
 IsStoppedFor first lost = (lost ≡ first) ⊎ ((first ≡ None) × (lost ≡ Some cause.Memory))
 
@@ -63,7 +66,8 @@ pub record IsAnswerOf (rs : List Came) (a : Answer) : Type 0 where
 -- of so many queries, each with so many results, the parts may be joined where none was stopped
 abbrev pub AreAllJoinable : ℕ → ℕ → List Came → Type 0
 AreAllJoinable parts zero rs = Unit {0}
-AreAllJoinable parts (suc n) rs = (parts ≤ length rs) × ((all : List Partial) → take parts rs ≡ map Ok all → AreJoinable all) × AreAllJoinable parts n (drop parts rs)
+AreAllJoinable parts (suc n) rs = (parts ≤ length rs)
+    × ((all : List Partial) → take parts rs ≡ map Ok all → AreJoinable all) × AreAllJoinable parts n (drop parts rs)
 
 -- the answers to the first queries, and the results that are left
 abbrev pub AnswersSome : ℕ → List Came → List Answer → List Came → Type 0

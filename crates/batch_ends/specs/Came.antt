@@ -14,10 +14,11 @@ use Rattle.query_gather.specs.declared.partial.Partial.{Partial}
 use Rattle.batch_plan.specs.Scans.{Scan}
 use Rattle.batch_ends.specs.Gathered.{Gathered}
 
--- what came of the scan with this number and plan by the story: it has its End and what is gathered is of the chunks that were
--- delivered to it, in their order; or the story stopped it, first for this cause
+-- what came of the scan with this number and plan by the story: it has its End and what is gathered is of the chunks
+-- that were delivered to it, in their order; or the story stopped it, first for this cause
 abbrev pub CameFor : Start → Told → TableShape → List Entry → ℕ → Plan → Result Partial Cause → Type 0
-CameFor o told z story number plan (Ok partial) = (is_ended (past story) number ≡ true) × Gathered z plan o.held told (chunks_delivered story number) partial
+CameFor o told z story number plan (Ok partial) = (is_ended (past story) number ≡ true)
+    × Gathered z plan o.held told (chunks_delivered story number) partial
 CameFor o told z story number plan (Err cause) = cause_of (past story) number ≡ Some cause
 
 -- what came of a scan

@@ -29,4 +29,5 @@ AreCounted js lists = (w : ℕ) → w < length lists → length (jobs_on w js) �
 
 -- each worker's list has what came of its jobs, in their order
 abbrev pub AreSorted : Start → Told → TableShape → List Entry → List Job → List (List (Result Partial Cause)) → Type 0
-AreSorted o told z story js lists = (w : ℕ) → w < length lists → CameOfAll o told z story (jobs_on w js) (list_of lists w)
+AreSorted o told z story js lists = (w : ℕ) → w < length lists
+    → CameOfAll o told z story (jobs_on w js) (list_of lists w)

@@ -18,19 +18,22 @@ abbrev pub or_first : Option Cause → Option Cause → Option Cause
 or_first None later = later
 or_first (Some first) later = Some first
 
--- the first cause for which the story stopped a scan of the query, among its parts from one on, of which so many are left
+-- the first cause for which the story stopped a scan of the query, among its parts from one on, of which so many are
+-- left
 abbrev pub cause_from : History → ℕ → ℕ → ℕ → ℕ → Option Cause
 cause_from h parts query part zero = None
-cause_from h parts query part (suc left) = or_first (cause_of h (scan_number parts query part)) (cause_from h parts query (part + 1) left)
+cause_from h parts query part (suc left) = or_first (cause_of h (scan_number parts query part))
+    (cause_from h parts query (part + 1) left)
 
 -- the cause of the first part of the query, in part order, that the story stopped
 abbrev pub cause_of_query : History → ℕ → ℕ → Option Cause
 cause_of_query h parts query = cause_from h parts query 0 parts
 
--- HOW A QUERY IS LOST: as the story says of the first of its parts that it stopped; where it stopped none of them the query isn't
--- lost, or is lost when out of memory
+-- HOW A QUERY IS LOST: as the story says of the first of its parts that it stopped; where it stopped none of them the
+-- query isn't lost, or is lost when out of memory
 abbrev pub IsLostBy : History → ℕ → ℕ → Option Cause → Type 0
-IsLostBy h parts query lost = (lost ≡ cause_of_query h parts query) ⊎ ((cause_of_query h parts query ≡ None) × (lost ≡ Some cause.Memory))
+IsLostBy h parts query lost = (lost ≡ cause_of_query h parts query)
+    ⊎ ((cause_of_query h parts query ≡ None) × (lost ≡ Some cause.Memory))
 
 -- why an answer says that its query was stopped, if it does
 abbrev pub stop_of : Answer → Option Cause

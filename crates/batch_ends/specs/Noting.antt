@@ -1,5 +1,6 @@
 -- Chunks that are noted as the story delivered them.
-use Rattle.std.specs.Prelude.{◌≡◌, ◌<◌, ◌≤◌, ◌+◌, ◌-◌, ◌*◌, ◌/◌, ◌%◌, ◌++◌, ◌∷◌, ◌==◌, ℕ, List, [], length, vec_capacity, if◌then◌else◌}
+use Rattle.std.specs.Prelude.{◌≡◌, ◌<◌, ◌≤◌, ◌+◌, ◌-◌, ◌*◌, ◌/◌, ◌%◌, ◌++◌, ◌∷◌}
+use Rattle.std.specs.Prelude.{◌==◌, ℕ, List, [], length, vec_capacity, if◌then◌else◌}
 use Rattle.scan_story.specs.declared.entry.Entry.{Entry}
 use Rattle.story_laws.specs.Queries.{chunks_delivered}
 use Rattle.chunk_interest.specs.declared.need.Need.{Need}

@@ -15,8 +15,9 @@ pub record Counts : Type 0 where
 abbrev pub counts : ℕ → ℕ → Counts
 counts gets faults = record { gets = gets; faults = faults }
 
--- THE STORY of a batch in its setting: whole and legal, undisturbed and bounded; each fault that it names has a rise of the depot's
--- count of its own, no piece of a depot that tells what it holds is damaged, and the depot's gets rose by its reads
+-- THE STORY of a batch in its setting: whole and legal, undisturbed and bounded; each fault that it names has a rise of
+-- the depot's count of its own, no piece of a depot that tells what it holds is damaged, and the depot's gets rose by
+-- its reads
 pub record IsStoryOver (s : Setting) (told : Bool) (old new : Counts) (story : List Entry) : Type 0 where
   pub whole : IsWholeStory s story
   pub licensed : Licensed told old.faults new.faults (past story)

@@ -13,8 +13,8 @@ use Rattle.story_laws.specs.Victims.{VictimsWereFar}
 abbrev pub LoadsAreBounded : Setting → History → Type 0
 LoadsAreBounded s h = loads s h ≤ deliveries h + 2 * stopped_queries s h
 
--- THE STORY of the scans: it is legal and whole, no chunk was evicted or filled over while a worker held it, it loaded no more
--- than is paid for, each victim was close to no query, and it is as short as its setting says
+-- THE STORY of the scans: it is legal and whole, no chunk was evicted or filled over while a worker held it, it loaded
+-- no more than is paid for, each victim was close to no query, and it is as short as its setting says
 pub record IsWholeStory (s : Setting) (story : List Entry) : Type 0 where
   pub legal : Legal s (past story)
   pub whole : IsWhole s (past story)

@@ -2,7 +2,8 @@
 ghost use Rattle.std.specs.Prelude.{◌≡◌, ◌≤◌, ◌++◌, ◌∷◌, [], ℕ, List, drop, length, map, take, vec_capacity};
 ghost use Rattle.scan_story.specs.declared.cause.Cause.TheVariants as cause;
 ghost use Rattle.query_gather.specs.Answer.{StopsFor};
-ghost use Rattle.batch_ends.specs.Answering.{AnswersParts, AnswersSome, AreAllJoinable, AreJoinable, AreParts, Came, IsAnswerOf, MayAllJoin};
+ghost use Rattle.batch_ends.specs.Answering.{AnswersParts, AnswersSome, AreAllJoinable};
+ghost use Rattle.batch_ends.specs.Answering.{AreJoinable, AreParts, Came, IsAnswerOf, MayAllJoin};
 
 use query_gather::{Answer, Cause, Partial, join_parts};
 use std::alloc::Global;
@@ -102,7 +103,8 @@ fn answer_of(parts: Parts) -> Answer
     }
 }
 
-/// Answers so many queries, each of which has as many results, in their order, in the room that is kept for the answers.
+/// Answers so many queries, each of which has as many results, in their order, in the room that is kept for the
+/// answers.
 pub fn answer_all(
     alloc: Global,
     queries: usize,

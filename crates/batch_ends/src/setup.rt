@@ -1,5 +1,6 @@
 // What a batch makes before its scans.
-ghost use Rattle.std.specs.Prelude.{◌≡◌, ◌≤◌, ◌*◌, [], All, IfOk, IfSome, IsOk, List, Some, ℕ, length, map, vec_capacity};
+ghost use Rattle.std.specs.Prelude.{◌≡◌, ◌≤◌, ◌*◌, [], All, IfOk, IfSome, IsOk};
+ghost use Rattle.std.specs.Prelude.{List, Some, ℕ, length, map, vec_capacity};
 ghost use Rattle.std.specs.List.{AllZip};
 ghost use Rattle.table_sets.specs.Sets.{Rising};
 ghost use Rattle.filter_zones.specs.Possible as possible;

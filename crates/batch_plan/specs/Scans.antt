@@ -32,12 +32,14 @@ scan_of workers parts t place part = record {
 -- the scans of a task's parts from one part on, of which so many are left
 abbrev pub scans_from_part : ℕ → ℕ → Task → ℕ → ℕ → ℕ → List Scan
 scans_from_part workers parts t place part zero = []
-scans_from_part workers parts t place part (suc left) = scan_of workers parts t place part ∷ scans_from_part workers parts t (place + 1) (part + 1) left
+scans_from_part workers parts t place part (suc left) = scan_of workers parts t place part
+    ∷ scans_from_part workers parts t (place + 1) (part + 1) left
 
 -- the scans of tasks, behind those of the tasks before them: in task order, and of each task in part order
 abbrev pub scans_from : ℕ → ℕ → ℕ → List Task → List Scan
 scans_from workers parts place [] = []
-scans_from workers parts place (t ∷ tasks) = scans_from_part workers parts t place 0 parts ++ scans_from workers parts (place + parts) tasks
+scans_from workers parts place (t ∷ tasks) = scans_from_part workers parts t place 0 parts
+    ++ scans_from workers parts (place + parts) tasks
 
 -- THE SCANS of a batch
 abbrev pub scans : ℕ → ℕ → List Task → List Scan

@@ -17,15 +17,16 @@ pub record NamesColumns (columns : ℕ) (p : Plan) : Type 0 where
   pub some : 0 < length p.columns
   pub within : All (λ (x : ℕ). x < columns) p.columns
 
--- the limits of how a batch runs: with so many pieces to a chunk there are frames for three chunks a worker and one more
+-- the limits of how a batch runs: with so many pieces to a chunk there are frames for three chunks a worker and one
+-- more
 pub record AreOptions (groups : ℕ) (o : Options) : Type 0 where
   pub workers : (1 ≤ o.workers) × (o.workers ≤ 32)
   pub parts : (1 ≤ o.parts) × (o.parts ≤ 32)
   pub room : (3 * o.workers + 1) * groups ≤ o.frames
   pub frames : o.frames ≤ 33554432
 
--- what a batch asks for: tasks whose numbers rise, at most 256 scans, plans over the columns of the shape, and zones for each
--- chunk, on which each condition can be judged
+-- what a batch asks for: tasks whose numbers rise, at most 256 scans, plans over the columns of the shape, and zones
+-- for each chunk, on which each condition can be judged
 pub record IsBatch (z : TableShape) (zs : List ChunkZones) (tasks : List Task) (o : Options) : Type 0 where
   pub shape : IsShape z
   pub zoned : length zs ≡ chunks z

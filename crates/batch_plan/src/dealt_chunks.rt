@@ -17,8 +17,8 @@ pub fn all_are_dealt()
         → IsPermutation needed (dealt_to needed parts parts) }
 {}
 
-/// In the setting of a batch the scans of a query's parts ask for the chunks that the query needs, each of them once, and
-/// no two of them for one chunk. A law, for what a whole batch takes. It does nothing.
+/// In the setting of a batch the scans of a query's parts ask for the chunks that the query needs, each of them once,
+/// and no two of them for one chunk. A law, for what a whole batch takes. It does nothing.
 pub fn needs_add_up()
     ensures { (z : TableShape) (zones : List ChunkZones) (tasks : List Task) (o : Options) (name : PolicyName)
         (cursor : List ℕ) → IsBatch z zones tasks o

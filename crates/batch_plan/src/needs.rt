@@ -43,7 +43,9 @@ fn push_parts(
     requires workers { 1 ≤ workers }
     requires short { length needs.old.items ≤ 256 * 32 }
     ensures { OnOk result ((zones : List Zoned) → chunks.now ≡ possible.needed task.now.plan.cond zones
-        → needs.new.items ≡ needs.old.items ++ spec.needs zones parts (spec.scans_from_part workers parts task.now (length needs.old.items) 0 parts)) }
+        → needs.new.items
+        ≡ needs.old.items
+        ++ spec.needs zones parts (spec.scans_from_part workers parts task.now (length needs.old.items) 0 parts)) }
 {
     for part in 0..parts {
         let place = needs.len() as u32;
@@ -57,8 +59,8 @@ fn push_parts(
     Ok(())
 }
 
-/// What the scans of a batch need, in their order: of each task, in task order, each part, in part order. A scan needs its
-/// part of the chunks that its query needs, and the columns of the query's plan; the workers take turns.
+/// What the scans of a batch need, in their order: of each task, in task order, each part, in part order. A scan needs
+/// its part of the chunks that its query needs, and the columns of the query's plan; the workers take turns.
 ///
 /// `IsBatch` has the conditions. With these needs the setting of the batch is one that a desk may be made for,
 /// whatever the policy and its cursor, of which the limits don't speak.

@@ -1,5 +1,6 @@
 -- All workers of a batch, with and without their stations.
-use Rattle.std.specs.Prelude.{◌≡◌, ◌≤◌, ◌+◌, ◌++◌, ◌∷◌, [], ℕ, zero, suc, List, All, map, reverse, vec_len, vec_capacity}
+use Rattle.std.specs.Prelude.{◌≡◌, ◌≤◌, ◌+◌, ◌++◌, ◌∷◌, [], ℕ, zero, suc}
+use Rattle.std.specs.Prelude.{List, All, map, reverse, vec_len, vec_capacity}
 use Rattle.std.specs.VecDeque.{deque_capacity}
 use Rattle.atomic_table.specs.Seated.{TableId}
 use Rattle.scan_story.specs.declared.origin.Start.{Start}

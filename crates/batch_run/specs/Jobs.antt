@@ -10,7 +10,8 @@ use Rattle.batch_ends.specs.Rows.{IsPlanOfShape}
 use Rattle.batch_ends.specs.declared.job.Job.{Job}
 use Rattle.batch_ends.specs.Jobs.{numbers_of}
 
--- a job that may be done: its number's need names its worker and the columns of its plan, which is over tables of the shape
+-- a job that may be done: its number's need names its worker and the columns of its plan, which is over tables of the
+-- shape
 pub record IsJob (s : Setting) (z : TableShape) (j : Job) : Type 0 where
   pub on : worker_of s j.number ≡ Some j.worker
   pub columns : HasColumns s z j.number

@@ -38,13 +38,14 @@ pub record WentFor (q : ℕ) (p r : PassView) : Type 0 where
   pub others : (k : ℕ) → k ≢ q → chunks_delivered r.mine k ≡ chunks_delivered p.mine k
 
 module _ {S C P D T K : Type 0} where
-  -- what a part's answer says. Done: the query has its End, each chunk of its need was taken once, and their rows are gathered;
-  -- stopped: for this cause; when out of memory the scan is still under way, and no chunk is out
+  -- what a part's answer says. Done: the query has its End, each chunk of its need was taken once, and their rows are
+  -- gathered; stopped: for this cause; when out of memory the scan is still under way, and no chunk is out
   abbrev pub CameTo : Start → Told → CScan S C P D T K → Plan → Result Partial Unfinished → Type 0
   CameTo o told scan p (Ok partial) = IsOver o scan.baton.now scan.pool.now scan.query scan.station.now
       × (is_ended (past scan.station.now.pass.seen) scan.query ≡ true)
       × AreAllOnce o.setting scan.query (chunks_delivered scan.station.now.pass.mine scan.query)
       × Gathered scan.shape.now p o.held told (chunks_delivered scan.station.now.pass.mine scan.query) partial
-  CameTo o told scan p (Err (unfinished.Stopped cause)) = IsOver o scan.baton.now scan.pool.now scan.query scan.station.now
+  CameTo o told scan p
+      (Err (unfinished.Stopped cause)) = IsOver o scan.baton.now scan.pool.now scan.query scan.station.now
       × (cause_of (past scan.station.now.pass.seen) scan.query ≡ Some cause)
   CameTo o told scan p (Err unfinished.Memory) = IsScan o told scan × (scan.out ≡ None)

@@ -1,4 +1,5 @@
--- What the scans of a batch are run for: the origin of the desk and the content of the frames, by the depot as it is then.
+-- What the scans of a batch are run for: the origin of the desk and the content of the frames, by the depot as it is
+-- then.
 use Rattle.std.specs.Prelude.{◌≡◌, ◌<◌, ⊤, ℕ, List, [], map, Option, Some, None}
 use Rattle.std.specs.List.{range_with_len}
 use Rattle.coop_outside.specs.Pieces.{Pieces, Stored, bytes_of}
@@ -23,7 +24,8 @@ abbrev pub content_of : TableShape → Stored → Told
 content_of z None = None
 content_of z (Some held) = Some (map (words_held z held) (range_with_len 0 (pieces z)))
 
--- the depot holds each piece of a table with these rows, where it tells what it holds; what the pieces' bytes give back is as table_pieces says
+-- the depot holds each piece of a table with these rows, where it tells what it holds; what the pieces' bytes give back
+-- is as table_pieces says
 pub record HoldsRows (z : TableShape) (rows : List (List Cell)) (held : Pieces) : Type 0 where
   pub put : (p : ℕ) → p < pieces z → bytes_of held p ≡ Some (piece_bytes z rows p)
   pub long : AreLong z rows (pieces z)

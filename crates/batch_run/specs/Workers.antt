@@ -31,7 +31,8 @@ pub record Ran (q : ℕ) (p r : PassView) : Type 0 where
   pub registers : registered added ≡ q ∷ []
   pub others : (k : ℕ) → k ≢ q → chunks_delivered r.mine k ≡ chunks_delivered p.mine k
 
--- by what its worker has seen the story is legal, the entries of its number are its own, and it holds nothing and loads nothing
+-- by what its worker has seen the story is legal, the entries of its number are its own, and it holds nothing and loads
+-- nothing
 pub record Rests (o : Start) (p : PassView) : Type 0 where
   pub own : entries_by p.number p.seen ≡ p.mine
   pub legal : Legal o.setting (past p.seen)
@@ -39,7 +40,8 @@ pub record Rests (o : Start) (p : PassView) : Type 0 where
 
 module _ {S C P D : Type 0} where
   -- the worker has run just these jobs over the shape, and has what came of them
-  pub record HasRun (o : Start) (told : Told) (z : TableShape) (id : TableId) (pool : PoolView) (js : List Job) (w : Worker S C P D) : Type 0 where
+  pub record HasRun (o : Start) (told : Told) (z : TableShape) (id : TableId) (pool : PoolView) (js : List Job)
+      (w : Worker S C P D) : Type 0 where
     pub seated : IsSeated id pool o [] w.station
     pub number : w.station.number ≡ w.number
     pub shape : w.shape.now ≡ z

@@ -24,10 +24,12 @@ module _ {S C P D : Type 0} where
   numbers_in works = map (λ (w : Worker S C P D). w.number) works.crew.workers.items
 
   -- the works and the workers are the same; everybody has a station, and has run the jobs that are on it
-  pub record HasWorked (o : Start) (told : Told) (z : TableShape) (js : List Job) (old new : Works S C P D) : Type 0 where
+  pub record HasWorked (o : Start) (told : Told) (z : TableShape) (js : List Job)
+      (old new : Works S C P D) : Type 0 where
     pub baton : new.baton ≡ old.baton
     pub pool : new.pool ≡ old.pool
     pub crew : IsCrew o new.baton new.pool new.crew
     pub none_left : new.crew.passes.items ≡ []
     pub numbers : numbers_in new ≡ numbers_in old
-    pub workers : All (λ (w : Worker S C P D). HasRun o told z new.baton new.pool (jobs_on w.number js) w) new.crew.workers.items
+    pub workers : All
+        (λ (w : Worker S C P D). HasRun o told z new.baton new.pool (jobs_on w.number js) w) new.crew.workers.items

@@ -31,21 +31,23 @@ use std::sync::Wait;
 use std::thread::Threads;
 use table_pieces::{BatchRefusal, put_pieces};
 
-/// Answers a batch of queries over one table, on as many workers as the options say, each in a thread of its own as far as
-/// there are threads.
+/// Answers a batch of queries over one table, on as many workers as the options say, each in a thread of its own as far
+/// as there are threads.
 ///
-/// All pieces of the table are put into the depot before a scan begins. Each query is split into as many scans as there are parts;
-/// the scans of all tasks, in task order and then part order, are dealt to the workers in turn, and each worker runs its scans in order
-/// over the frames that all share. What the parts of a query gathered is joined, and the query is answered. A read that fails and a
-/// damaged piece stop the query for which the piece was loaded, and so does `Memory` once the workers have started.
+/// All pieces of the table are put into the depot before a scan begins. Each query is split into as many scans as there
+/// are parts; the scans of all tasks, in task order and then part order, are dealt to the workers in turn, and each
+/// worker runs its scans in order over the frames that all share. What the parts of a query gathered is joined, and the
+/// query is answered. A read that fails and a damaged piece stop the query for which the piece was loaded, and so does
+/// `Memory` once the workers have started.
 ///
-/// At most `most_threads` threads are started beside the caller's, and one may be refused. Where there are fewer threads than
-/// workers, a thread runs several workers, one after another; with 0 the caller runs all of them. All that is said below holds
-/// then too.
+/// At most `most_threads` threads are started beside the caller's, and one may be refused. Where there are fewer
+/// threads than workers, a thread runs several workers, one after another; with 0 the caller runs all of them. All that
+/// is said below holds then too.
 ///
-/// The table and its dictionaries are those that `csv_load::load` answers, and each plan is one that `sql_bind` answers over
-/// them. The numbers of the tasks rise from at least 1 to at most 256, and no scan's number passes 256. There are 1 to 16384 rows in a
-/// chunk, and at most 1024 chunks; there are frames enough, with at most 33554432 words in all; the depot's gets are at most 2^63.
+/// The table and its dictionaries are those that `csv_load::load` answers, and each plan is one that `sql_bind` answers
+/// over them. The numbers of the tasks rise from at least 1 to at most 256, and no scan's number passes 256. There are
+/// 1 to 16384 rows in a chunk, and at most 1024 chunks; there are frames enough, with at most 33554432 words in all;
+/// the depot's gets are at most 2^63.
 /// After a refusal, of which `BatchRefusal` tells the meaning, the depot comes back, and no piece was read.
 pub fn run_batch<P: Policy, D: Depot + Send, T: Gate + Sync, R: Threads + Wait + Sync>(
     rt: &R,
@@ -70,7 +72,8 @@ pub fn run_batch<P: Policy, D: Depot + Send, T: Gate + Sync, R: Threads + Wait +
     requires words { options.now.frames * frame_words
         (spec.shape_of loaded.table loaded.dicts.items options.now.layout options.now.per) ≤ 33554432 }
     requires gets { D.gets depot ≤ 2 ^ 63 }
-    // where the depot tells what it holds, each answer is the one to its plan over the whole table, unless the query was stopped
+    // where the depot tells what it holds, each answer is the one to its plan over the whole table, unless the query
+    // was stopped
     ensures answers { IfOk result (λ e. Tells (D.held depot)
         → AllZip (λ t a. IsAnswer t.plan loaded.table.rows a) tasks.now e.answers.items) }
     // whatever the depot gave, the rows of each answer can be written
@@ -79,16 +82,20 @@ pub fn run_batch<P: Policy, D: Depot + Send, T: Gate + Sync, R: Threads + Wait +
     // a query is stopped as the story says of its scans, or when out of memory
     ensures lost { IfOk result (λ e. AllZip (λ t a. IsLostBy (past e.ran.story.items) options.now.parts t.query
         (stop_of a)) tasks.now e.answers.items) }
-    // the story is whole, legal, undisturbed and bounded in the setting of this batch; each of its faults has its cause, and the depot was read as it says
+    // the story is whole, legal, undisturbed and bounded in the setting of this batch; each of its faults has its
+    // cause, and the depot was read as it says
     ensures story { let s = spec.shape_of loaded.table loaded.dicts.items options.now.layout options.now.per in
-        IfOk result (λ e. IsStoryOver (batch_setting s (chunk_zones s loaded.table.rows) tasks.now options.now (P.name policy) (P.cursor policy)) (is_some (D.held depot))
+        IfOk result (λ e. IsStoryOver
+        (batch_setting s (chunk_zones s loaded.table.rows) tasks.now options.now (P.name policy) (P.cursor policy))
+        (is_some (D.held depot))
         (counts (D.gets depot) (D.faults depot)) (counts (D.gets e.depot) (D.faults e.depot)) e.ran.story.items) }
     // one element for each scan, in their order, with exactly the chunks that the story delivered to it
     ensures taken { IfOk result (λ e. AllZip (IsTakenBy e.ran.story.items)
         (scans options.now.workers options.now.parts tasks.now) e.ran.taken.items) }
     // each scan took chunks of its need, each once, and where it ended all of them
     ensures took { let s = spec.shape_of loaded.table loaded.dicts.items options.now.layout options.now.per in
-        IfOk result (λ e. All (TookNeed (chunk_zones s loaded.table.rows) options.now.parts e.ran.story.items) (scans options.now.workers options.now.parts tasks.now)) }
+        IfOk result (λ e. All (TookNeed (chunk_zones s loaded.table.rows) options.now.parts e.ran.story.items)
+        (scans options.now.workers options.now.parts tasks.now)) }
     // each worker registered its scans in the order of its tasks
     ensures registers { IfOk result (λ e. (w : ℕ) → w < options.now.workers
         → RegistersInOrder e.ran.story.items (scans options.now.workers options.now.parts tasks.now) w) }
@@ -99,7 +106,8 @@ pub fn run_batch<P: Policy, D: Depot + Send, T: Gate + Sync, R: Threads + Wait +
     ensures dicts { IfOk result (λ e. e.dicts.items ≡ loaded.dicts.items) }
     // why not all pieces were put, and which of them are
     ensures refused { let s = spec.shape_of loaded.table loaded.dicts.items options.now.layout options.now.per in
-        IfErr result (λ r. IsRefusal s loaded.table.rows (D.held depot) (D.held r.0) (D.faults depot) (D.faults r.0) r.1) }
+        IfErr result (λ r. IsRefusal s loaded.table.rows (D.held depot) (D.held r.0) (D.faults depot)
+        (D.faults r.0) r.1) }
     ensures refused_gets { IfErr result (λ r. D.gets r.0 ≡ D.gets depot) }
     ensures refused_faults { IfErr result (λ r. D.faults depot ≤ D.faults r.0) }
 {

@@ -1,6 +1,6 @@
 //! A batch of queries over one table: the table is put into a depot piece by piece, workers run the scans of the
-//! queries at once over shared frames, each scan gathers the rows of the chunks that it takes as they come, and what the
-//! parts of a query gathered is joined to its answer.
+//! queries at once over shared frames, each scan gathers the rows of the chunks that it takes as they come, and what
+//! the parts of a query gathered is joined to its answer.
 //!
 //!     let tasks = [Task { query: 1, plan: &plan }];
 //!     let options = Options { workers: 4, frames: 13, per: 1024, layout: Layout::Row, parts: 1 };

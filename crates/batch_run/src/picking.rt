@@ -29,8 +29,8 @@ use std::thread::Threads;
 
 /// Runs the scans of a batch over a depot in which the pieces of its table are put, where it tells what it holds.
 ///
-/// Here the meaning of the origin is picked, which is the setting that these arguments make and the depot as it is now, and the
-/// meaning of the content, which is the words of the pieces that the depot tells.
+/// Here the meaning of the origin is picked, which is the setting that these arguments make and the depot as it is now,
+/// and the meaning of the content, which is the words of the pieces that the depot tells.
 pub(crate) fn run_put<P: Policy, D: Depot + Send, T: Gate + Sync, R: Threads + Wait + Sync>(
     rt: &R,
     alloc: Global,
@@ -60,13 +60,16 @@ pub(crate) fn run_put<P: Policy, D: Depot + Send, T: Gate + Sync, R: Threads + W
         IfOk result (λ e. IsWholeStory s e.story.items) }
     ensures results { let s = setting_of needs.items (chunks shape.now) options.now.workers options.now.frames
         (groups shape.now) (P.name policy) (P.cursor policy) in
-        IfOk result (λ e. AllZip (CameOf (start_of s (depot_view (D.held depot) (D.gets depot) (D.faults depot))) (content_of shape.now (D.held depot)) shape.now e.story.items)
+        IfOk result (λ e. AllZip
+        (CameOf (start_of s (depot_view (D.held depot) (D.gets depot) (D.faults depot)))
+        (content_of shape.now (D.held depot)) shape.now e.story.items)
         (scans options.now.workers options.now.parts tasks.now) e.results.items) }
     ensures registers { IfOk result (λ e. (w : ℕ) → w < options.now.workers
         → RegistersInOrder e.story.items (scans options.now.workers options.now.parts tasks.now) w) }
     ensures depot { let s = setting_of needs.items (chunks shape.now) options.now.workers options.now.frames
         (groups shape.now) (P.name policy) (P.cursor policy) in
-        IfOk result (λ e. Agrees (start_of s (depot_view (D.held depot) (D.gets depot) (D.faults depot))) (past e.story.items) (depot_view (D.held e.depot) (D.gets e.depot) (D.faults e.depot))) }
+        IfOk result (λ e. Agrees (start_of s (depot_view (D.held depot) (D.gets depot) (D.faults depot)))
+        (past e.story.items) (depot_view (D.held e.depot) (D.gets e.depot) (D.faults e.depot))) }
     ensures held_back { IfErr result (λ r. D.held r.0 ≡ D.held depot) }
     ensures unread { IfErr result (λ r. D.gets r.0 ≡ D.gets depot) }
     ensures later { IfErr result (λ r. D.faults depot ≤ D.faults r.0) }

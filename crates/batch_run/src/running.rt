@@ -122,13 +122,15 @@ fn work<
     }
 }
 
-/// Runs the scans of a batch: each task's parts, in task order and then part order, on worker `place % workers`, each worker's
-/// scans in order, all workers at once, as far as there are threads, of which so many may be started beside the caller's. It
-/// returns when each worker has run all its scans.
+/// Runs the scans of a batch: each task's parts, in task order and then part order, on worker `place % workers`, each
+/// worker's scans in order, all workers at once, as far as there are threads, of which so many may be started beside
+/// the caller's. It returns when each worker has run all its scans.
 ///
-/// The origin `S` is what the needs, the shape, the options, the policy and the depot make, and the content `C` is that of the pieces
-/// which the depot tells that it holds, or isn't told. The needs are those of the scans, one for each of them in their order.
-/// `Memory` comes when out of memory before the first scan begins; the depot comes back unread. Running out later stops one scan.
+/// The origin `S` is what the needs, the shape, the options, the policy and the depot make, and the content `C` is that
+/// of the pieces which the depot tells that it holds, or isn't told. The needs are those of the scans, one for each of
+/// them in their order.
+/// `Memory` comes when out of memory before the first scan begins; the depot comes back unread. Running out later stops
+/// one scan.
 pub fn run_scans<
     S: Origin + Send + Sync,
     C: Content + Send + Sync,

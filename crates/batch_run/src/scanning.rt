@@ -86,9 +86,9 @@ fn may_be_shared<K: Sync>()
     ensures { IsSync K.row }
 {}
 
-/// Lets all workers run their scans at once, each in a thread of its own as far as there are threads. At most so many are
-/// started beside the caller's. Where there are fewer than workers, or one is refused, a thread runs several of them, one
-/// after another.
+/// Lets all workers run their scans at once, each in a thread of its own as far as there are threads. At most so many
+/// are started beside the caller's. Where there are fewer than workers, or one is refused, a thread runs several of
+/// them, one after another.
 pub(crate) fn run_at_once<
     S: Origin + Send + Sync,
     C: Content + Send + Sync,

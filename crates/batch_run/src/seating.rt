@@ -1,5 +1,6 @@
 // The desk, the baton, the pool and the crew of a batch: made, and taken apart again.
-ghost use Rattle.std.specs.Prelude.{◌≡◌, ◌≤◌, ◌+◌, ◌*◌, ◌++◌, ℕ, [], All, IfErr, IfOk, map, reverse, vec_len, vec_capacity};
+ghost use Rattle.std.specs.Prelude.{◌≡◌, ◌≤◌, ◌+◌, ◌*◌, ◌++◌, ℕ, [], All, IfErr};
+ghost use Rattle.std.specs.Prelude.{IfOk, map, reverse, vec_len, vec_capacity};
 ghost use Rattle.scan_story.specs.Legal.{Legal};
 ghost use Rattle.scan_story.specs.Setting.{IsStart};
 ghost use Rattle.scan_story.specs.Views.{past};
@@ -31,8 +32,8 @@ use std::collections::VecDeque;
 use std::sync::Wait;
 use table_core::chunk_count;
 
-/// What workers work at, and the workers: the desk, which lies at the baton or is with a worker, the pool of frames, and
-/// the crew.
+/// What workers work at, and the workers: the desk, which lies at the baton or is with a worker, the pool of frames,
+/// and the crew.
 pub(crate) struct Works<'a, S: Origin, C: Content, P: Policy, D: Depot> {
     pub(crate) baton: Baton<Desk<S, P, D>>,
     pub(crate) pool: Pool<C>,

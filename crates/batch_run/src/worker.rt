@@ -15,8 +15,8 @@ use scan_story::{Cause, Memory, Origin};
 use std::alloc::Global;
 use std::collections::VecDeque;
 
-/// A worker: where it takes memory, its number, the table's shape, its station, and what came of its scans, in the order in
-/// which it ran them.
+/// A worker: where it takes memory, its number, the table's shape, its station, and what came of its scans, in the
+/// order in which it ran them.
 pub(crate) struct Worker<'a, S: Origin, C: Content, P: Policy, D: Depot> {
     pub(crate) alloc: Global,
     pub(crate) number: u32,

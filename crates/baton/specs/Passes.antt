@@ -12,7 +12,8 @@ use Rattle.baton.specs.declared.view.Share.{Share}
 use Rattle.baton.specs.declared.view.View.{View}
 use Rattle.baton.specs.Shares.{Agrees}
 
--- a pass: of which baton it is, its worker's number, the origin of the state, the story as the worker has seen it last, the worker's own entries in their order, and whether the worker has the state
+-- a pass: of which baton it is, its worker's number, the origin of the state, the story as the worker has seen it last,
+-- the worker's own entries in their order, and whether the worker has the state
 pub record PassView : Type 0 where
   pub baton : TableId
   pub number : ℕ
@@ -24,7 +25,8 @@ pub record PassView : Type 0 where
 abbrev pub share_of : PassView → Share
 share_of p = record { number = p.number; origin = p.origin; seen = p.seen; mine = p.mine }
 
--- a state of the origin and story agrees with the pass: the origin is the pass's, the story begins with what was seen, and the entries of the pass's number in it are its own
+-- a state of the origin and story agrees with the pass: the origin is the pass's, the story begins with what was seen,
+-- and the entries of the pass's number in it are its own
 abbrev pub AgreesWith : Start → List Entry → PassView → Type 0
 AgreesWith o story p = Agrees o story (share_of p)
 
@@ -43,7 +45,14 @@ pub record Went (p q : PassView) (added : List Entry) : Type 0 where
 
 -- the pass of worker n, which has seen the story and made those entries of it that are its own
 abbrev pub new_pass : TableId → ℕ → Start → List Entry → PassView
-new_pass id n o story = record { baton = id; number = n; origin = o; seen = story; mine = entries_by n story; holding = false }
+new_pass id n o story = record {
+  baton = id;
+  number = n;
+  origin = o;
+  seen = story;
+  mine = entries_by n story;
+  holding = false;
+}
 
 -- such a pass for each of so many workers, by number
 abbrev pub new_passes : TableId → Start → List Entry → ℕ → List PassView
@@ -63,7 +72,8 @@ module _ {T : Type 0} where
 
   -- between two calls: a worker's, whose own entries are exactly those of its number in what it has seen
   abbrev pub IsPass : Seat T View → Type 0
-  IsPass p = (p.me.1 ≡ []) × ((view p).role ≡ Worker) × (entries_by (view p).share.number (view p).share.seen ≡ (view p).share.mine)
+  IsPass p = (p.me.1 ≡ []) × ((view p).role ≡ Worker)
+      × (entries_by (view p).share.number (view p).share.seen ≡ (view p).share.mine)
 
 abbrev pub line_id : {T Q A : Type 0} → Slotted (Option T) (Doing T View) Q A → TableId
 line_id q = q.table.shared.table_id

@@ -1,4 +1,5 @@
--- What holds of the bell's words between any two steps of any workers: who lies is seen, or is to be rung for, or was rung for since.
+-- What holds of the bell's words between any two steps of any workers: who lies is seen, or is to be rung for, or was
+-- rung for since.
 use Rattle.std.specs.Prelude.{◌≡◌, ◌≢◌, ◌+◌, ◌<◌, ◌≤◌, ◌⊎◌, ℕ, List, length, slice_index}
 use mathlib.Core.Option.{some}
 use lib.ListN.{get_elem?}
@@ -33,11 +34,13 @@ pub record IsRungFor (views : List Rest) (w : ℕ) (n : ℕ) : Type 0 where
   pub there : get_elem? views at ≡ some who
   pub rings : IsToRing w n who
 
--- of what one has done for a worker: it read no more rings than there are, and where it noted that the worker sleeps and nobody has rung since, the worker's place says so, or somebody is to ring for it
+-- of what one has done for a worker: it read no more rings than there are, and where it noted that the worker sleeps
+-- and nobody has rung since, the worker's place says so, or somebody is to ring for it
 abbrev pub IsSeen : List ℕ → List Rest → Rest → Type 0
 IsSeen words views Idle = Unit {0}
 IsSeen words views (Heard w n) = (w < 32) × (n ≤ rings_of words w)
-IsSeen words views (Lies w n) = (w < 32) × (n ≤ rings_of words w) × (n ≡ rings_of words w → n < most_rings → (place_of words w ≢ 0) ⊎ IsRungFor views w n)
+IsSeen words views (Lies w n) = (w < 32) × (n ≤ rings_of words w)
+    × (n ≡ rings_of words w → n < most_rings → (place_of words w ≢ 0) ⊎ IsRungFor views w n)
 IsSeen words views (Cleared w n) = (w < 32) × (n ≤ rings_of words w)
 IsSeen words views (Rings w n) = (w < 32) × (n ≤ rings_of words w)
 

@@ -16,7 +16,14 @@ worker k holding = record { role = Worker; share = k; holding = holding; told = 
 
 -- the pass that deals a pass to worker n next
 abbrev pub dealer : ℕ → Start → List Entry → Bool → View
-dealer n o story holding = record { role = Dealer; share = record { number = n; origin = o; seen = story; mine = [] }; holding = holding; told = None }
+dealer n o story holding =
+    record {
+      role = Dealer;
+      share =
+          record { number = n; origin = o; seen = story; mine = [] };
+      holding = holding;
+      told = None;
+    }
 
 -- the first pass, before any state is there
 abbrev pub unmade : View
@@ -26,7 +33,8 @@ unmade = dealer 0 nowhere [] true
 abbrev pub AgreesWithTold : View → Type 0
 AgreesWithTold v = (k : Share) → v.told ≡ Some k → Agrees v.share.origin v.share.seen k
 
--- what holds of a worker's pass at a port, where `story` is the story so far. The dealer has port 0, and the workers follow by number. A pass was told something only while it holds
+-- what holds of a worker's pass at a port, where `story` is the story so far. The dealer has port 0, and the workers
+-- follow by number. A pass was told something only while it holds
 pub record IsWorkers (o : Start) (story : List Entry) (port : ℕ) (v : View) : Type 0 where
   pub number : v.share.number + 1 ≡ port
   pub agrees : Agrees o story v.share
@@ -39,7 +47,8 @@ pub record IsDealers (o : Start) (story : List Entry) (passes : ℕ) (port : ℕ
   pub agrees : (n : ℕ) → v.share.number ≤ n → Agrees o story (up_to_date n v.share.origin v.share.seen)
 
 abbrev pub Fits : Start → List Entry → ℕ → ℕ → View → Type 0
-Fits o story passes port v = (v.role ≡ Worker → IsWorkers o story port v) × (v.role ≡ Dealer → IsDealers o story passes port v)
+Fits o story passes port v = (v.role ≡ Worker → IsWorkers o story port v)
+    × (v.role ≡ Dealer → IsDealers o story passes port v)
 
 -- the queue is empty, and exactly one pass is holding, which has seen the story
 pub record IsOut {T : Type 0} (story : List Entry) (items : List T) (views : List View) : Type 0 where

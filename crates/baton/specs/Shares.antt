@@ -6,7 +6,8 @@ use Rattle.scan_story.specs.Setting.{nowhere}
 use Rattle.scan_story.specs.Makers.{entries_by, StartsWith}
 use Rattle.baton.specs.declared.view.Share.{Share}
 
--- a state of the origin and story agrees with the share: the origin is the share's, the story begins with what the worker has seen, and the worker's entries in it are its own, no more and no less
+-- a state of the origin and story agrees with the share: the origin is the share's, the story begins with what the
+-- worker has seen, and the worker's entries in it are its own, no more and no less
 pub record Agrees (o : Start) (story : List Entry) (k : Share) : Type 0 where
   pub origin : o ≡ k.origin
   pub seen : StartsWith story k.seen

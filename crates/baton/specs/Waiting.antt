@@ -1,4 +1,5 @@
--- What holds of the lobby's two words between any two steps of any workers: each that waits since the last call is counted.
+-- What holds of the lobby's two words between any two steps of any workers: each that waits since the last call is
+-- counted.
 use Rattle.std.specs.Prelude.{◌≡◌, ◌==◌, ◌+◌, ◌≤◌, ℕ, List, [], ◌∷◌, length, slice_index, if◌then◌else◌}
 use mathlib.Core.Option.{some}
 use lib.ListN.{get_elem?}
@@ -30,7 +31,8 @@ IsOld calls (Read n) = n ≤ calls
 IsOld calls (Entered n) = n ≤ calls
 IsOld calls Taken = Unit {0}
 
--- the first word counts those that wait, and the second the calls: who waits since the last call is counted in the first, or another guest is to call one
+-- the first word counts those that wait, and the second the calls: who waits since the last call is counted in the
+-- first, or another guest is to call one
 pub record Counted (s : table.State (Unit {0}) Standing) : Type 0 where
   pub wide : length s.words ≡ 2
   pub old : (j : ℕ) (v : Standing) → get_elem? s.views j ≡ some v → IsOld (slice_index s.words 1) v

@@ -1,4 +1,5 @@
-ghost use Rattle.std.specs.Prelude.{◌≡◌, ◌<◌, ◌≤◌, ◌++◌, true, false, List, [], vec_len, vec_capacity, IfOk, IfErr, All};
+ghost use Rattle.std.specs.Prelude.{◌≡◌, ◌<◌, ◌≤◌, ◌++◌, true, false, List, []};
+ghost use Rattle.std.specs.Prelude.{vec_len, vec_capacity, IfOk, IfErr, All};
 ghost use Rattle.crossbeam_queue.specs.Passes.{view, IsPassOf, ruled_capacity};
 ghost use Rattle.scan_story.specs.declared.entry.Entry.{Entry};
 ghost use Rattle.scan_story.specs.Makers.{entries_by, StartsWith, Adds};
@@ -150,7 +151,8 @@ fn deal<T: Storied + Drop>(
     requires queue { IsPassOf line.now seat }
     requires dealer { view seat ≡ dealer 0 (view seat).share.origin (view seat).share.seen false }
     requires room { (passes.items ≡ []) × (workers ≤ vec_capacity passes) }
-    ensures passes { result.items ≡ new_passes (line_id line.now) (view seat).share.origin (view seat).share.seen workers }
+    ensures passes { result.items
+        ≡ new_passes (line_id line.now) (view seat).share.origin (view seat).share.seen workers }
     ensures count { vec_len result ≡ workers }
 {
     for _number in 0..workers {

@@ -15,9 +15,9 @@ pub(crate) const PLACES: u32 = 32;
 
 /// A place for each worker, by number, at which it sleeps until it is rung for.
 ///
-/// Who has to wait lies down while it has the state, gives the state back, and sleeps. Who changes the state looks, while
-/// it has it, who lies and may go on, gives it back, and rings for these. So no ring is lost, and every sleep has an end
-/// of its own besides.
+/// Who has to wait lies down while it has the state, gives the state back, and sleeps. Who changes the state looks,
+/// while it has it, who lies and may go on, gives it back, and rings for these. So no ring is lost, and every sleep has
+/// an end of its own besides.
 #[derive(Drop)]
 pub struct Bell {
     pub(crate) words: Words,
@@ -57,8 +57,8 @@ impl Bell {
         self.words.shared.peek(place as usize)
     }
 
-    /// Notes that the worker, which is awake, sleeps for the query from here on; nothing where the query is 0. It answers
-    /// how often the worker was rung for.
+    /// Notes that the worker, which is awake, sleeps for the query from here on; nothing where the query is 0. It
+    /// answers how often the worker was rung for.
     pub fn lie_down(&self, worker: u32, query: u32) -> u64 {
         let worker = worker % PLACES;
         if query == 0 {

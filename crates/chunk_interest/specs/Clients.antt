@@ -1,5 +1,6 @@
 -- What is kept of a query, and what it stands for.
-use Rattle.std.specs.Prelude.{◌≡◌, ◌-◌, ◌<◌, ◌≤◌, ℕ, Bool, true, false, List, [], Option, None, Some, length, slice_index_or}
+use Rattle.std.specs.Prelude.{◌≡◌, ◌-◌, ◌<◌, ◌≤◌, ℕ, Bool, true, false, List}
+use Rattle.std.specs.Prelude.{[], Option, None, Some, length, slice_index_or}
 use Rattle.std.specs.Option.{option_map}
 use Rattle.scan_story.specs.declared.entry.Entry.{Entry}
 use Rattle.scan_story.specs.declared.view.Phase.{Phase}
@@ -36,7 +37,15 @@ IsReady s h q k = (c : ℕ) → has k.available c ≡ is_available s h q c
 
 -- the query of a number without a need
 abbrev pub vacant : Client
-vacant = record { worker = None; columns = []; reads = []; phase = Waiting; remaining = []; available = []; began = None }
+vacant = record {
+  worker = None;
+  columns = [];
+  reads = [];
+  phase = Waiting;
+  remaining = [];
+  available = [];
+  began = None;
+}
 
 abbrev pub client_at : List Client → ℕ → Client
 client_at clients q = slice_index_or clients q vacant

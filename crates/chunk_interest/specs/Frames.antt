@@ -1,5 +1,6 @@
 -- What the buffer keeps of frames and pieces, and what it stands for.
-use Rattle.std.specs.Prelude.{◌≡◌, ◌+◌, ◌*◌, ◌/◌, ◌%◌, ◌<◌, ◌≤◌, ◌&&◌, not, ℕ, Bool, true, false, List, Option, None, Some, length, is_some, slice_index_or}
+use Rattle.std.specs.Prelude.{◌≡◌, ◌+◌, ◌*◌, ◌/◌, ◌%◌, ◌<◌, ◌≤◌, ◌&&◌, not, ℕ, Bool, true}
+use Rattle.std.specs.Prelude.{false, List, Option, None, Some, length, is_some, slice_index_or}
 use Rattle.scan_story.specs.declared.view.Load.{Load}
 use Rattle.scan_story.specs.declared.setting.Setting.{Setting}
 use Rattle.scan_story.specs.Counting.{has, is_number, any_below, count_below, count_among}

@@ -1,5 +1,6 @@
 -- Which queries need each chunk and have it available, by chunk.
-use Rattle.std.specs.Prelude.{◌≡◌, ◌≢◌, ◌<◌, ◌&&◌, ◌==◌, ℕ, Bool, true, false, List, [], length, nat_lt, nat_le, slice_index_or, if◌then◌else◌}
+use Rattle.std.specs.Prelude.{◌≡◌, ◌≢◌, ◌<◌, ◌&&◌, ◌==◌, ℕ, Bool, true, false, List, []}
+use Rattle.std.specs.Prelude.{length, nat_lt, nat_le, slice_index_or, if◌then◌else◌}
 use Rattle.scan_story.specs.declared.view.Phase.{Phase}
 use Rattle.scan_story.specs.declared.view.Phase.TheVariants.{Ended, Stopped}
 use Rattle.scan_story.specs.Counting.{has}
@@ -43,8 +44,10 @@ pub record AreMarks (ks : List Client) (m : Marks) : Type 0 where
   pub nobody : is_active (client_at ks 0) ≡ false
   pub needing_size : length m.needing.items ≡ 1024
   pub having_size : length m.having.items ≡ 1024
-  pub needing : (q c : ℕ) → c < 1024 → is_over (client_at ks q) ≡ false → has (row_at m.needing.items c) q ≡ has (client_at ks q).remaining c
-  pub having : (q c : ℕ) → c < 1024 → is_over (client_at ks q) ≡ false → has (row_at m.having.items c) q ≡ has (client_at ks q).available c
+  pub needing : (q c : ℕ) → c < 1024 → is_over (client_at ks q) ≡ false
+      → has (row_at m.needing.items c) q ≡ has (client_at ks q).remaining c
+  pub having : (q c : ℕ) → c < 1024 → is_over (client_at ks q) ≡ false
+      → has (row_at m.having.items c) q ≡ has (client_at ks q).available c
   pub active : (q : ℕ) → has m.active q ≡ is_active (client_at ks q)
   pub starved : (q : ℕ) → has m.starved q ≡ is_starved (client_at ks q)
   pub near : (q : ℕ) → has m.near q ≡ is_near (client_at ks q)
@@ -52,20 +55,26 @@ pub record AreMarks (ks : List Client) (m : Marks) : Type 0 where
 
 -- the clients of which a look at chunk c may change something are among these
 abbrev pub AreConcerned : List Client → ℕ → List ℕ → Type 0
-AreConcerned ks c these = (q : ℕ) → has these q ≡ false → (has (client_at ks q).remaining c ≡ false) × (has (client_at ks q).available c ≡ false)
+AreConcerned ks c these = (q : ℕ) → has these q ≡ false → (has (client_at ks q).remaining c ≡ false)
+    × (has (client_at ks q).available c ≡ false)
 
 -- Changes
 
 -- unless the new client is over, the old one isn't either, and their sets differ in at most the chunk c
 abbrev pub IsNear : ℕ → Client → Client → Type 0
-IsNear c old new = is_over new ≡ false → (is_over old ≡ false) × ((x : ℕ) → x ≢ c → (has new.remaining x ≡ has old.remaining x) × (has new.available x ≡ has old.available x))
+IsNear c old new = is_over new ≡ false → (is_over old ≡ false)
+    × ((x : ℕ) → x ≢ c → (has new.remaining x ≡ has old.remaining x) × (has new.available x ≡ has old.available x))
 
 -- the query is marked as this client, at chunk c and among those that count; all else is as it was
 pub record Follows (q c : ℕ) (k : Client) (m n : Marks) : Type 0 where
   pub needing_size : length n.needing.items ≡ length m.needing.items
   pub having_size : length n.having.items ≡ length m.having.items
-  pub needing : (x r : ℕ) → has (row_at n.needing.items x) r ≡ (if x == c && r == q then has k.remaining c else has (row_at m.needing.items x) r)
-  pub having : (x r : ℕ) → has (row_at n.having.items x) r ≡ (if x == c && r == q then has k.available c else has (row_at m.having.items x) r)
+  pub needing : (x r : ℕ)
+      → has (row_at n.needing.items x) r
+      ≡ (if x == c && r == q then has k.remaining c else has (row_at m.needing.items x) r)
+  pub having : (x r : ℕ)
+      → has (row_at n.having.items x) r
+      ≡ (if x == c && r == q then has k.available c else has (row_at m.having.items x) r)
   pub active : (r : ℕ) → has n.active r ≡ (if r == q then is_active k else has m.active r)
   pub starved : (r : ℕ) → has n.starved r ≡ (if r == q then is_starved k else has m.starved r)
   pub near : (r : ℕ) → has n.near r ≡ (if r == q then is_near k else has m.near r)

@@ -1,6 +1,8 @@
 //! The frames with what is in them, and the frame of each piece.
-ghost use Rattle.std.specs.Prelude.{◌≡◌, ◌+◌, ◌*◌, ◌/◌, ◌<◌, ◌≤◌, ◌∷◌, ◌&&◌, ℕ, IfOk, None, Some, nat_lt, nat_le, length, is_some, set, if◌then◌else◌};
-ghost use Rattle.chunk_interest.specs.Frames.{IsSized, NamesFrames, Covers, frame_at, place_at, is_named, settled, has_of, missing_in, cached_in, free_in, is_free_frame, held_piece};
+ghost use Rattle.std.specs.Prelude.{◌≡◌, ◌+◌, ◌*◌, ◌/◌, ◌<◌, ◌≤◌, ◌∷◌, ◌&&◌, ℕ, IfOk, None};
+ghost use Rattle.std.specs.Prelude.{Some, nat_lt, nat_le, length, is_some, set, if◌then◌else◌};
+ghost use Rattle.chunk_interest.specs.Frames.{IsSized, NamesFrames, Covers, frame_at, place_at, is_named, settled};
+ghost use Rattle.chunk_interest.specs.Frames.{has_of, missing_in, cached_in, free_in, is_free_frame, held_piece};
 ghost use Rattle.chunk_interest.specs.declared.frame.Frame.TheVariants.{Free, Holds};
 
 use crate::frame::Frame;

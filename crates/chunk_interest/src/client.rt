@@ -1,5 +1,6 @@
 //! What is kept of one query.
-ghost use Rattle.std.specs.Prelude.{◌≡◌, ◌+◌, ◌<◌, ◌^◌, ◌∷◌, ◌==◌, ◌&&◌, ℕ, [], None, Some, length, true, false, if◌then◌else◌};
+ghost use Rattle.std.specs.Prelude.{◌≡◌, ◌+◌, ◌<◌, ◌^◌, ◌∷◌, ◌==◌, ◌&&◌, ℕ, []};
+ghost use Rattle.std.specs.Prelude.{None, Some, length, true, false, if◌then◌else◌};
 ghost use Rattle.scan_story.specs.Counting.{has};
 ghost use Rattle.chunk_interest.specs.Frames.{missing_in};
 ghost use Rattle.chunk_interest.specs.Counted.{size_of};

@@ -1,12 +1,14 @@
 //! The clients of all queries, each at the place of its query's number.
-ghost use Rattle.std.specs.Prelude.{◌≡◌, ◌≢◌, ◌+◌, ◌<◌, ◌≤◌, ◌^◌, ◌∷◌, ◌⊎◌, ◌&&◌, [], ℕ, All, IfOk, length, set, true, false};
+ghost use Rattle.std.specs.Prelude.{◌≡◌, ◌≢◌, ◌+◌, ◌<◌, ◌≤◌, ◌^◌, ◌∷◌, ◌⊎◌, ◌&&◌};
+ghost use Rattle.std.specs.Prelude.{[], ℕ, All, IfOk, length, set, true, false};
 ghost use Rattle.scan_story.specs.declared.entry.Why.{Why};
 ghost use Rattle.scan_story.specs.declared.entry.Entry.TheVariants.{Register, Failed, Deliver, Release, Stop, End};
 ghost use Rattle.scan_story.specs.declared.setting.Setting.{Setting};
 ghost use Rattle.scan_story.specs.Counting.{has, count_below};
 ghost use Rattle.scan_story.specs.Views.{History, is_stopped};
 ghost use Rattle.chunk_interest.specs.Clients.{AreClients, AreReady, client_at};
-ghost use Rattle.chunk_interest.specs.Counts.{is_active_in, is_starved_in, needs_in, is_interested_in, is_starved_for, is_close_in, overlaps_by, starved_overlaps_by, feeds_in};
+ghost use Rattle.chunk_interest.specs.Counts.{is_active_in, is_starved_in, needs_in, is_interested_in, is_starved_for};
+ghost use Rattle.chunk_interest.specs.Counts.{is_close_in, overlaps_by, starved_overlaps_by, feeds_in};
 ghost use Rattle.chunk_interest.specs.Fresh.{AreFresh};
 ghost use Rattle.chunk_interest.specs.Renewed.{IsRenewed};
 ghost use Rattle.chunk_interest.specs.Marked.{AreConcerned, IsNear, is_active, is_over};

@@ -22,7 +22,9 @@ with_options a [] = a
 with_options a (k ∷ ks) = with_options (with_rule a (given_rule k)) ks
 
 abbrev pub start : Text → App
-start name = record (new_app name) { top = record (new_app name).top { no_binary_name = true; disable_help_flag = true } }
+start name = record
+    (new_app name) { top = record (new_app name).top { no_binary_name = true; disable_help_flag = true } }
 
 abbrev pub app : Text → List Known → App
-app name known = with_rule (with_rule (with_options (start name) known) (given_place (codes "TABLE"))) (given_place (codes "BATCH"))
+app name known = with_rule (with_rule (with_options (start name) known) (given_place (codes "TABLE")))
+    (given_place (codes "BATCH"))

@@ -13,7 +13,8 @@ abbrev pub flag_ : Text → Known
 flag_ n = record { name = n; valued = false }
 
 abbrev pub plain_known : List Known
-plain_known = valued_ (codes "threads") ∷ valued_ (codes "frames") ∷ valued_ (codes "rows") ∷ valued_ (codes "layout") ∷ valued_ (codes "parts") ∷ valued_ (codes "scratch")
+plain_known = valued_ (codes "threads") ∷ valued_ (codes "frames") ∷ valued_ (codes "rows") ∷ valued_ (codes "layout")
+    ∷ valued_ (codes "parts") ∷ valued_ (codes "scratch")
     ∷ flag_ (codes "summary") ∷ flag_ (codes "trace") ∷ []
 
 abbrev pub known_to : Call → List Known

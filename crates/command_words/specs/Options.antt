@@ -1,5 +1,6 @@
 -- The options that the pairs give.
-use Rattle.std.specs.Prelude.{ℕ, Bool, ◌&&◌, ◌||◌, ◌+◌, ◌*◌, ◌-◌, ◌==◌, List, [], ◌∷◌, Option, Some, None, length, take, drop, nat_le, codes, if◌then◌else◌, option_and_then, option_map, is_some}
+use Rattle.std.specs.Prelude.{ℕ, Bool, ◌&&◌, ◌||◌, ◌+◌, ◌*◌, ◌-◌, ◌==◌, List, [], ◌∷◌, Option, Some, None, length}
+use Rattle.std.specs.Prelude.{take, drop, nat_le, codes, if◌then◌else◌, option_and_then, option_map, is_some}
 use Rattle.std.specs.List.{list_any, before_first, after_first}
 use Rattle.std.specs.Str.{bytes_eq}
 use Rattle.command_words.specs.Pairs.{Pairs, Text, pairs_of, value_of}
@@ -7,7 +8,8 @@ use Rattle.command_words.specs.Knows.{known_to}
 use Rattle.command_words.specs.Matched.{is_true}
 use Rattle.command_words.specs.declared.call.Call.{Call}
 use Rattle.command_words.specs.declared.call.Call.TheVariants.{RunBoxed}
-use Rattle.command_words.specs.declared.limits.TheConstants.{MOST_FRAMES, MOST_GENERATED_ROWS, MOST_PARTS, MOST_WORKERS, USUAL_CHUNK_ROWS, USUAL_WORKERS}
+use Rattle.command_words.specs.declared.limits.TheConstants.{MOST_FRAMES, MOST_GENERATED_ROWS, MOST_PARTS}
+use Rattle.command_words.specs.declared.limits.TheConstants.{MOST_WORKERS, USUAL_CHUNK_ROWS, USUAL_WORKERS}
 use Rattle.piece_format.specs.declared.layout.Layout.{Layout}
 use Rattle.piece_format.specs.declared.layout.Layout.TheVariants.{Row, Column}
 use Rattle.scan_story.specs.declared.setting.PolicyName.{PolicyName}
@@ -45,12 +47,15 @@ optional_number low high (Some text) = option_map (λ n. Some n) (number_in 10 l
 
 abbrev pub layout_or : Option Text → Option Layout
 layout_or None = Some Row
-layout_or (Some text) = if bytes_eq text (codes "row") then Some Row else if bytes_eq text (codes "column") then Some Column else None
+layout_or (Some text) = if bytes_eq text (codes "row") then Some Row
+    else if bytes_eq text (codes "column") then Some Column else None
 
 abbrev pub policy_or : Option Text → Option PolicyName
 policy_or None = Some Relevance
-policy_or (Some text) = if bytes_eq text (codes "relevance") then Some Relevance else if bytes_eq text (codes "elevator") then Some Elevator
-    else if bytes_eq text (codes "normal") then Some Normal else if bytes_eq text (codes "attach") then Some Attach else None
+policy_or (Some text) = if bytes_eq text (codes "relevance") then Some Relevance
+    else if bytes_eq text (codes "elevator") then Some Elevator
+    else if bytes_eq text (codes "normal") then Some Normal else if bytes_eq text (codes "attach") then Some Attach
+    else None
 
 -- an empty value is refused
 abbrev pub scratch_or : Option Text → Option (Option Text)
@@ -70,7 +75,8 @@ is_colon b = b == 58
 
 -- `SEED:ROWS`, cut at the first colon
 abbrev pub generated_by : Text → Option TableIs
-generated_by text = option_and_then (λ seed. option_map (generated seed) (number_in 10 0 MOST_GENERATED_ROWS (after_first is_colon text)))
+generated_by text = option_and_then
+    (λ seed. option_map (generated seed) (number_in 10 0 MOST_GENERATED_ROWS (after_first is_colon text)))
     (number_in 20 0 18446744073709551615 (before_first is_colon text))
 
 abbrev pub table_of : Text → Option TableIs
@@ -147,7 +153,9 @@ table_word (Some word) = option_map (λ _. word) (table_of word)
 
 abbrev pub request_of : Values → Option Request
 request_of v = if is_mixed v then None else
-    option_and_then (λ workers. option_and_then (λ frames. option_and_then (λ per. option_and_then (λ layout. option_and_then (λ parts. option_and_then (λ scratch. option_and_then (λ policy. option_and_then (λ table. option_map (λ batch. record {
+    option_and_then (λ workers. option_and_then (λ frames. option_and_then (λ per. option_and_then (λ layout.
+    option_and_then (λ parts. option_and_then (λ scratch. option_and_then (λ policy. option_and_then (λ table.
+    option_map (λ batch. record {
       workers = workers;
       frames = frames;
       per = per;
@@ -160,7 +168,8 @@ request_of v = if is_mixed v then None else
       compare = v.compare;
       table = table;
       batch = batch;
-    }) v.batch) (table_word v.table)) (policy_or v.policy)) (scratch_or v.scratch)) (number_or 1 MOST_PARTS 1 v.parts)) (layout_or v.layout)) (number_or 1 MOST_CHUNK_ROWS USUAL_CHUNK_ROWS v.rows)) (optional_number 1 MOST_FRAMES v.frames))
+    }) v.batch) (table_word v.table)) (policy_or v.policy)) (scratch_or v.scratch)) (number_or 1 MOST_PARTS 1 v.parts))
+    (layout_or v.layout)) (number_or 1 MOST_CHUNK_ROWS USUAL_CHUNK_ROWS v.rows)) (optional_number 1 MOST_FRAMES v.frames))
     (workers_of v)
 
 -- what the words of a call ask for, or none

@@ -1,7 +1,8 @@
 //! What the words name.
 ghost use Rattle.std.specs.List.{list_any};
 ghost use Rattle.std.specs.Prelude.{◌≡◌, None, if◌then◌else◌, option_map};
-ghost use Rattle.command_words.specs.Options.{generated_by, is_colon, layout_or, policy_or, scratch_or, table_of, batch_of};
+ghost use Rattle.command_words.specs.Options.{generated_by, is_colon, layout_or};
+ghost use Rattle.command_words.specs.Options.{policy_or, scratch_or, table_of, batch_of};
 ghost use Rattle.command_words.specs.Views.{table_view, batch_view};
 
 use crate::limits::MOST_GENERATED_ROWS;

@@ -1,5 +1,6 @@
 -- What a shelf tells of the bytes under each name, and what a read gives of them.
-use Rattle.std.specs.Prelude.{◌≡◌, ◌≤◌, ◌<◌, ◌⊎◌, ℕ, List, length, take, drop, Option, Some, None, option_map, Result, Ok, Err, ⊤, Bool, MatchBool, ◌+◌}
+use Rattle.std.specs.Prelude.{◌≡◌, ◌≤◌, ◌<◌, ◌⊎◌, ℕ, List, length, take, drop, Option, Some}
+use Rattle.std.specs.Prelude.{None, option_map, Result, Ok, Err, ⊤, Bool, MatchBool, ◌+◌}
 use Rattle.coop_outside.specs.Causes.{Rose}
 use Rattle.coop_outside.specs.declared.failed.Failed.{Failed}
 
@@ -23,7 +24,8 @@ Lacks held name = told held name ≡ Some None
 abbrev pub ReadsAt : Held → List ℕ → ℕ → Result ℕ Failed → List ℕ → Type 0
 ReadsAt held name place (Ok n) buf = (n ≤ length buf)
     × (Lacks held name → ⊥)
-    × ((bytes : List ℕ) → Holds held name bytes → (take n buf ≡ take n (drop place bytes)) × (n ≡ 0 → 0 < length buf → length bytes ≤ place))
+    × ((bytes : List ℕ) → Holds held name bytes → (take n buf ≡ take n (drop place bytes))
+    × (n ≡ 0 → 0 < length buf → length bytes ≤ place))
 ReadsAt held name place (Err e) buf = ⊤
 
 -- how many bytes a read gave
@@ -37,5 +39,7 @@ ReadFails held name before now = Rose before now ⊎ Lacks held name
 
 -- at most so many bytes of the name now stand behind those that were there before, or it ends there
 abbrev pub ReadsMore : Held → List ℕ → ℕ → Bool → List ℕ → List ℕ → Type 0
-ReadsMore held name room some old new = (Lacks held name → ⊥) × (length new ≤ length old + room) × MatchBool some (length old < length new) (new ≡ old)
-    × ((bytes : List ℕ) → Holds held name bytes → old ≡ take (length old) bytes → (new ≡ take (length new) bytes) × MatchBool some ⊤ (length bytes ≤ length old))
+ReadsMore held name room some old new = (Lacks held name → ⊥) × (length new ≤ length old + room)
+    × MatchBool some (length old < length new) (new ≡ old)
+    × ((bytes : List ℕ) → Holds held name bytes → old ≡ take (length old) bytes → (new ≡ take (length new) bytes)
+    × MatchBool some ⊤ (length bytes ≤ length old))

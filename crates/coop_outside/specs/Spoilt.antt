@@ -9,4 +9,5 @@ with_word bytes word value = take (8 * word) bytes ++ to_le_bytes w64 value ++ d
 
 -- the bytes of a piece, spoilt where it is the spoilt piece and has so many words
 abbrev pub spoilt_bytes : ℕ → ℕ → ℕ → ℕ → List ℕ → List ℕ
-spoilt_bytes spoilt word value piece bytes = if piece == spoilt && nat_le (8 * word + 8) (length bytes) then with_word bytes word value else bytes
+spoilt_bytes spoilt word value piece bytes = if piece == spoilt && nat_le (8 * word + 8) (length bytes)
+    then with_word bytes word value else bytes

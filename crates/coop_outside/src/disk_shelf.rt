@@ -12,8 +12,8 @@ use std::rt::Files;
 /// The files of the system by their paths, as `std::fs` opens them. It tells no contents, so a name that
 /// isn't there is a fault that is counted.
 ///
-/// A file that is read from its begin to its end is opened once, so that it may be a pipe too, as `/dev/stdin` or what a shell
-/// puts in the place of `<(..)`. A read elsewhere than where the last one ended opens the file anew.
+/// A file that is read from its begin to its end is opened once, so that it may be a pipe too, as `/dev/stdin` or what
+/// a shell puts in the place of `<(..)`. A read elsewhere than where the last one ended opens the file anew.
 #[derive(Drop)]
 pub struct DiskShelf<R> {
     rt: R,

@@ -1,5 +1,6 @@
 // Pieces in memory, for tests and for the program.
-ghost use Rattle.std.specs.Prelude.{◌≡◌, ◌≤◌, ◌<◌, ◌+◌, ◌-◌, ◌^◌, ◌↔◌, [], true, length, is_err, Some, IfOk, OnOk, OnErr, Err};
+ghost use Rattle.std.specs.Prelude.{◌≡◌, ◌≤◌, ◌<◌, ◌+◌, ◌-◌, ◌^◌, ◌↔◌, [], true};
+ghost use Rattle.std.specs.Prelude.{length, is_err, Some, IfOk, OnOk, OnErr, Err};
 ghost use Rattle.coop_outside.specs.Causes.{Rose};
 ghost use Rattle.coop_outside.specs.Listed.{counted, counted_if, is_listed};
 ghost use Rattle.coop_outside.specs.Pieces.{HoldsPiece, OthersStay, ReadsPiece, bytes_of, with_piece};

@@ -5,8 +5,8 @@ use std::fs::{self, File};
 use std::io::{self, ErrorKind, Read, Seek, SeekFrom};
 use std::rt::Files;
 
-/// An open file, the name under which it was opened, and where its next read begins, in bytes from 0. Where there was no
-/// memory for the name, it has none, and isn't read on.
+/// An open file, the name under which it was opened, and where its next read begins, in bytes from 0. Where there was
+/// no memory for the name, it has none, and isn't read on.
 #[derive(Drop)]
 pub(crate) struct OpenedFile {
     name: Option<String>,
@@ -15,8 +15,8 @@ pub(crate) struct OpenedFile {
 }
 
 impl OpenedFile {
-    /// Opens the file of this name, to be read from a place on. What can't be read from another place than its begin, as a
-    /// pipe, gives an error where the place isn't 0.
+    /// Opens the file of this name, to be read from a place on. What can't be read from another place than its begin,
+    /// as a pipe, gives an error where the place isn't 0.
     pub(crate) fn open<R: Files<File = File> + AllocGlobal>(
         rt: &R,
         name: &str,

@@ -98,7 +98,8 @@ pub fn read_all<F: Shelf>(
     ensures fault { result ≡ Err ReadFault.Fault
         → ReadFails (F.held shelf.old) name.now (F.faults shelf.old) (F.faults shelf.new) }
     ensures too_long { IfErr result (λ e. (l : ℕ) → e ≡ TooLong l
-        → (l ≡ limit) × ((told : List ℕ) → Holds (F.held shelf.old) name.now told → limit < length told) × (Lacks (F.held shelf.old) name.now → ⊥)) }
+        → (l ≡ limit) × ((told : List ℕ) → Holds (F.held shelf.old) name.now told → limit < length told)
+        × (Lacks (F.held shelf.old) name.now → ⊥)) }
     ensures held { F.held shelf.new ≡ F.held shelf.old }
     ensures later { F.faults shelf.old ≤ F.faults shelf.new }
     ensures few { F.given shelf.new ≤ F.given shelf.old + limit + 1 }

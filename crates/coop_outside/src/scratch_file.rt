@@ -16,8 +16,8 @@ struct Place {
     size: usize,
 }
 
-/// The file of a scratch depot. A piece is written behind all others, also one that was there before, so a write that fails
-/// spoils no piece.
+/// The file of a scratch depot. A piece is written behind all others, also one that was there before, so a write that
+/// fails spoils no piece.
 #[derive(Drop)]
 pub(crate) struct ScratchFile<R> {
     rt: R,
@@ -79,7 +79,8 @@ impl<R: Files<File = File> + Drop> ScratchFile<R> {
         }
     }
 
-    /// Reads a piece, and says whether that went well: it was put, it has the length of `buf`, and the file gave all of it.
+    /// Reads a piece, and says whether that went well: it was put, it has the length of `buf`, and the file gave all of
+    /// it.
     pub(crate) fn get(&self, piece: u32, buf: &mut [u8]) -> bool {
         let Some(place) = self.places.get(&piece) else {
             return false;

@@ -1,5 +1,6 @@
 // A depot that gives one word of one piece wrong, for tests.
-ghost use Rattle.std.specs.Prelude.{◌≡◌, ◌≤◌, ◌<◌, ◌+◌, ◌*◌, ◌-◌, ◌^◌, ◌↔◌, ⊤, ℕ, nat_le, true, false, List, length, is_err, OnOk, OnErr, Err, Some, None, IsTrue, if◌then◌else◌};
+ghost use Rattle.std.specs.Prelude.{◌≡◌, ◌≤◌, ◌<◌, ◌+◌, ◌*◌, ◌-◌, ◌^◌, ◌↔◌, ⊤, ℕ, nat_le, true, false, List};
+ghost use Rattle.std.specs.Prelude.{length, is_err, OnOk, OnErr, Err, Some, None, IsTrue, if◌then◌else◌};
 ghost use Rattle.coop_outside.specs.Causes.{Rose};
 ghost use Rattle.coop_outside.specs.Listed.{is_listed};
 ghost use Rattle.coop_outside.specs.Pieces.{HoldsPiece, bytes_of, with_piece};

@@ -27,8 +27,8 @@ fn stop_of(refusal: BatchRefusal) -> Stop
     }
 }
 
-/// Runs a batch over what a run is given, and answers its queries; or says why no worker ran, and gives the depot back: a
-/// piece was not stored, or memory ran out. Once the workers have run there are answers.
+/// Runs a batch over what a run is given, and answers its queries; or says why no worker ran, and gives the depot back:
+/// a piece was not stored, or memory ran out. Once the workers have run there are answers.
 pub fn answer<P: Policy, D: Depot + Send, T: Gate + Sync, R: Threads + Wait + Sync>(
     rt: &R,
     alloc: Global,
@@ -41,7 +41,8 @@ pub fn answer<P: Policy, D: Depot + Send, T: Gate + Sync, R: Threads + Wait + Sy
     requires gets { D.gets depot ≤ 2 ^ 63 }
     ensures answered { IfOk result (λ a. IsAnswered inputs
         (work (P.name policy) (P.cursor policy) (depot_at (D.held depot) (D.gets depot) (D.faults depot))
-        (depot_at (D.held a.depot) (D.gets a.depot) (D.faults a.depot)) a.ran.story.items a.ran.taken.items) a.outcomes.items a.answers.items a.schema a.dicts.items) }
+        (depot_at (D.held a.depot) (D.gets a.depot) (D.faults a.depot)) a.ran.story.items a.ran.taken.items)
+        a.outcomes.items a.answers.items a.schema a.dicts.items) }
     ensures unanswered { IfErr result (λ r. IsUnanswered inputs
         (work (P.name policy) (P.cursor policy) (depot_at (D.held depot) (D.gets depot) (D.faults depot))
         (depot_at (D.held r.0) (D.gets r.0) (D.faults r.0)) [] []) r.1) }

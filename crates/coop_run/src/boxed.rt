@@ -28,13 +28,13 @@ use std::hash::RandomState;
 use std::sync::Wait;
 use std::thread::Threads;
 
-/// Does all that `run` does with the first of the policies that has the name that the words ask for, and drops the others. Or,
-/// where the words have `--compare`, runs the batch with each of the policies in turn, and writes a line for each run in place
-/// of answers. Besides those of `run` the words may have `--policy` and `--compare`. The depot's gets are at most 2^62, and
-/// the policies at most 16.
+/// Does all that `run` does with the first of the policies that has the name that the words ask for, and drops the
+/// others. Or, where the words have `--compare`, runs the batch with each of the policies in turn, and writes a line
+/// for each run in place of answers. Besides those of `run` the words may have `--policy` and `--compare`. The depot's
+/// gets are at most 2^62, and the policies at most 16.
 ///
-/// It answers the status, what the workers did under the policy or the policies, and the depot. The clauses are those of `run`,
-/// each of the job that the words and the policies give: to run with one policy, or to compare them.
+/// It answers the status, what the workers did under the policy or the policies, and the depot. The clauses are those
+/// of `run`, each of the job that the words and the policies give: to run with one policy, or to compare them.
 pub fn run_boxed<F: Shelf, D: Depot + Send, O: Sink, T: Gate + Sync, R: Threads + Wait + Sync>(
     rt: &R,
     alloc: Global,
@@ -126,7 +126,8 @@ fn run_compared<F: Shelf, D: Depot + Send, O: Sink, T: Gate + Sync, R: Threads +
     }
 }
 
-// Does all that a run does for a request, with this policy. The place for what its workers leave is reserved before they run.
+// Does all that a run does for a request, with this policy. The place for what its workers leave is reserved before
+// they run.
 fn run_under<
     F: Shelf,
     P: Policy,

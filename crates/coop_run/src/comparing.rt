@@ -49,7 +49,9 @@ fn run_all<D: Depot + Send, T: Gate + Sync, R: Threads + Wait + Sync>(
     requires first { AreInputs (request_view request.now) (Some texts.now.table) (Some texts.now.batch) first }
     ensures runs { AreRuns (request_view request.now) (Some texts.now.table) (Some texts.now.batch)
         (map (λ p. policy_at (name p) (cursor p)) policies.items)
-        (depot_at (D.held depot) (D.gets depot) (D.faults depot)) (depot_at (D.held result.depot) (D.gets result.depot) (D.faults result.depot)) result.runs.items (shown result.ending) }
+        (depot_at (D.held depot) (D.gets depot) (D.faults depot))
+        (depot_at (D.held result.depot) (D.gets result.depot) (D.faults result.depot)) result.runs.items
+        (shown result.ending) }
 {
     let mut first = Some(first);
     let mut made = Made {
@@ -81,13 +83,13 @@ fn run_all<D: Depot + Send, T: Gate + Sync, R: Threads + Wait + Sync>(
     }
 }
 
-/// Compares policies: for each one, in order, the table is loaded, its pieces are put into the depot, and the batch runs
-/// with that policy. The first run reads the table and the batch from the shelf, and the later ones use what it read. With
-/// no policy nothing is read. The request's numbers lie within their limits, there are at most 16 policies, and the depot's
-/// gets are at most 2^62.
+/// Compares policies: for each one, in order, the table is loaded, its pieces are put into the depot, and the batch
+/// runs with that policy. The first run reads the table and the batch from the shelf, and the later ones use what it
+/// read. With no policy nothing is read. The request's numbers lie within their limits, there are at most 16 policies,
+/// and the depot's gets are at most 2^62.
 ///
-/// The first stop that comes in any run ends the work with it: those of a single run, as docs/COMMAND_LINE.md lists them,
-/// in the order of the work, in the first run; and in each run a piece that isn't stored, and out of memory.
+/// The first stop that comes in any run ends the work with it: those of a single run, as docs/COMMAND_LINE.md lists
+/// them, in the order of the work, in the first run; and in each run a piece that isn't stored, and out of memory.
 pub(crate) fn compare<F: Shelf, D: Depot + Send, T: Gate + Sync, R: Threads + Wait + Sync>(
     rt: &R,
     alloc: Global,
@@ -105,7 +107,9 @@ pub(crate) fn compare<F: Shelf, D: Depot + Send, T: Gate + Sync, R: Threads + Wa
     ensures compared { IsCompared (request_view request.now)
         (over_shelf (F.held shelf.old) (F.faults shelf.old) (F.faults shelf.new))
         (map (λ p. policy_at (name p) (cursor p)) policies.items)
-        (depot_at (D.held depot) (D.gets depot) (D.faults depot)) (depot_at (D.held result.depot) (D.gets result.depot) (D.faults result.depot)) result.runs.items (shown result.ending) }
+        (depot_at (D.held depot) (D.gets depot) (D.faults depot))
+        (depot_at (D.held result.depot) (D.gets result.depot) (D.faults result.depot)) result.runs.items
+        (shown result.ending) }
     // a line for each run, with the counts of its story
     ensures lines { IfOk result.ending (λ o. o.text ≡ lines_of result.runs.items) }
     // 1: some run leaves a statement unanswered, and why
@@ -113,7 +117,8 @@ pub(crate) fn compare<F: Shelf, D: Depot + Send, T: Gate + Sync, R: Threads + Wa
         (over_shelf (F.held shelf.old) (F.faults shelf.old) (F.faults shelf.new))
         (map (λ p. policy_at (name p) (cursor p)) policies.items)
         (depot_at (D.held depot) (D.gets depot) (D.faults depot)) result.runs.items) }
-    // however it ends: each fault of the stories joined in order has its own rise of the depot's count, and the depot's gets rose by the reads of all runs
+    // however it ends: each fault of the stories joined in order has its own rise of the depot's count, and the depot's
+    // gets rose by the reads of all runs
     ensures licensed { Licensed (is_some (D.held depot)) (D.faults depot) (D.faults result.depot)
         (past (joined_story result.runs.items)) }
     ensures reads { D.gets result.depot ≡ D.gets depot + reads (past (joined_story result.runs.items)) }
@@ -138,7 +143,9 @@ fn compare_all<F: Shelf, D: Depot + Send, T: Gate + Sync, R: Threads + Wait + Sy
     ensures compared { IsCompared (request_view request.now)
         (over_shelf (F.held shelf.old) (F.faults shelf.old) (F.faults shelf.new))
         (map (λ p. policy_at (name p) (cursor p)) policies.items)
-        (depot_at (D.held depot) (D.gets depot) (D.faults depot)) (depot_at (D.held result.depot) (D.gets result.depot) (D.faults result.depot)) result.runs.items (shown result.ending) }
+        (depot_at (D.held depot) (D.gets depot) (D.faults depot))
+        (depot_at (D.held result.depot) (D.gets result.depot) (D.faults result.depot)) result.runs.items
+        (shown result.ending) }
 {
     if policies.is_empty() {
         let ending = Ok(Output {

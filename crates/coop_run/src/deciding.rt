@@ -34,7 +34,8 @@ fn decide_over<P: Policy, D: Depot + Send, T: Gate + Sync, R: Threads + Wait + S
     requires gets { D.gets depot ≤ 2 ^ 63 }
     ensures comes { ComesOf inputs (work (P.name policy) (P.cursor policy)
         (depot_at (D.held depot) (D.gets depot) (D.faults depot))
-        (depot_at (D.held result.depot) (D.gets result.depot) (D.faults result.depot)) (story_in result.ran) (taken_in result.ran)) (shown result.ending) }
+        (depot_at (D.held result.depot) (D.gets result.depot) (D.faults result.depot)) (story_in result.ran)
+        (taken_in result.ran)) (shown result.ending) }
     ensures ran { IfOk result.ending (λ _. is_some result.ran ≡ true) }
     ensures idle { IfErr result.ending (λ s. s ≢ stop.Memory → result.ran ≡ None) }
 {
@@ -51,8 +52,9 @@ fn decide_over<P: Policy, D: Depot + Send, T: Gate + Sync, R: Threads + Wait + S
     }
 }
 
-/// Reads what a request names, runs the batch, and says what is to be written or why the run stops. The first refusal in
-/// the order table, chunks, frames, batch, statements, building decides. The request's numbers lie within the limits.
+/// Reads what a request names, runs the batch, and says what is to be written or why the run stops. The first refusal
+/// in the order table, chunks, frames, batch, statements, building decides. The request's numbers lie within the
+/// limits.
 pub fn decide<F: Shelf, P: Policy, D: Depot + Send, T: Gate + Sync, R: Threads + Wait + Sync>(
     rt: &R,
     alloc: Global,
@@ -67,7 +69,8 @@ pub fn decide<F: Shelf, P: Policy, D: Depot + Send, T: Gate + Sync, R: Threads +
     requires gets { D.gets depot ≤ 2 ^ 63 }
     ensures decided { IsDecided (request_view request.now)
         (over_shelf (F.held shelf.old) (F.faults shelf.old) (F.faults shelf.new))
-        (work (P.name policy) (P.cursor policy) (depot_at (D.held depot) (D.gets depot) (D.faults depot)) (depot_at (D.held result.depot) (D.gets result.depot) (D.faults result.depot))
+        (work (P.name policy) (P.cursor policy) (depot_at (D.held depot) (D.gets depot) (D.faults depot))
+        (depot_at (D.held result.depot) (D.gets result.depot) (D.faults result.depot))
         (story_in result.ran) (taken_in result.ran)) (shown result.ending) }
     ensures ran { IfOk result.ending (λ _. is_some result.ran ≡ true) }
     ensures idle { IfErr result.ending (λ s. s ≢ stop.Memory → result.ran ≡ None) }

@@ -8,8 +8,8 @@
 //!     Ok(ExitCode::from(ended.status))
 //!
 //! `run` takes the words of the command line and carries the theorem, whose clauses are in `run_ends`; `run_settings`
-//! takes `Settings` in their place; `run_boxed` takes a list of policies in boxes, of which the words name one, or compares
-//! all. `decide` and `answer` go as far as the texts and the answers. docs/COMMAND_LINE.md is the manual, and
+//! takes `Settings` in their place; `run_boxed` takes a list of policies in boxes, of which the words name one, or
+//! compares all. `decide` and `answer` go as far as the texts and the answers. docs/COMMAND_LINE.md is the manual, and
 //! docs/POLICIES.md tells the rules of a comparison.
 #![tactic(auto)]
 

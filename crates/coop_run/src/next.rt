@@ -30,7 +30,8 @@ pub(crate) fn run_next<D: Depot + Send, T: Gate + Sync, R: Threads + Wait + Sync
     requires gets { D.gets made.depot ≤ 2 ^ 63 }
     ensures next { IfOk result (λ m. IsNext inputs (policy_at (name policy) (cursor policy))
         (depot_at (D.held made.depot) (D.gets made.depot) (D.faults made.depot))
-        (depot_at (D.held m.depot) (D.gets m.depot) (D.faults m.depot)) made.runs.items (made.status, made.text) m.runs.items (m.status, m.text)) }
+        (depot_at (D.held m.depot) (D.gets m.depot) (D.faults m.depot)) made.runs.items
+        (made.status, made.text) m.runs.items (m.status, m.text)) }
     ensures ends { IfErr result (λ c. EndsIn inputs (policy_at (name policy) (cursor policy))
         (depot_at (D.held made.depot) (D.gets made.depot) (D.faults made.depot))
         (depot_at (D.held c.depot) (D.gets c.depot) (D.faults c.depot)) made.runs.items c.runs.items (shown c.ending)) }

@@ -20,13 +20,14 @@ use std::hash::RandomState;
 use std::sync::Wait;
 use std::thread::Threads;
 
-/// Answers the batch over the table, and writes the answers, or the line that says why there are none. The words are those
-/// after the program's name; the keys are those of the hash with which texts are looked up while the table is loaded; the
-/// policy makes the manager's choices; the gate is called once for each delivery, while the chunk is pinned and the manager
-/// lies free. The depot's gets are at most 2^63.
+/// Answers the batch over the table, and writes the answers, or the line that says why there are none. The words are
+/// those after the program's name; the keys are those of the hash with which texts are looked up while the table is
+/// loaded; the policy makes the manager's choices; the gate is called once for each delivery, while the chunk is pinned
+/// and the manager lies free. The depot's gets are at most 2^63.
 ///
-/// It answers the status, as docs/COMMAND_LINE.md lists them, the story that the workers' turns recorded, the chunks that
-/// each scan took, and the depot. What it says holds of every schedule of the workers; that it returns is not said.
+/// It answers the status, as docs/COMMAND_LINE.md lists them, the story that the workers' turns recorded, the chunks
+/// that each scan took, and the depot. What it says holds of every schedule of the workers; that it returns is not
+/// said.
 pub fn run<F: Shelf, P: Policy, D: Depot + Send, O: Sink, T: Gate + Sync, R: Threads + Wait + Sync>(
     rt: &R,
     alloc: Global,
@@ -47,7 +48,8 @@ pub fn run<F: Shelf, P: Policy, D: Depot + Send, O: Sink, T: Gate + Sync, R: Thr
     run_words(rt, alloc, keys, words, shelf, depot, policy, gate, out)
 }
 
-/// Does all that `run` does after the words were read, for settings in their place, whose numbers lie within the limits.
+/// Does all that `run` does after the words were read, for settings in their place, whose numbers lie within the
+/// limits.
 /// A table or a batch with the name of a generated one is that one.
 pub fn run_settings<
     F: Shelf,

@@ -3,9 +3,9 @@
 use interest_book::{Book, Policy};
 use scan_story::PolicyName;
 
-/// The policy that a run takes out of the list, or one of those that are compared. Its name, its cursor and its picks are
-/// those of the policy in the box. `policy_box::Boxed` is a type of another crate, at which a call that takes any policy
-/// isn't proved.
+/// The policy that a run takes out of the list, or one of those that are compared. Its name, its cursor and its picks
+/// are those of the policy in the box. `policy_box::Boxed` is a type of another crate, at which a call that takes any
+/// policy isn't proved.
 #[derive(Drop)]
 pub struct TakenPolicy {
     pub policy: Box<dyn Policy + Send>,

@@ -3,7 +3,8 @@ use Rattle.std.specs.Prelude.{◌≡◌, ◌⊎◌, ◌++◌, ◌∷◌, [], tru
 use Rattle.scan_story.specs.declared.cause.Cause.{Cause}
 use Rattle.scan_story.specs.declared.cause.Cause.TheVariants.{Memory}
 use Rattle.scan_story.specs.declared.entry.Entry.{Entry}
-use Rattle.scan_story.specs.declared.entry.Entry.TheVariants.{Plan, Evict, Fill, Filled, Failed, Deliver, Release, Stop, End}
+use Rattle.scan_story.specs.declared.entry.Entry.TheVariants.{Plan, Evict, Fill, Filled, Failed}
+use Rattle.scan_story.specs.declared.entry.Entry.TheVariants.{Deliver, Release, Stop, End}
 use Rattle.scan_story.specs.declared.origin.Start.{Start}
 use Rattle.scan_story.specs.declared.setting.Setting.{Setting}
 use Rattle.scan_story.specs.Counting.{has}
@@ -38,7 +39,8 @@ abbrev pub AreOfLoads : List Entry → Type 0
 AreOfLoads [] = Unit {0}
 AreOfLoads (e ∷ es) = (is_of_load e ≡ true) × AreOfLoads es
 
--- after loads the worker was delivered the chunk, which was available to the query and not among those that the worker had taken for it
+-- after loads the worker was delivered the chunk, which was available to the query and not among those that the worker
+-- had taken for it
 pub record TakesChunk (s : Setting) (w q : ℕ) (p r : PassView) (c : ℕ) : Type 0 where
   pub loads : List Entry
   pub only_loads : AreOfLoads loads
@@ -80,7 +82,8 @@ Releases w q p r c = AddsOne (Release w q c) p r
 
 -- the query was stopped when out of memory; else the story had stopped it, and nothing was added
 abbrev pub IsStoppedBy : ℕ → ℕ → PassView → PassView → Cause → Type 0
-IsStoppedBy w q p r cause = (cause_of (past r.seen) q ≡ Some cause) × (Went p r [] ⊎ (AddsOne (Stop w q) p r × (cause ≡ Memory)))
+IsStoppedBy w q p r cause = (cause_of (past r.seen) q ≡ Some cause)
+    × (Went p r [] ⊎ (AddsOne (Stop w q) p r × (cause ≡ Memory)))
 
 module _ {S C P D T K : Type 0} where
   -- what an answer of `next` says
@@ -90,5 +93,6 @@ module _ {S C P D T K : Type 0} where
       × (delivery ≡ delivery_to new.station.now.number new.query held.given.chunk)
   Answered o told old new next.Done = (new.out ≡ None) × IsOver o new.baton.now new.pool.now new.query new.station.now
       × Ends o.setting old.station.now.number old.query old.station.now.pass new.station.now.pass
-  Answered o told old new (next.Stopped cause) = (new.out ≡ None) × IsOver o new.baton.now new.pool.now new.query new.station.now
+  Answered o told old new (next.Stopped cause) = (new.out ≡ None)
+      × IsOver o new.baton.now new.pool.now new.query new.station.now
       × FindsStopped old.query old.station.now.pass new.station.now.pass cause

@@ -12,11 +12,13 @@ use Rattle.frame_rows.specs.Pins.{slot_at}
 abbrev pub with_words : BerthView → ℕ → List ℕ → BerthView
 with_words b f ws = record b { fill = Some (filling f ws) }
 
--- why reads failed while the count of faults went from one number to another: a rise of the count, or a broken word, where the depot tells nothing
+-- why reads failed while the count of faults went from one number to another: a rise of the count, or a broken word,
+-- where the depot tells nothing
 abbrev pub MayReport : Stored → ℕ → ℕ → Why → Type 0
 MayReport held from to (Fault before after) = (from ≤ before) × IsRise before after × (after ≤ to)
 MayReport held from to (Damage word) = held ≡ None
 
 -- the slots' frames and pieces are among so many
 abbrev pub AreThere : ℕ → ℕ → List (ℕ × ℕ) → Type 0
-AreThere frames pieces slots = (i : ℕ) → i < length slots → ((slot_at slots i).0 < frames) × ((slot_at slots i).1 < pieces)
+AreThere frames pieces slots = (i : ℕ) → i < length slots → ((slot_at slots i).0 < frames)
+    × ((slot_at slots i).1 < pieces)

@@ -26,7 +26,8 @@ pub record GoesOn (s : Setting) (w q : ℕ) (p r : PassView) : Type 0 where
   pub may : MayTurn s (past r.seen) w q
 
 abbrev pub IsRound : Setting → TableShape → ℕ → ℕ → PassView → PassView → Round → Type 0
-IsRound s z w q p r (Took g) = TakesChunk s w q p r g.chunk × Legal s (past r.seen) × IsAt s (past r.seen) w q (Some g) × IsGiven s z (past r.seen) q g
+IsRound s z w q p r (Took g) = TakesChunk s w q p r g.chunk × Legal s (past r.seen) × IsAt s (past r.seen) w q (Some g)
+    × IsGiven s z (past r.seen) q g
 IsRound s z w q p r (Again pause) = GoesOn s w q p r
 IsRound s z w q p r Done = Ends s w q p r × IsAtRest s (past r.seen) w q
 IsRound s z w q p r (Stopped cause) = FindsStopped q p r cause × IsAtRest s (past r.seen) w q

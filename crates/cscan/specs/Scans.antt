@@ -25,7 +25,8 @@ use Rattle.frame_rows.specs.Tables.{TellAlike}
 
 -- What a scan is begun with
 
--- the origin is of the shape's chunks and groups and the pool's frames, a frame has room for each piece, and depot and frames tell of one table of the shape or tell nothing
+-- the origin is of the shape's chunks and groups and the pool's frames, a frame has room for each piece, and depot and
+-- frames tell of one table of the shape or tell nothing
 pub record Fits (o : Start) (told : Told) (z : TableShape) (pool : PoolView) : Type 0 where
   pub shape : IsShape z
   pub chunks : o.setting.chunks ≡ chunks z
@@ -48,7 +49,8 @@ ReadsColumns s q columns = (x : ℕ) → is_member columns x ≡ true → reads_
 
 -- What is out
 
--- the chunk is the table's and has so many rows; the slots are the pieces of it that the query reads, each in the frame in which the story sees it, and no two in one frame
+-- the chunk is the table's and has so many rows; the slots are the pieces of it that the query reads, each in the frame
+-- in which the story sees it, and no two in one frame
 pub record IsGiven (s : Setting) (z : TableShape) (h : History) (q : ℕ) (g : Given) : Type 0 where
   pub chunk : g.chunk < chunks z
   pub rows : g.rows ≡ rows_in z g.chunk
@@ -104,7 +106,8 @@ module _ {S C P D T K : Type 0} where
     pub query : new.query ≡ old.query
 
 module _ {S C P D : Type 0} where
-  -- the station of a scan that is over: nothing is pinned, and by what the worker has seen its query isn't active and it is idle
+  -- the station of a scan that is over: nothing is pinned, and by what the worker has seen its query isn't active and
+  -- it is idle
   pub record IsOver (o : Start) (id : TableId) (pool : PoolView) (q : ℕ) (s : Station S C P D) : Type 0 where
     pub seated : IsSeated id pool o [] s
     pub rests : IsAtRest o.setting (past s.pass.seen) s.number q

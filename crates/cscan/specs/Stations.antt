@@ -9,7 +9,8 @@ use Rattle.frame_pool.specs.Berths.{BerthView, PoolView, IsOf}
 use Rattle.cscan.specs.declared.station.Station.{Station}
 use Rattle.frame_rows.specs.Pins.{pins_of}
 
--- the pass is of this baton and this origin, is the worker's, isn't holding, and has made just the entries of its number that it has seen
+-- the pass is of this baton and this origin, is the worker's, isn't holding, and has made just the entries of its
+-- number that it has seen
 abbrev pub Waits : TableId → Start → ℕ → PassView → Type 0
 Waits id o w p = (p.baton ≡ id) × (p.number ≡ w) × (p.origin ≡ o) × (p.holding ≡ false) × (entries_by w p.seen ≡ p.mine)
 
@@ -18,6 +19,8 @@ abbrev pub PinsJust : PoolView → List Pin → BerthView → Type 0
 PinsJust pool pins b = IsOf pool b × (b.pins ≡ pins) × (b.fill ≡ None)
 
 module _ {S C P D : Type 0} where
-  -- the station's pass waits, its berth pins just the frames of these slots, and its buffer has 8 bytes for each word of a frame
+  -- the station's pass waits, its berth pins just the frames of these slots, and its buffer has 8 bytes for each word
+  -- of a frame
   abbrev pub IsSeated : TableId → PoolView → Start → List (ℕ × ℕ) → Station S C P D → Type 0
-  IsSeated id pool o slots s = Waits id o s.number s.pass × PinsJust pool (pins_of slots) s.berth × (vec_len s.buf ≡ 8 * pool.shape.words)
+  IsSeated id pool o slots s = Waits id o s.number s.pass × PinsJust pool (pins_of slots) s.berth
+      × (vec_len s.buf ≡ 8 * pool.shape.words)

@@ -41,8 +41,8 @@ fn put_all<C: Content>(pool: &Pool<C>, berth: &mut Berth<C>, frame: u32, bytes: 
 
 // Reads a piece into a frame: marks and claims the frame, gets the piece, checks it, puts its words and publishes it.
 //
-// Where the get fails or a word of the piece is broken, the frame is given up, and is free again. The pass isn't holding,
-// so others have their turns meanwhile.
+// Where the get fails or a word of the piece is broken, the frame is given up, and is free again. The pass isn't
+// holding, so others have their turns meanwhile.
 fn read_in<S: Origin, C: Content, P: Policy, D: Depot, R: Wait>(
     rt: &R,
     pass: &Pass<Desk<S, P, D>>,
@@ -91,8 +91,8 @@ fn read_in<S: Origin, C: Content, P: Policy, D: Depot, R: Wait>(
     Ok(())
 }
 
-/// Reads the piece of each slot into its frame, one after another, until one fails, while the baton lies free. `buf` has
-/// room for any piece.
+/// Reads the piece of each slot into its frame, one after another, until one fails, while the baton lies free. `buf`
+/// has room for any piece.
 pub(crate) fn read_all<S: Origin, C: Content, P: Policy, D: Depot, R: Wait>(
     rt: &R,
     pass: &Pass<Desk<S, P, D>>,

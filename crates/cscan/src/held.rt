@@ -48,8 +48,8 @@ impl Held {
 
     /// The cell of a row of the chunk, from 0, and a column that the query reads. It can't wait.
     ///
-    /// Where the depot tells what it holds, it is the table's cell. Over every depot it is NULL, or in a column of texts a
-    /// code below the length of the column's dictionary, or in any other column a number.
+    /// Where the depot tells what it holds, it is the table's cell. Over every depot it is NULL, or in a column of
+    /// texts a code below the length of the column's dictionary, or in any other column a number.
     pub fn cell<S: Origin, C: Content, P: Policy, D: Depot, T: Gate>(
         &self,
         scan: &mut CScan<'_, S, C, P, D, T>,
@@ -73,8 +73,9 @@ impl Held {
         cell_in_frame(pool, shape, &mut scan.station.berth, framed, row, column)
     }
 
-    /// Reads a row of the chunk, from 0, for some columns that the query reads: each one's cell, as `cell` says it, comes into
-    /// its place, and NULL into every other place. There is a place for each column of the table. It can't wait.
+    /// Reads a row of the chunk, from 0, for some columns that the query reads: each one's cell, as `cell` says it,
+    /// comes into its place, and NULL into every other place. There is a place for each column of the table. It can't
+    /// wait.
     pub fn row<S: Origin, C: Content, P: Policy, D: Depot, T: Gate>(
         &self,
         scan: &mut CScan<'_, S, C, P, D, T>,
@@ -106,10 +107,11 @@ impl Held {
         }
     }
 
-    /// Reads some rows of the chunk as a block, `count` of them from the row `first` on, for some columns that the query
-    /// reads: each one's cells, as `cell` says them, come into its column, and NULL into every other column.
+    /// Reads some rows of the chunk as a block, `count` of them from the row `first` on, for some columns that the
+    /// query reads: each one's cells, as `cell` says them, come into its column, and NULL into every other column.
     ///
-    /// The block has a column for each column of the table, and 1 to 64 rows; `first` is a multiple of 64. It can't wait.
+    /// The block has a column for each column of the table, and 1 to 64 rows; `first` is a multiple of 64. It can't
+    /// wait.
     pub fn block<S: Origin, C: Content, P: Policy, D: Depot, T: Gate>(
         &self,
         scan: &mut CScan<'_, S, C, P, D, T>,

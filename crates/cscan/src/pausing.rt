@@ -66,8 +66,8 @@ impl Patience {
         }
     }
 
-    /// Lies down where a turn of the query would be NotYet, and where it would load while another one is far behind and the
-    /// scan hasn't yet let others go first. Whether it lies.
+    /// Lies down where a turn of the query would be NotYet, and where it would load while another one is far behind and
+    /// the scan hasn't yet let others go first. Whether it lies.
     pub(crate) fn lies_down(&mut self, bell: &Bell, book: &Book, worker: u32, query: u32) -> bool
         requires query { query ≤ 256 }
     {

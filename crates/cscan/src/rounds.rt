@@ -42,7 +42,8 @@ fn rows_of(shape: &Shape, chunk: u32) -> u32
     to - from
 }
 
-/// One turn of the worker for the query. Where it is to load, it loads; where it takes a chunk, it pins the chunk's frames.
+/// One turn of the worker for the query. Where it is to load, it loads; where it takes a chunk, it pins the chunk's
+/// frames.
 pub(crate) fn turn_once<S: Origin, C: Content, P: Policy, D: Depot, R: Wait>(
     rt: &R,
     baton: &Baton<Desk<S, P, D>>,

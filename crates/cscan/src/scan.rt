@@ -29,9 +29,9 @@ use std::sync::Wait;
 
 /// A scan under way: it takes the chunks of a query's need one after another, from frames that all scans share.
 ///
-/// Contracts see its station, baton, pool, shape and query, and the chunk that it has out, if any. What a station's pass
-/// has seen and made tells what the scan did. After `Next::Done` and `Next::Stopped` it is over: no call may follow, and it
-/// may be let go.
+/// Contracts see its station, baton, pool, shape and query, and the chunk that it has out, if any. What a station's
+/// pass has seen and made tells what the scan did. After `Next::Done` and `Next::Stopped` it is over: no call may
+/// follow, and it may be let go.
 #[derive(Drop)]
 pub struct CScan<'a, S: Origin, C: Content, P: Policy, D: Depot, T: Gate> {
     pub(crate) station: &'a mut Station<S, C, P, D>,
@@ -46,12 +46,13 @@ pub struct CScan<'a, S: Origin, C: Content, P: Policy, D: Depot, T: Gate> {
 impl<'a, S: Origin, C: Content, P: Policy, D: Depot, T: Gate> CScan<'a, S, C, P, D, T> {
     /// Registers the query on the station's worker, and begins its scan.
     ///
-    /// By what the pass has seen the query may be registered: it never was, its need names the worker, and the worker has
-    /// no active query, holds nothing and loads nothing. The station's pass is of this baton and isn't holding; its berth
-    /// is of this pool, without pin and fill; its buffer has 8 bytes for each word of a frame. The origin has the shape's
-    /// chunks and groups and the pool's frames, a frame has the frame words of the shape, and the columns of the query's
-    /// need are columns of the shape. Where the origin's depot tells what it holds, it holds each piece of a table of this
-    /// shape, and the pool's content is the words of these pieces; where it tells nothing, the content isn't told.
+    /// By what the pass has seen the query may be registered: it never was, its need names the worker, and the worker
+    /// has no active query, holds nothing and loads nothing. The station's pass is of this baton and isn't holding; its
+    /// berth is of this pool, without pin and fill; its buffer has 8 bytes for each word of a frame. The origin has the
+    /// shape's chunks and groups and the pool's frames, a frame has the frame words of the shape, and the columns of
+    /// the query's need are columns of the shape. Where the origin's depot tells what it holds, it holds each piece of
+    /// a table of this shape, and the pool's content is the words of these pieces; where it tells nothing, the content
+    /// isn't told.
     pub fn begin<R: Wait>(
         rt: &R,
         baton: &'a Baton<Desk<S, P, D>>,
@@ -92,7 +93,8 @@ impl<'a, S: Origin, C: Content, P: Policy, D: Depot, T: Gate> CScan<'a, S, C, P,
     /// Takes the next chunk, or comes to the end.
     ///
     /// It turns until the desk has an answer: where the desk says so it loads pieces, while the baton lies free. The
-    /// frames of a chunk that it answers are pinned before it returns, and stay so until `Held::release`. No chunk is out.
+    /// frames of a chunk that it answers are pinned before it returns, and stay so until `Held::release`. No chunk is
+    /// out.
     pub fn next<R: Wait>(&mut self, rt: &R) -> Next
         requires scan { IsScan S.origin C.pieces self.old }
         requires none { self.old.out ≡ None }

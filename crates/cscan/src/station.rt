@@ -10,8 +10,8 @@ use interest_book::Policy;
 use scan_story::{Memory, Origin};
 use std::alloc::Global;
 
-/// What a worker runs its scans with, one after another: its number from 0, its berth at the pool, its pass of the baton,
-/// and a buffer for the bytes of one piece.
+/// What a worker runs its scans with, one after another: its number from 0, its berth at the pool, its pass of the
+/// baton, and a buffer for the bytes of one piece.
 ///
 /// It can't be dropped: `into_parts` gives the berth and the pass back.
 pub struct Station<S: Origin, C: Content, P: Policy, D: Depot> {

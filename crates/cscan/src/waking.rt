@@ -28,8 +28,8 @@ pub(crate) struct Woken {
 }
 
 impl Woken {
-    /// After the end of a load or a scan: those that sleep and have a chunk to take, or are stopped, and one of the others,
-    /// which is to load next.
+    /// After the end of a load or a scan: those that sleep and have a chunk to take, or are stopped, and one of the
+    /// others, which is to load next.
     pub(crate) fn after_load(bell: &Bell, book: &Book) -> Woken {
         let mut is_woken = [false; 32];
         let mut has_next = false;

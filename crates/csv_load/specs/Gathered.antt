@@ -1,5 +1,6 @@
 -- The fields of a column as they are kept: numbers that are spelled alike, or the places of texts.
-use Rattle.std.specs.Prelude.{◌≡◌, ◌≢◌, ◌<◌, ◌≤◌, ◌++◌, ℕ, zero, suc, ℤ, List, [], ◌∷◌, length, map, slice_index_or, All, Contains, Option, Some, None, IfSome, is_some, true, false, Vec}
+use Rattle.std.specs.Prelude.{◌≡◌, ◌≢◌, ◌<◌, ◌≤◌, ◌++◌, ℕ, zero, suc, ℤ, List, [], ◌∷◌, length, map}
+use Rattle.std.specs.Prelude.{slice_index_or, All, Contains, Option, Some, None, IfSome, is_some, true, false, Vec}
 use Rattle.csv_load.specs.Number.{number_read}
 use Rattle.csv_load.specs.Judged.{Fields}
 use Rattle.csv_load.specs.Ranks.{stands_for}

@@ -1,10 +1,12 @@
 -- Why a list of records is no table: the first cause that holds, at the first place where it holds.
-use Rattle.std.specs.Prelude.{◌+◌, ◌==◌, ℕ, nat_lt, List, [], ◌∷◌, length, Option, Some, None, take, option_map, if◌then◌else◌}
+use Rattle.std.specs.Prelude.{◌+◌, ◌==◌, ℕ, nat_lt, List, [], ◌∷◌, length, Option}
+use Rattle.std.specs.Prelude.{Some, None, take, option_map, if◌then◌else◌}
 use Rattle.std.specs.Str.{bytes_eq}
 use Rattle.table_sets.specs.declared.limits.TheConstants.{MOST_COLUMNS, MOST_ROWS}
 use Rattle.csv_load.specs.declared.limits.TheConstants.{MOST_NAME_BYTES}
 use Rattle.csv_load.specs.declared.refusal.LoadRefusal.{LoadRefusal}
-use Rattle.csv_load.specs.declared.refusal.LoadRefusal.TheVariants.{NoHeader, TooManyColumns, LongName, TwiceNamed, Ragged, TooManyRows}
+use Rattle.csv_load.specs.declared.refusal.LoadRefusal.TheVariants.{NoHeader, TooManyColumns, LongName}
+use Rattle.csv_load.specs.declared.refusal.LoadRefusal.TheVariants.{TwiceNamed, Ragged, TooManyRows}
 
 -- a record's fields, each a list of bytes
 abbrev pub Fields : Type 0
@@ -29,7 +31,8 @@ first_equal name place (f ∷ fs) = if bytes_eq f name then Some place else firs
 abbrev pub first_twice : Fields → ℕ → Fields → Option (ℕ × ℕ)
 first_twice header second [] = None
 first_twice header second (f ∷ fs) =
-    or_else (option_map (λ first. (first, second)) (first_equal f 0 (take second header))) (first_twice header (second + 1) fs)
+    or_else (option_map (λ first. (first, second)) (first_equal f 0 (take second header)))
+    (first_twice header (second + 1) fs)
 
 -- why these fields are no header
 abbrev pub header_refusal : Fields → Option LoadRefusal
@@ -41,7 +44,8 @@ header_refusal header =
 -- why a data record is no row, where `row` of them stand before it: it isn't as wide as the header, or it is one past
 -- the limit of rows, however wide
 abbrev pub row_refusal : ℕ → ℕ → Fields → Option LoadRefusal
-row_refusal width row r = if row == MOST_ROWS then Some TooManyRows else if length r == width then None else Some (Ragged (row + 1) (length r))
+row_refusal width row r = if row == MOST_ROWS then Some TooManyRows else if length r == width then None
+    else Some (Ragged (row + 1) (length r))
 
 -- the first of these data records that is no row; `row` of the data records stand before them
 abbrev pub first_bad_row : ℕ → ℕ → List Fields → Option LoadRefusal

@@ -1,5 +1,6 @@
 -- The kind of a column, and the value of each of its fields.
-use Rattle.std.specs.Prelude.{◌-◌, ◌^◌, ◌==◌, ◌&&◌, ℕ, ℤ, pos, ◌*ℤ◌, Bool, true, false, not, nat_lt, max, List, [], ◌∷◌, Option, Some, None, if◌then◌else◌}
+use Rattle.std.specs.Prelude.{◌-◌, ◌^◌, ◌==◌, ◌&&◌, ℕ, ℤ, pos, ◌*ℤ◌, Bool, true, false, not}
+use Rattle.std.specs.Prelude.{nat_lt, max, List, [], ◌∷◌, Option, Some, None, if◌then◌else◌}
 use Rattle.std.specs.List.{list_all}
 use Rattle.csv_load.specs.Number.{number_read, fits_i64}
 use Rattle.csv_load.specs.declared.number.Number.{Number}
@@ -50,7 +51,8 @@ is_of Text field = true
 -- whole numbers; else decimal numbers, of which one has a point; else texts
 abbrev pub kind_of : List (List ℕ) → Kind
 kind_of fields = if list_all is_whole fields then Int
-    else (let places = most_places fields in if nat_lt 0 places && list_all (is_decimal places) fields then Dec places else Text)
+    else (let places = most_places fields in if nat_lt 0 places && list_all (is_decimal places) fields then Dec places
+    else Text)
 
 abbrev pub number_at : ℕ → Option Number → Value
 number_at places None = none

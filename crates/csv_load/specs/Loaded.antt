@@ -13,7 +13,8 @@ pub record IsLoaded (records : List Fields) (table : TableRows) (dicts : List Fi
   pub columns : table.columns ≡ (table_of records).columns
   pub rows : map (row_values dicts) table.rows ≡ (table_of records).rows
   pub dict_count : length dicts ≡ length table.columns
-  pub dictionaries : (k : ℕ) → k < length table.columns → IsColumnDict (kind_at table.columns k) (column_at k (drop 1 records)) (dict_at dicts k)
+  pub dictionaries : (k : ℕ) → k < length table.columns
+      → IsColumnDict (kind_at table.columns k) (column_at k (drop 1 records)) (dict_at dicts k)
   pub fits : All (FitsRow table.columns dicts) table.rows
   pub some_columns : 0 < length table.columns
   pub few_columns : length table.columns ≤ MOST_COLUMNS

@@ -15,7 +15,8 @@ column_at k rows = map (λ row. slice_index_or row k []) rows
 -- a column for each name, from a place on: its kind is that of its fields
 abbrev pub columns_from : ℕ → Fields → List Fields → List Column
 columns_from k [] rows = []
-columns_from k (name ∷ names) rows = record { name = name; kind = kind_of (column_at k rows) } ∷ columns_from (k + 1) names rows
+columns_from k (name ∷ names) rows = record { name = name; kind = kind_of (column_at k rows) }
+    ∷ columns_from (k + 1) names rows
 
 -- what the fields of a row are worth
 abbrev pub row_of : List Column → Fields → List Value
@@ -29,7 +30,10 @@ pub record Values : Type 0 where
 -- the table of a list of records, whose first one is the header
 abbrev pub table_of : List Fields → Values
 table_of [] = record { columns = []; rows = [] }
-table_of (header ∷ rows) = record { columns = columns_from 0 header rows; rows = map (row_of (columns_from 0 header rows)) rows }
+table_of (header ∷ rows) = record {
+  columns = columns_from 0 header rows;
+  rows = map (row_of (columns_from 0 header rows)) rows;
+}
 
 -- the rising list of the distinct texts among the fields; an empty field is none
 pub record IsDictionary (fields dict : Fields) : Type 0 where

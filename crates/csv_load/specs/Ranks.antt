@@ -1,5 +1,6 @@
 -- The dictionary of a list of names, and the code of each name in it.
-use Rattle.std.specs.Prelude.{◌≡◌, ◌≢◌, ◌<◌, ℕ, List, [], length, map, slice_index_or, All, Contains, Option, Some, None, IfSome}
+use Rattle.std.specs.Prelude.{◌≡◌, ◌≢◌, ◌<◌, ℕ, List, [], length, map, slice_index_or}
+use Rattle.std.specs.Prelude.{All, Contains, Option, Some, None, IfSome}
 use Rattle.std.specs.Borrow.{Bor}
 use Rattle.std.specs.List.Sorted.{IsSorted}
 use Rattle.std.specs.Ordering.{nat_cmp, ordering_then}
@@ -34,7 +35,9 @@ key_places order = map (λ (p : Key). p.2) order
 
 -- how two names stand, by their fronts first, and two equal ones by their places
 abbrev pub key_cmp : Key → Key → Ordering
-key_cmp p q = ordering_then (ordering_then (ordering_then (nat_cmp p.0.0 q.0.0) (nat_cmp p.0.1 q.0.1)) (text_cmp p.1.now q.1.now)) (nat_cmp p.2 q.2)
+key_cmp p q = ordering_then
+    (ordering_then (ordering_then (nat_cmp p.0.0 q.0.0) (nat_cmp p.0.1 q.0.1)) (text_cmp p.1.now q.1.now))
+    (nat_cmp p.2 q.2)
 
 -- the names up to a place that aren't empty, each with its front and its place
 pub record Keyed (names : List (List ℕ)) (end : ℕ) (order : List Key) : Type 0 where

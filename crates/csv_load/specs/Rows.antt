@@ -1,7 +1,8 @@
 -- The records of a table's text, by the words of `csv`.
 use Rattle.std.specs.Prelude.{◌+◌, ◌≡◌, ℕ, true, false, List, [], length, Option, Some, None}
 use Rattle.csv.specs.Machine.{ends_at_end}
-use Rattle.csv.specs.Reading.{default_config, records, records_from, strip_bom, source_of, reader_config, reader_trim, reader_state, is_flexible, has_failed, Ready}
+use Rattle.csv.specs.Reading.{default_config, records, records_from, strip_bom, source_of}
+use Rattle.csv.specs.Reading.{reader_config, reader_trim, reader_state, is_flexible, has_failed, Ready}
 use Rattle.csv.specs.declared.parser.State.{State}
 use Rattle.csv.specs.declared.reader.Reader.{Reader}
 use Rattle.csv.specs.declared.reader.Trim.TheVariants as trim

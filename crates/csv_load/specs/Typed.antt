@@ -21,7 +21,8 @@ pub record IsTyped (fields : Fields) (column : Typed) : Type 0 where
   pub kind_is : column.kind ≡ kind_of fields
   pub few : places_of column.kind ≤ MOST_PLACES
   pub size : length (column_cells column.cells) ≡ length fields
-  pub cells : (i : ℕ) → i < length fields → IsCell column.kind column.dict (slice_index_or fields i []) (slice_index_or (column_cells column.cells) i Null)
+  pub cells : (i : ℕ) → i < length fields
+      → IsCell column.kind column.dict (slice_index_or fields i []) (slice_index_or (column_cells column.cells) i Null)
   pub dictionary : IsColumnDict column.kind fields column.dict
 
 -- the number of each text that the column may have

@@ -7,8 +7,8 @@ use crate::refusal::LoadRefusal;
 use csv::ByteRecord;
 use table_core::MOST_ROWS;
 
-/// Why a record is no row of a table of so many columns, where so many rows stand before it, if it is none: one row past
-/// the limit is one too many, however wide. It takes no memory.
+/// Why a record is no row of a table of so many columns, where so many rows stand before it, if it is none: one row
+/// past the limit is one too many, however wide. It takes no memory.
 pub(crate) fn judge_row(row: &ByteRecord, width: usize, before: u32) -> Option<LoadRefusal>
     requires small { length (fields_of row.now) < 2 ^ 32 }
     requires few { before ≤ MOST_ROWS }

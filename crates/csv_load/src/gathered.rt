@@ -49,8 +49,8 @@ fn number_after(before: Option<u32>, field: &[u8]) -> Option<Number>
     None
 }
 
-// The fields of a column, seen as their list. Fields that are empty or spell numbers in one way, which their values give
-// back, are kept as numbers, until the first one that is another: from then on they are kept as texts.
+// The fields of a column, seen as their list. Fields that are empty or spell numbers in one way, which their values
+// give back, are kept as numbers, until the first one that is another: from then on they are kept as texts.
 #[derive(Drop)]
 pub(crate) struct Gathered {
     alloc: Global,

@@ -2,7 +2,8 @@
 ghost use Rattle.std.specs.Prelude.{◌≡◌, ◌≢◌, ◌≤◌, ◌^◌, List, ℕ, false, true, pos, MatchOption};
 ghost use Rattle.std.specs.List.{list_all};
 ghost use Rattle.csv_load.specs.Number.{fits_i64, number_read};
-ghost use Rattle.csv_load.specs.Kinds.{fits_places, is_decimal, is_of, is_plain, is_whole, kind_of, most_places, places_in, scaled, value_as};
+ghost use Rattle.csv_load.specs.Kinds.{fits_places, is_decimal, is_of, is_plain, is_whole};
+ghost use Rattle.csv_load.specs.Kinds.{kind_of, most_places, places_in, scaled, value_as};
 ghost use Rattle.table_core.specs.Columns.{number_cell};
 ghost use Rattle.table_core.specs.Value.{FitsColumn, places_of, value_in};
 ghost use Rattle.table_core.specs.declared.schema.Kind.TheVariants.{Text};

@@ -20,7 +20,8 @@ pub struct Rows<'a> {
 impl<'a> Model for Rows<'a> {
     ghost Value = { List (List (List ℕ)) };
 
-    ghost view = { λ s. if s.stopped then [] else records_left (source_of (λ b. Some b.now) s.reader) (reader_state s.reader) };
+    ghost view = { λ s. if s.stopped then []
+        else records_left (source_of (λ b. Some b.now) s.reader) (reader_state s.reader) };
 
     ghost invariant = { λ s. s.stopped ≡ false → IsBetween (λ b. Some b.now) s.reader };
 }

@@ -39,8 +39,9 @@ fn cut_at(columns: &[Gathered], wanted: usize) -> usize
     most
 }
 
-// The columns of these texts as `type_columns` makes them, by at most so many threads beside the caller's. Each has columns
-// that stand together, with about as many texts as any other's. Where a thread can't be started, the caller's does its work.
+// The columns of these texts as `type_columns` makes them, by at most so many threads beside the caller's. Each has
+// columns that stand together, with about as many texts as any other's. Where a thread can't be started, the caller's
+// does its work.
 #[cycle(sides)]
 pub(crate) fn type_side_by_side<R: Threads + Sync>(
     rt: &R,

@@ -1,5 +1,6 @@
-//! `example_inspect CALL..`: calls of coop_inspect, one behind another. Each of its words is a call with the words of it,
-//! one blank apart. It prints a line with the call, what the call says on standard output, and a line with its status.
+//! `example_inspect CALL..`: calls of coop_inspect, one behind another. Each of its words is a call with the words of
+//! it, one blank apart. It prints a line with the call, what the call says on standard output, and a line with its
+//! status.
 #![tactic(auto)]
 
 use coop_outside::{DiskShelf, StdoutSink};

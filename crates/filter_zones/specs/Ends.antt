@@ -16,11 +16,25 @@ use Rattle.filter_zones.specs.Masks.{is_set}
 
 -- of a zone with values, whose least cell stands to a value as lo and whose greatest as hi
 abbrev pub stand : Bool → Ordering → Ordering → Ends
-stand null lo hi = record { has_null = null; there = true; low_below = is_lt lo; low_above = is_gt lo; high_below = is_lt hi; high_above = is_gt hi }
+stand null lo hi = record {
+  has_null = null;
+  there = true;
+  low_below = is_lt lo;
+  low_above = is_gt lo;
+  high_below = is_lt hi;
+  high_above = is_gt hi;
+}
 
 -- of a zone; without values nothing stands on any side
 abbrev pub ends_of : Bound → Bool → Option (Cell × Cell) → Ends
-ends_of v null None = record { has_null = null; there = false; low_below = false; low_above = false; high_below = false; high_above = false }
+ends_of v null None = record {
+  has_null = null;
+  there = false;
+  low_below = false;
+  low_above = false;
+  high_below = false;
+  high_above = false;
+}
 ends_of v null (Some p) = stand null (order_of p.0 v) (order_of p.1 v)
 
 -- of a column of a chunk
@@ -29,7 +43,14 @@ column_ends x v chunk = let zone = zone_at chunk.zones x in ends_of v zone.has_n
 
 -- the ends of chunk k
 abbrev pub ends_at : EndMasks → ℕ → Ends
-ends_at m k = record { has_null = is_set m.has_null k; there = is_set m.there k; low_below = is_set m.low_below k; low_above = is_set m.low_above k; high_below = is_set m.high_below k; high_above = is_set m.high_above k }
+ends_at m k = record {
+  has_null = is_set m.has_null k;
+  there = is_set m.there k;
+  low_below = is_set m.low_below k;
+  low_above = is_set m.low_above k;
+  high_below = is_set m.high_below k;
+  high_above = is_set m.high_above k;
+}
 
 -- an end lies on one side of the value
 abbrev pub differ : Ends → Bool

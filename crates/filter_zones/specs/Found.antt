@@ -10,7 +10,10 @@ use Rattle.filter_zones.specs.declared.zone.Zone.{Zone}
 
 -- the zone whose range has the least and the greatest value as cells
 abbrev pub zone_from : {T : Type 0} → (Option T → Cell) → Found T → Zone
-zone_from cell found = record { has_null = found.has_null; range = option_map (λ p. (cell (Some p.0), cell (Some p.1))) found.range }
+zone_from cell found = record {
+  has_null = found.has_null;
+  range = option_map (λ p. (cell (Some p.0), cell (Some p.1))) found.range;
+}
 
 -- no value is NULL as a cell, each value is another cell, and these stand as the values do
 pub record IsOrdered {T : Type 0} (cmp : T → T → Ordering) (cell : Option T → Cell) : Type 0 where

@@ -12,7 +12,11 @@ is_set word k = bit_at word k == 1
 
 -- the truths that are possible in chunk k
 abbrev pub truths_at : Masks → ℕ → TruthSet
-truths_at m k = record { can_false = is_set m.can_false k; can_unknown = is_set m.can_unknown k; can_true = is_set m.can_true k }
+truths_at m k = record {
+  can_false = is_set m.can_false k;
+  can_unknown = is_set m.can_unknown k;
+  can_true = is_set m.can_true k;
+}
 
 abbrev pub no_truths : TruthSet
 no_truths = record { can_false = false; can_unknown = false; can_true = false }

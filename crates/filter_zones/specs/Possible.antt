@@ -1,5 +1,6 @@
 -- The truths that a condition may have in a chunk with these zones, and the chunks that a query needs.
-use Rattle.std.specs.Prelude.{◌≡◌, ◌<◌, ℕ, Bool, true, false, not, ◌&&◌, ◌||◌, List, [], length, Option, Some, None, slice_index_or, is_some}
+use Rattle.std.specs.Prelude.{◌≡◌, ◌<◌, ℕ, Bool, true, false, not, ◌&&◌, ◌||◌, List}
+use Rattle.std.specs.Prelude.{[], length, Option, Some, None, slice_index_or, is_some}
 use Rattle.std.specs.Ordering.{is_eq, is_lt, is_le, is_gt, is_ge}
 use Rattle.std.specs.declared.cmp.Ordering.{Ordering}
 use Rattle.table_sets.specs.Sets.{numbers_below, has as has_member}
@@ -48,7 +49,11 @@ may_fail op.Ge lo hi = is_lt lo
 -- a comparison over the cells of a range; where no value stands it is neither true nor false
 abbrev pub ranged : Op → Bound → Bool → Option (Cell × Cell) → TruthSet
 ranged o v null None = record { can_false = false; can_unknown = null; can_true = false }
-ranged o v null (Some p) = record { can_false = may_fail o (order_of p.0 v) (order_of p.1 v); can_unknown = null; can_true = may_hold o (order_of p.0 v) (order_of p.1 v) }
+ranged o v null (Some p) = record {
+  can_false = may_fail o (order_of p.0 v) (order_of p.1 v);
+  can_unknown = null;
+  can_true = may_hold o (order_of p.0 v) (order_of p.1 v);
+}
 
 -- IS NULL, or IS NOT NULL where it is negated
 abbrev pub null_tests : Bool → Zone → TruthSet
@@ -77,7 +82,11 @@ is_pair f a b t = some_truth (λ x. some_truth (λ y. has a x && (has b y && is_
 
 -- the f of a truth of a and one of b, over all pairs
 abbrev pub pairs : (Truth → Truth → Truth) → TruthSet → TruthSet → TruthSet
-pairs f a b = record { can_false = is_pair f a b truth.False; can_unknown = is_pair f a b truth.Unknown; can_true = is_pair f a b truth.True }
+pairs f a b = record {
+  can_false = is_pair f a b truth.False;
+  can_unknown = is_pair f a b truth.Unknown;
+  can_true = is_pair f a b truth.True;
+}
 
 -- the opposites of a set's truths
 abbrev pub opposites : TruthSet → TruthSet
@@ -106,7 +115,8 @@ FitsZones (cond.Not' p a) zones = FitsZones a zones
 
 -- the set has the truth of each row that the zones have room for
 abbrev pub HoldsEachRow : Cond → List Zone → TruthSet → Type 0
-HoldsEachRow c zones truths = (row : List Cell) → FitsRow c row → CoversRow zones row → has truths (truth_of c row) ≡ true
+HoldsEachRow c zones truths = (row : List Cell) → FitsRow c row → CoversRow zones row
+    → has truths (truth_of c row) ≡ true
 
 -- whether a query with this condition, or without one, needs a chunk with these zones: True is possible there
 abbrev pub is_needed : Option Cond → ChunkZones → Bool
@@ -127,4 +137,5 @@ HasNoTrueRow c zones = (row : List Cell) → FitsRow c row → CoversRow zones r
 
 -- no row of a chunk outside the set makes the condition true
 abbrev pub NoneTrueOutside : Cond → List ChunkZones → List ℕ → Type 0
-NoneTrueOutside c chunks members = (k : ℕ) → k < length chunks → has_member members k ≡ false → HasNoTrueRow c (chunk_at chunks k).zones
+NoneTrueOutside c chunks members = (k : ℕ) → k < length chunks → has_member members k ≡ false
+    → HasNoTrueRow c (chunk_at chunks k).zones

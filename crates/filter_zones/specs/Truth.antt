@@ -89,7 +89,8 @@ Fits (Code k) (bound.Code j) = Unit {0}
 Fits (Code k) (bound.Gap p) = Unit {0}
 Fits _ _ = ⊥
 
--- each column of the condition is a place of the row, and each value is of the kind of the cell that it is compared with
+-- each column of the condition is a place of the row, and each value is of the kind of the cell that it is compared
+-- with
 abbrev pub FitsRow : Cond → List Cell → Type 0
 FitsRow (cond.Compare x o v) row = (x < length row) × Fits (cell_at row x) v
 FitsRow (cond.IsNull x negated) row = x < length row

@@ -1,5 +1,6 @@
 -- The zone of a column in a chunk: whether a NULL stands there, and the least and the greatest of its other cells.
-use Rattle.std.specs.Prelude.{◌≡◌, ◌<◌, ◌-◌, ℕ, true, false, not, if◌then◌else◌, nat_lt, List, [], ◌∷◌, length, map, filter, fold, Option, Some, None, All, Contains, slice_index_or, take, drop}
+use Rattle.std.specs.Prelude.{◌≡◌, ◌<◌, ◌-◌, ℕ, true, false, not, if◌then◌else◌, nat_lt, List, [], ◌∷◌, length}
+use Rattle.std.specs.Prelude.{map, filter, fold, Option, Some, None, All, Contains, slice_index_or, take, drop}
 use Rattle.std.specs.List.{list_any, range_with_len}
 use Rattle.std.specs.Ordering.{is_gt, is_le}
 use Rattle.table_core.specs.Cell.{cell_cmp}
@@ -50,7 +51,8 @@ zone_at zones x = slice_index_or zones x (zone_of [])
 -- the cell is one of the range: not below its least cell and not above its greatest
 abbrev pub IsWithin : Cell → Option (Cell × Cell) → Type 0
 IsWithin x None = ⊥
-IsWithin x (Some p) = (is_null p.0 ≡ false) × (is_null p.1 ≡ false) × (is_le (cell_cmp p.0 x) ≡ true) × (is_le (cell_cmp x p.1) ≡ true)
+IsWithin x (Some p) = (is_null p.0 ≡ false) × (is_null p.1 ≡ false) × (is_le (cell_cmp p.0 x) ≡ true)
+    × (is_le (cell_cmp x p.1) ≡ true)
 
 -- the zone has room for the cell
 abbrev pub Covers : Zone → Cell → Type 0

@@ -27,8 +27,8 @@ fn truths_in(cond: &Cond, block: &Block) -> Truths
 
 /// The truths of a condition on each row of a block: of row `i` what `truth_of` says.
 ///
-/// The condition fits each row, as `truth_of` wants it. It visits each part of the condition once for all rows, and takes
-/// no memory.
+/// The condition fits each row, as `truth_of` wants it. It visits each part of the condition once for all rows, and
+/// takes no memory.
 pub fn truths_of(cond: &Cond, block: &Block) -> Truths
     requires { spec.FitsBlock cond.now block.now }
     ensures yes { (i : ℕ) → i < block.now.count → is_set result.yes i

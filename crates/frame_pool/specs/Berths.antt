@@ -39,7 +39,8 @@ berth_view t v = record { pool = t; shape = v.shape; pins = v.pins; fill = v.fil
 -- what the berth keeps in memory of its fill
 abbrev pub Matches : Geometry → Option Progress → Option Fill → Type 0
 Matches z None fill = fill ≡ None
-Matches z (Some p) fill = (words : List ℕ) × (fill ≡ Some (filling p.frame words)) × (p.count ≡ length words) × (p.frame < z.frames)
+Matches z (Some p) fill = (words : List ℕ) × (fill ≡ Some (filling p.frame words)) × (p.count ≡ length words)
+    × (p.frame < z.frames)
 
 abbrev pub IsOpen : Me (Unit {0}) Duty → Option Progress → Type 0
 IsOpen me progress = Matches me.0.shape progress me.0.fill × (me.1 ≡ [])

@@ -41,11 +41,13 @@ pub record FrameFacts (told : Told) (width f control : ℕ) (row : ℕ → ℕ) 
   -- the pins are the number of berths that pin the frame
   pub pins : total (pins_on f) views ≡ state.pins
   -- a frame that a berth pins with piece p is ready or marked with piece p
-  pub held : (j p : ℕ) (v : Duty) → get_elem? views j ≡ some v → pinned f v.pins ≡ Some p → HoldsPiece state.phase × (state.piece ≡ p)
+  pub held : (j p : ℕ) (v : Duty) → get_elem? views j ≡ some v → pinned f v.pins ≡ Some p → HoldsPiece state.phase
+      × (state.piece ≡ p)
   -- it is being filled exactly where one berth fills it, and no other berth does
   pub fills : total (fills_on f) views ≡ fillers_of state.phase
   -- it begins with the words that this berth put
-  pub written : (j : ℕ) (v : Duty) (ws : List ℕ) → get_elem? views j ≡ some v → v.fill ≡ Some (filling f ws) → Begins width ws row
+  pub written : (j : ℕ) (v : Duty) (ws : List ℕ) → get_elem? views j ≡ some v → v.fill ≡ Some (filling f ws)
+      → Begins width ws row
   -- where the content is told, a ready or marked frame has a piece of it, and begins with its words
   pub filled : HoldsPiece state.phase → HasPiece told width state.piece row
 
@@ -56,4 +58,5 @@ place z f i = z.frames + (f * z.words + i)
 -- the table of a pool of this shape, and each of its frames
 pub record Framed (told : Told) (z : Geometry) (s : table.State (Unit {0}) Duty) : Type 0 where
   pub wide : length s.words ≡ z.frames + z.frames * z.words
-  pub frame : (f : ℕ) → f < z.frames → FrameFacts told z.words f (slice_index s.words f) (λ i. slice_index s.words (place z f i)) s.views
+  pub frame : (f : ℕ) → f < z.frames
+      → FrameFacts told z.words f (slice_index s.words f) (λ i. slice_index s.words (place z f i)) s.views

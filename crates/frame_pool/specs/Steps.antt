@@ -1,5 +1,6 @@
 -- What each atomic step on the pool's table tells the berth that made it.
-use Rattle.std.specs.Prelude.{◌≡◌, ◌≢◌, ℕ, ◌+◌, ◌-◌, ◌*◌, ◌^◌, ◌<◌, List, [], ◌∷◌, length, slice_index, slice_get, Some, None, IsSome}
+use Rattle.std.specs.Prelude.{◌≡◌, ◌≢◌, ℕ, ◌+◌, ◌-◌, ◌*◌, ◌^◌, ◌<◌, List, [], ◌∷◌}
+use Rattle.std.specs.Prelude.{length, slice_index, slice_get, Some, None, IsSome}
 use Rattle.atomic_table.specs.Table.{Me, Step}
 use Rattle.frame_core.specs.declared.step.Step as frame
 use Rattle.frame_core.specs.declared.step.Step.TheVariants.{Take, Release, Mark, Claim, Put, Publish, Abandon, Read}
@@ -53,7 +54,8 @@ looked st m found m' = (m' ≡ m) × (found < 2 ^ 50)
 
 -- a compare and exchange of a control word takes the step where it wins, and changes nothing where it loses
 abbrev pub Won : frame.Step → Operation → Sat → ℕ → Sat → Type 0
-Won s st m found m' = (found ≡ st.first → Moved s st.word 0 found st.second m.0 m'.0 × (m'.1 ≡ m.1)) × (found ≢ st.first → m' ≡ m)
+Won s st m found m' = (found ≡ st.first → Moved s st.word 0 found st.second m.0 m'.0 × (m'.1 ≡ m.1))
+    × (found ≢ st.first → m' ≡ m)
 
 -- pin: the piece is that of the word that was expected
 abbrev pub took : Operation → Sat → ℕ → Sat → Type 0
@@ -83,20 +85,24 @@ abandoned st m found m' = Ended Abandon st m found m'
 -- put: a store of the next data word of the frame that the berth fills
 abbrev pub wrote : Operation → Sat → ℕ → Sat → Type 0
 wrote st m found m' =
-    ((f : ℕ) × (old : ℕ) × (ws : List ℕ) × (m.0.fill ≡ Some (filling f ws)) × (st.word ≡ place m.0.shape f (length ws)) × Moved Put f st.first old old m.0 m'.0)
+    ((f : ℕ) × (old : ℕ) × (ws : List ℕ) × (m.0.fill ≡ Some (filling f ws)) × (st.word ≡ place m.0.shape f (length ws))
+    × Moved Put f st.first old old m.0 m'.0)
     × (m' ≡ (record m.0 { fill = grown st.first m.0.fill }, m.1))
 
 -- where the content is told, x is the word i of the piece with which the frame f is pinned
 abbrev pub IsWordOf : Told → List Pin → ℕ → ℕ → ℕ → Type 0
 IsWordOf None pins f i x = Unit {0}
-IsWordOf (Some pieces) pins f i x = (p : ℕ) → pinned f pins ≡ Some p → (ws : List ℕ) × (slice_get pieces p ≡ Some ws) × (i < length ws → x ≡ slice_index ws i)
+IsWordOf (Some pieces) pins f i x = (p : ℕ) → pinned f pins ≡ Some p → (ws : List ℕ) × (slice_get pieces p ≡ Some ws)
+    × (i < length ws → x ≡ slice_index ws i)
 
 -- where the content is told, these words are the word `first` of the piece and each word `step` further on
 abbrev pub AreWordsOf : Told → List Pin → ℕ → ℕ → ℕ → List ℕ → Type 0
-AreWordsOf told pins f first step words = (k : ℕ) → k < length words → IsWordOf told pins f (first + k * step) (slice_index words k)
+AreWordsOf told pins f first step words = (k : ℕ) → k < length words
+    → IsWordOf told pins f (first + k * step) (slice_index words k)
 
 -- read: a load of a data word of a frame that the berth pins
 abbrev pub read_word : Told → Operation → Sat → ℕ → Sat → Type 0
 read_word told st m found m' =
     (m' ≡ m)
-    × ((f i : ℕ) → st.word ≡ place m.0.shape f i → i < m.0.shape.words → IsWordOf told m.0.pins f i found × ((old : ℕ) × Moved Read f 0 old old m.0 m.0))
+    × ((f i : ℕ) → st.word ≡ place m.0.shape f i → i < m.0.shape.words → IsWordOf told m.0.pins f i found
+    × ((old : ℕ) × Moved Read f 0 old old m.0 m.0))

@@ -1,5 +1,6 @@
 //! The kinds of atomic step on a pool's table, and what each tells.
-ghost use Rattle.frame_pool.specs.Steps.{looked, took, released, marked, claimed, published, abandoned, wrote, read_word};
+ghost use Rattle.frame_pool.specs.Steps.{looked, took, released, marked, claimed};
+ghost use Rattle.frame_pool.specs.Steps.{published, abandoned, wrote, read_word};
 ghost use Rattle.frame_pool.specs.Views.{blank, spent};
 
 use crate::content::Content;

@@ -39,9 +39,12 @@ row_step_in layouts.Column columns = 1
 abbrev pub row_step : Piece → ℕ
 row_step q = row_step_in q.layout q.columns
 
--- a bit of the word is set exactly where the column's cell is NULL in a row of the piece, by the word that is told to have its null bit
+-- a bit of the word is set exactly where the column's cell is NULL in a row of the piece, by the word that is told to
+-- have its null bit
 abbrev pub HasNullBits : Told → List Pin → ℕ → Piece → Span → ℕ → ℕ → Type 0
-HasNullBits told pins f q s x nulls = (i : ℕ) → i < s.count → (word : ℕ) × IsWordOf told pins f (null_place q (s.first + i)) word × ((bit_at nulls i == 1) ≡ (bit_at word (null_bit q (s.first + i) x) == 1))
+HasNullBits told pins f q s x nulls = (i : ℕ) → i < s.count → (word : ℕ)
+    × IsWordOf told pins f (null_place q (s.first + i)) word
+    × ((bit_at nulls i == 1) ≡ (bit_at word (null_bit q (s.first + i) x) == 1))
 
 -- a lane of as many words as there are
 abbrev pub lane_of : Holds → ℕ → List ℕ → Lane
@@ -50,10 +53,13 @@ lane_of holds nulls words = record { holds = holds; nulls = nulls; words = words
 -- the lane's cells may stand in a column, and where that is told they are the column's in these rows of a chunk
 pub record IsLaneOf (told : Told) (z : TableShape) (c : ℕ) (s : Span) (x : ℕ) (lane : Lane) : Type 0 where
   pub fits : (i : ℕ) → i < s.count → FitsKind (kind_at z x) (dict_len_at z x) (lane_cell lane i)
-  pub is : (held : Stored) (rows : List (List Cell)) → HoldsTable held told z rows → (i : ℕ) → i < s.count → lane_cell lane i ≡ cell_at (chunk rows z.per c) (s.first + i) x
+  pub is : (held : Stored) (rows : List (List Cell)) → HoldsTable held told z rows → (i : ℕ) → i < s.count
+      → lane_cell lane i ≡ cell_at (chunk rows z.per c) (s.first + i) x
 
--- the columns that were read have in each row of the block what comes into their places in a row of the chunk, and each column that isn't asked for is NULL
-pub record HasRead (told : Told) (z : TableShape) (c first : ℕ) (columns : List ℕ) (read : ℕ → Type 0) (b : BlockView) : Type 0 where
+-- the columns that were read have in each row of the block what comes into their places in a row of the chunk, and each
+-- column that isn't asked for is NULL
+pub record HasRead (told : Told) (z : TableShape) (c first : ℕ) (columns : List ℕ) (read : ℕ → Type 0)
+    (b : BlockView) : Type 0 where
   pub places : (i x : ℕ) → i < b.count → read x → IsForPlace told z c (first + i) columns x (in_place (row_at b i) x)
   pub others : EachRow (λ i cells. OthersAreNull columns cells) b
 

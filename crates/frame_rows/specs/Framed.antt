@@ -17,4 +17,5 @@ pub record IsFramed (z : TableShape) (pool : PoolView) (b : BerthView) (p : Fram
 
 -- the pool's berth pins the frame of each slot with the slot's piece
 abbrev pub ArePinned : PoolView → BerthView → List (ℕ × ℕ) → Type 0
-ArePinned pool b slots = (i : ℕ) → i < length slots → IsAt pool b (slot_at slots i).0 × (pinned (slot_at slots i).0 b.pins ≡ Some (slot_at slots i).1)
+ArePinned pool b slots = (i : ℕ) → i < length slots → IsAt pool b (slot_at slots i).0
+    × (pinned (slot_at slots i).0 b.pins ≡ Some (slot_at slots i).1)

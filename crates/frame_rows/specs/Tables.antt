@@ -12,8 +12,10 @@ use Rattle.piece_format.specs.Words.{piece_words}
 use Rattle.table_core.specs.declared.cell.Cell.{Cell}
 use Rattle.table_pieces.specs.Putting.{ReadsBack, piece_bytes}
 
--- the depot holds the bytes of a piece of these rows, and the frames' content has its words; the bytes are as long as the words, which they give back, and so they do the cells; no word breaks the rules
-pub record IsPieceThere (z : TableShape) (rows : List (List Cell)) (held : Pieces) (content : List (List ℕ)) (p : ℕ) : Type 0 where
+-- the depot holds the bytes of a piece of these rows, and the frames' content has its words; the bytes are as long as
+-- the words, which they give back, and so they do the cells; no word breaks the rules
+pub record IsPieceThere (z : TableShape) (rows : List (List Cell)) (held : Pieces) (content : List (List ℕ))
+    (p : ℕ) : Type 0 where
   pub bytes : bytes_of held p ≡ Some (piece_bytes z rows p)
   pub words : slice_get content p ≡ Some (piece_words z rows p)
   pub long : length (piece_bytes z rows p) ≡ 8 * words_in (piece_at z p)
@@ -21,7 +23,8 @@ pub record IsPieceThere (z : TableShape) (rows : List (List Cell)) (held : Piece
   pub gives_back : GivesBack z rows p (word_of (piece_bytes z rows p))
   pub sound : NoneBroken z (piece_at z p) (word_of (piece_bytes z rows p)) (words_in (piece_at z p))
 
--- the depot tells that it holds each piece of a table with these rows, and the frames' content is told as the words of these pieces
+-- the depot tells that it holds each piece of a table with these rows, and the frames' content is told as the words of
+-- these pieces
 abbrev pub HoldsTable : Stored → Told → TableShape → List (List Cell) → Type 0
 HoldsTable None told z rows = ⊥
 HoldsTable (Some held) None z rows = ⊥

@@ -16,7 +16,8 @@ use piece_format::Shape;
 use row_blocks::{Block, Holds, Lane};
 use table_core::ColumnSet;
 
-/// Reads these columns of some rows of a framed piece in the row layout. The words with the rows' null bits are read once.
+/// Reads these columns of some rows of a framed piece in the row layout. The words with the rows' null bits are read
+/// once.
 pub fn put_columns<C: Content>(
     pool: &Pool<C>,
     shape: &Shape,

@@ -130,7 +130,8 @@ pub fn cell_in_frame<C: Content>(
     cell_by(pool, shape, berth, framed, nulls, row, column)
 }
 
-/// What comes into the place of a column that a framed piece has: its cell where it is one of these columns, and else NULL.
+/// What comes into the place of a column that a framed piece has: its cell where it is one of these columns, and else
+/// NULL.
 pub(crate) fn cell_for<C: Content>(
     pool: &Pool<C>,
     shape: &Shape,

@@ -1,4 +1,5 @@
-//! Rows of a table's chunks, read word by word from frames while they are pinned: a cell, a row, or up to 64 rows at once.
+//! Rows of a table's chunks, read word by word from frames while they are pinned: a cell, a row, or up to 64 rows at
+//! once.
 //! It knows what the frames are told of a table, and nothing of the manager that filled them.
 //!
 //!     pin_all(rt, &pool, &mut berth, &given.slots);

@@ -1,6 +1,7 @@
 -- What is asked of a next entry, as tests.
 use Rattle.scan_story.specs.Counting.{count_among}
-use Rattle.std.specs.Prelude.{◌==◌, ◌+◌, ◌*◌, ◌&&◌, ◌||◌, not, true, false, ℕ, Bool, List, [], ◌∷◌, Option, None, Some, is_none, is_some, nat_lt, nat_le, length}
+use Rattle.std.specs.Prelude.{◌==◌, ◌+◌, ◌*◌, ◌&&◌, ◌||◌, not, true, false, ℕ, Bool, List, []}
+use Rattle.std.specs.Prelude.{◌∷◌, Option, None, Some, is_none, is_some, nat_lt, nat_le, length}
 use Rattle.std.specs.List.{list_any}
 use Rattle.scan_story.specs.declared.ratio.Ratio.{Ratio}
 use Rattle.scan_story.specs.declared.entry.Why.{Why}
@@ -11,7 +12,8 @@ use Rattle.scan_story.specs.declared.setting.Setting.{Setting}
 use Rattle.scan_story.specs.declared.setting.PolicyName.{PolicyName}
 use Rattle.scan_story.specs.declared.setting.PolicyName.TheVariants.{Relevance, Elevator, Normal, Attach}
 use Rattle.scan_story.specs.declared.entry.Entry.{Entry}
-use Rattle.scan_story.specs.declared.entry.Entry.TheVariants.{Register, Plan, Evict, Fill, Filled, Failed, Deliver, Release, Stop, End}
+use Rattle.scan_story.specs.declared.entry.Entry.TheVariants.{Register, Plan, Evict, Fill, Filled}
+use Rattle.scan_story.specs.declared.entry.Entry.TheVariants.{Failed, Deliver, Release, Stop, End}
 use Rattle.scan_story.specs.Counting.{has, any_below, is_number}
 use Rattle.scan_story.specs.Setting.{worker_of}
 use Rattle.scan_story.specs.Whole.{has_taken, had_piece}
@@ -51,13 +53,15 @@ evicts_for s h w l = l.worker == w && is_fresh l && nat_lt (free_frames s h) (le
 
 abbrev pub fills_for : Setting → History → ℕ → ℕ → ℕ → Load → Bool
 fills_for s h w f p l =
-    l.worker == w && nat_le (length l.missing) (free_frames s h + length l.begun) && nat_lt f s.frames && is_free s h f && has l.missing p && not (begins l p)
+    l.worker == w && nat_le (length l.missing) (free_frames s h + length l.begun) && nat_lt f s.frames && is_free s h f
+    && has l.missing p && not (begins l p)
 
 abbrev pub filled_for : ℕ → ℕ → ℕ → Load → Bool
 filled_for w f p l = l.worker == w && begins_in l f p && not (has l.filled p) && all_begun l
 
 abbrev pub fails_for : ℕ → ℕ → ℕ → Why → Load → Bool
-fails_for w q p why l = l.worker == w && l.query == q && begins l p && not (has l.filled p) && all_begun l && is_reason why
+fails_for w q p why l = l.worker == w && l.query == q && begins l p && not (has l.filled p) && all_begun l
+    && is_reason why
 
 abbrev pub with_load : Option Load → (Load → Bool) → Bool
 with_load None p = false
@@ -68,8 +72,10 @@ is_hold q c None = false
 is_hold q c (Some o) = o.query == q && o.chunk == c
 
 abbrev pub allows : Setting → History → Entry → Bool
-allows s h (Register w q) = not (is_registered h q) && is_number w (worker_of s q) && not (has_active s h w) && is_idle s h w
-allows s h (Plan w q c) = nat_lt w s.workers && is_none (underway s h) && is_none (held_by h w) && is_starved s h q && is_target s h q c
+allows s h (Register w q) = not (is_registered h q) && is_number w (worker_of s q) && not (has_active s h w)
+    && is_idle s h w
+allows s h (Plan w q c) = nat_lt w s.workers && is_none (underway s h) && is_none (held_by h w) && is_starved s h q
+    && is_target s h q c
 allows s h (Evict w c) = with_load (underway s h) (evicts_for s h w) && is_victim s h c
 allows s h (Fill w f p) = with_load (underway s h) (fills_for s h w f p)
 allows s h (Filled w f p) = with_load (underway s h) (filled_for w f p)
@@ -86,7 +92,8 @@ ratio_at_most a b = nat_le (a.num * b.den) (b.num * a.den)
 
 -- a is at most as good as b
 abbrev pub query_at_most : PolicyName → List ℕ → Setting → History → ℕ → ℕ → Bool
-query_at_most Relevance cursor s h a b = nat_le (waiting s h a + running s h * needed s h b) (waiting s h b + running s h * needed s h a)
+query_at_most Relevance cursor s h a b = nat_le (waiting s h a + running s h * needed s h b)
+    (waiting s h b + running s h * needed s h a)
 query_at_most Elevator cursor s h a b = nat_le (reach s h cursor b) (reach s h cursor a)
 query_at_most Normal cursor s h a b = nat_le (waiting s h a) (waiting s h b)
 query_at_most Attach cursor s h a b = nat_le (waiting s h a) (waiting s h b)
@@ -101,7 +108,8 @@ abbrev pub delivery_at_most : PolicyName → List ℕ → Setting → History �
 delivery_at_most Relevance cursor s h q a b = ratio_at_most (use_ratio s h q a) (use_ratio s h q b)
 delivery_at_most Elevator cursor s h q a b = nat_le (dist s cursor b) (dist s cursor a)
 delivery_at_most Normal cursor s h q a b = nat_le b a
-delivery_at_most Attach cursor s h q a b = nat_le (dist_from s (start_of cursor q) b) (dist_from s (start_of cursor q) a)
+delivery_at_most Attach cursor s h q a b = nat_le (dist_from s (start_of cursor q) b)
+    (dist_from s (start_of cursor q) a)
 
 abbrev pub victim_at_most : PolicyName → List ℕ → Setting → History → ℕ → ℕ → Bool
 victim_at_most Relevance cursor s h a b = ratio_at_most (keep_ratio s h b) (keep_ratio s h a)
@@ -121,7 +129,8 @@ is_best is_candidate at_most n x = is_candidate x && not (any_below (λ y. is_ca
 
 abbrev pub is_best_query : List ℕ → Setting → History → ℕ → Bool
 is_best_query cursor s h q =
-    is_trigger s h q && not (list_any (λ n. is_trigger s h n.query && not (query_at_most s.policy cursor s h n.query q)) s.needs)
+    is_trigger s h q && not
+    (list_any (λ n. is_trigger s h n.query && not (query_at_most s.policy cursor s h n.query q)) s.needs)
 
 abbrev pub is_best_load : List ℕ → Setting → History → ℕ → ℕ → Bool
 is_best_load cursor s h q c = is_best (is_target s h q) (load_at_most s.policy cursor s h q) s.chunks c
@@ -155,7 +164,8 @@ is_undisturbed s (_ ∷ h) = is_undisturbed s h
 
 abbrev pub is_licensed : Bool → ℕ → ℕ → History → Bool
 is_licensed told from to [] = nat_le from to
-is_licensed told from to (Failed w q p (Fault before after) ∷ h) = nat_le after to && is_rise before after && is_licensed told from before h
+is_licensed told from to (Failed w q p (Fault before after) ∷ h) = nat_le after to && is_rise before after
+    && is_licensed told from before h
 is_licensed told from to (Failed w q p (Damage word) ∷ h) = not told && is_licensed told from to h
 is_licensed told from to (_ ∷ h) = is_licensed told from to h
 
@@ -165,4 +175,5 @@ is_finished h q = count_among (registers q) h == 1 && (is_ended h q || is_stoppe
 
 abbrev pub is_complete : Setting → History → Bool
 is_complete s h =
-    list_all (λ n. is_finished h n.query) s.needs && is_none (underway s h) && not (any_below (λ w. is_some (held_by h w)) s.workers)
+    list_all (λ n. is_finished h n.query) s.needs && is_none (underway s h)
+    && not (any_below (λ w. is_some (held_by h w)) s.workers)

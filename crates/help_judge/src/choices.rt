@@ -3,11 +3,13 @@ ghost use Rattle.std.specs.List.{list_any};
 ghost use Rattle.scan_story.specs.Counting.{any_below};
 ghost use Rattle.scan_story.specs.Views.{past};
 ghost use Rattle.scan_story.specs.Loads.{underway};
-ghost use Rattle.scan_story.specs.Numbers.{waiting, running, needed, interested, close, cached, missing_for, overlap, starved_overlap};
+ghost use Rattle.scan_story.specs.Numbers.{waiting, running, needed, interested, close};
+ghost use Rattle.scan_story.specs.Numbers.{cached, missing_for, overlap, starved_overlap};
 ghost use Rattle.scan_story.specs.MayFollow.{is_target, is_ready, is_trigger, is_victim};
 ghost use Rattle.scan_story.specs.Policies.{dist_from, dist, reach, place_in, start_of, is_least_close};
 ghost use Rattle.help_views.specs.Small.{IsSmall};
-ghost use Rattle.help_judge.specs.Tests.{query_at_most, load_at_most, delivery_at_most, victim_at_most, is_victim_of, is_best_query, is_best_load, is_best_delivery, is_best_victim, chooses};
+ghost use Rattle.help_judge.specs.Tests.{query_at_most, load_at_most, delivery_at_most, victim_at_most, is_victim_of};
+ghost use Rattle.help_judge.specs.Tests.{is_best_query, is_best_load, is_best_delivery, is_best_victim, chooses};
 
 use help_views::{
     at, cached, close, interested, is_ready, is_target, is_trigger, is_victim, missing_for, needed,

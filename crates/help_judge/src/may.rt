@@ -6,7 +6,8 @@ ghost use Rattle.scan_story.specs.Counting.{is_number};
 ghost use Rattle.scan_story.specs.Setting.{worker_of};
 ghost use Rattle.scan_story.specs.Loads.{underway, free_frames};
 ghost use Rattle.help_views.specs.Small.{IsSmall};
-ghost use Rattle.help_judge.specs.Tests.{is_idle, is_active_on, has_active, is_rise, is_reason, is_fresh, evicts_for, fills_for, filled_for, fails_for, with_load, is_hold, allows};
+ghost use Rattle.help_judge.specs.Tests.{is_idle, is_active_on, has_active, is_rise, is_reason, is_fresh};
+ghost use Rattle.help_judge.specs.Tests.{evicts_for, fills_for, filled_for, fails_for, with_load, is_hold, allows};
 
 use help_views::{
     all_begun, begins, begins_in, free_frames, has_filled, held_by, is_active, is_free, is_load_by,

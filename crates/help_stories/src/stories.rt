@@ -46,7 +46,8 @@ release 0 2 2
 end 0 2
 ";
 
-/// Two queries over six chunks, one after the other, with four frames: the first one, which is the same under each policy.
+/// Two queries over six chunks, one after the other, with four frames: the first one, which is the same under each
+/// policy.
 pub const FIRST_OF_SIX: &str = "register 0 1
 plan 0 1 0
 fill 0 0 0

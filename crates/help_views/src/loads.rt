@@ -2,7 +2,9 @@ ghost use Rattle.std.specs.List.{list_any};
 ghost use Rattle.std.specs.Prelude.{◌==◌, ◌≡◌, ℕ, IfOk, length};
 ghost use Rattle.scan_story.specs.Views.{past};
 ghost use Rattle.scan_story.specs.Counting.{has};
-ghost use Rattle.scan_story.specs.Loads.{missing_pieces, begin_fill, end_fill, is_open, if_open, underway, begins, begins_in, all_begun, is_load_by, is_load_of, fills_frame, is_free, free_frames};
+ghost use Rattle.scan_story.specs.Loads.{missing_pieces, begin_fill, end_fill, is_open, if_open};
+ghost use Rattle.scan_story.specs.Loads.{underway, begins, begins_in, all_begun, is_load_by};
+ghost use Rattle.scan_story.specs.Loads.{is_load_of, fills_frame, is_free, free_frames};
 ghost use Rattle.std.specs.Option.{option_map};
 ghost use Rattle.help_views.specs.Small.{IsSmall};
 

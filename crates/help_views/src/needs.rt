@@ -2,7 +2,8 @@ ghost use Rattle.std.specs.Prelude.{◌≡◌, ◌==◌, ◌*◌, ◌+◌, ◌/�
 ghost use Rattle.std.specs.Option.{option_copied};
 ghost use Rattle.std.specs.List.{list_any, list_all};
 ghost use Rattle.scan_story.specs.Counting.{has};
-ghost use Rattle.scan_story.specs.Setting.{need_of, worker_of, asks_for, groups_read, reads_group, shares, piece_at, chunk_of};
+ghost use Rattle.scan_story.specs.Setting.{need_of, worker_of, asks_for, groups_read};
+ghost use Rattle.scan_story.specs.Setting.{reads_group, shares, piece_at, chunk_of};
 ghost use Rattle.help_views.specs.Small.{IsSmall};
 
 use scan_story::{Need, Setting};

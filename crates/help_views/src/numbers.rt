@@ -1,6 +1,7 @@
 ghost use Rattle.std.specs.Prelude.{◌≡◌, ◌<◌, ◌≤◌, ℕ, length, IfSome};
 ghost use Rattle.scan_story.specs.Views.{past};
-ghost use Rattle.scan_story.specs.Numbers.{needed, available, is_starved, begins_wait, since_wait, holds_for, waiting, running, interested, close, cached, overlap, starved_overlap};
+ghost use Rattle.scan_story.specs.Numbers.{needed, available, is_starved, begins_wait, since_wait, holds_for};
+ghost use Rattle.scan_story.specs.Numbers.{waiting, running, interested, close, cached, overlap, starved_overlap};
 ghost use Rattle.std.specs.Prelude.{◌&&◌, nat_le};
 ghost use Rattle.scan_story.specs.Views.{is_active, is_available, needs_chunk};
 ghost use Rattle.scan_story.specs.Setting.{shares};

@@ -1,5 +1,7 @@
 ghost use Rattle.std.specs.Prelude.{◌≡◌, ℕ};
-ghost use Rattle.scan_story.specs.Views.{registers, stops, ends, delivers, is_registered, is_stopped, is_ended, is_active, needs_chunk, held_by, is_held, piece_in, is_framed, is_wholly_framed, is_available, past};
+ghost use Rattle.scan_story.specs.Views.{registers, stops, ends, delivers, is_registered, is_stopped};
+ghost use Rattle.scan_story.specs.Views.{is_ended, is_active, needs_chunk, held_by, is_held};
+ghost use Rattle.scan_story.specs.Views.{piece_in, is_framed, is_wholly_framed, is_available, past};
 ghost use Rattle.std.specs.List.{list_any};
 ghost use Rattle.scan_story.specs.Counting.{is_number};
 ghost use Rattle.scan_story.specs.Views.{is_hold_of};

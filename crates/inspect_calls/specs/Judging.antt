@@ -49,7 +49,8 @@ abbrev pub IsJudgedBy : Request → Held → List ℕ → ℕ → ℕ → Reply 
 IsJudgedBy r held name before now reply (Ok i) = IsJudgedFrom i r.policy (is_some r.scratch) held name before now reply
 IsJudgedBy r held name before now reply (Err stop) = IsStop stop reply
 
--- WHAT IS SAID to `judge`: first what the table and the batch give is read, then OUTPUT from a shelf that holds the same
+-- WHAT IS SAID to `judge`: first what the table and the batch give is read, then OUTPUT from a shelf that holds the
+-- same
 pub record IsJudgement (r : Request) (held : Held) (name : List ℕ) (before now : ℕ) (reply : Reply) : Type 0 where
   pub between : ℕ
   pub then_held : Held

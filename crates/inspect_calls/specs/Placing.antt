@@ -54,7 +54,8 @@ spot_lines batch span place =
     ++ hint_lines place
 
 -- the place of the refusal is told
-pub record IsPlaceTold (batch : List ℕ) (span : Span) (columns : List Column) (why : StatementRefusal) (told : List ℕ) : Type 0 where
+pub record IsPlaceTold (batch : List ℕ) (span : Span) (columns : List Column) (why : StatementRefusal)
+    (told : List ℕ) : Type 0 where
   pub place : Place
   pub is : IsStatementPlace (part batch span) columns why place
   pub lines : told ≡ spot_lines batch span place

@@ -60,4 +60,6 @@ rank_text (rank.Fitness close key) = codes "close to " ++ (decimal close ++ (cod
 abbrev pub reason_text : Reason → List ℕ
 reason_text (reason.Broken rule) = codes "may not come: " ++ rule_words rule
 reason_text (reason.Outdone b) =
-    choice_words b.choice ++ (codes " " ++ (decimal b.number ++ (codes ", which was better: " ++ (rank_text b.rank ++ (codes " before " ++ rank_text b.taken)))))
+    choice_words b.choice
+    ++ (codes " " ++ (decimal b.number
+    ++ (codes ", which was better: " ++ (rank_text b.rank ++ (codes " before " ++ rank_text b.taken)))))

@@ -29,8 +29,10 @@ TakesNothing o = o.new ≡ o.old
 
 -- a text that tells of a fault went to standard error, any other to standard output, whose failing is status 6
 abbrev pub IsSaidAs : Bool → List ℕ → ℕ → Over → Over → ℕ → Type 0
-IsSaidAs true text wanted out err status = TakesNothing out × (Takes err text ⊎ TakesPrefix err text) × (status ≡ wanted)
-IsSaidAs false text wanted out err status = TakesNothing err × ((Takes out text × (status ≡ wanted)) ⊎ (TakesPrefix out text × (status ≡ 6)))
+IsSaidAs true text wanted out err status = TakesNothing out × (Takes err text ⊎ TakesPrefix err text)
+    × (status ≡ wanted)
+IsSaidAs false text wanted out err status = TakesNothing err
+    × ((Takes out text × (status ≡ wanted)) ⊎ (TakesPrefix out text × (status ≡ 6)))
 
 -- WHAT IS WRITTEN of a reply to the two outputs, and the status
 abbrev pub IsSaid : Reply → Over → Over → ℕ → Type 0

@@ -20,7 +20,8 @@ abbrev pub IsSettingBy : Request → Reply → Result Inputs Stop → Type 0
 IsSettingBy r reply (Ok i) = IsSettingTold (run_setting i r.policy) reply
 IsSettingBy r reply (Err stop) = IsStop stop reply
 
--- WHAT IS SAID to `setting`: what the table and the batch give is read, as for `judge`, and the setting of the run is told
+-- WHAT IS SAID to `setting`: what the table and the batch give is read, as for `judge`, and the setting of the run is
+-- told
 pub record IsSettingSaid (r : Request) (held : Held) (before now : ℕ) (reply : Reply) : Type 0 where
   pub inputs : Result Inputs Stop
   pub read : IsRead r held before now inputs

@@ -26,7 +26,8 @@ pub record CanTell (columns : List Column) (dicts : List Fields) (zones : List C
   pub zoned : AreZonesOf columns dicts zones
 
 -- a statement that has a plan: its note is told
-pub record IsNoteTold (columns : List Column) (dicts : List Fields) (zones : List ChunkZones) (text : List ℕ) (number : ℕ) (told : List ℕ) : Type 0 where
+pub record IsNoteTold (columns : List Column) (dicts : List Fields) (zones : List ChunkZones) (text : List ℕ)
+    (number : ℕ) (told : List ℕ) : Type 0 where
   pub plan : Plan
   pub note : Note
   pub planned : IsPlanFor text columns dicts plan
@@ -34,7 +35,8 @@ pub record IsNoteTold (columns : List Column) (dicts : List Fields) (zones : Lis
   pub lines : told ≡ note_text number columns note
 
 -- a refusal: the line that a run prints of it, and its place
-pub record IsRefusalTold (columns : List Column) (batch : List ℕ) (number : ℕ) (span : Span) (why : StatementRefusal) (told : List ℕ) : Type 0 where
+pub record IsRefusalTold (columns : List Column) (batch : List ℕ) (number : ℕ) (span : Span) (why : StatementRefusal)
+    (told : List ℕ) : Type 0 where
   pub place : List ℕ
   pub placed : IsPlaceTold batch span columns why place
   pub lines : told ≡ refusal_line number (statement_words why) ++ place
@@ -50,13 +52,16 @@ IsToldAs false columns dicts zones batch number span told = IsNoteTold columns d
 IsToldAs true columns dicts zones batch number span told = IsRefused columns batch number span told
 
 -- what is told of a statement stands at the end
-pub record IsTold (columns : List Column) (dicts : List Fields) (zones : List ChunkZones) (batch : List ℕ) (number : ℕ) (span : Span) (refused : Bool) (old new : List ℕ) : Type 0 where
+pub record IsTold (columns : List Column) (dicts : List Fields) (zones : List ChunkZones) (batch : List ℕ) (number : ℕ)
+    (span : Span) (refused : Bool) (old new : List ℕ) : Type 0 where
   pub told : List ℕ
   pub is : IsToldAs refused columns dicts zones batch number span told
   pub behind : new ≡ old ++ told
 
 -- each statement is told, one behind the other, and whether one of them is refused
-abbrev pub AreTold : List Column → List Fields → List ChunkZones → List ℕ → ℕ → List Span → Bool → List ℕ → List ℕ → Type 0
+abbrev pub AreTold : List Column → List Fields → List ChunkZones → List ℕ → ℕ → List Span → Bool → List ℕ → List ℕ
+    → Type 0
 AreTold columns dicts zones batch number [] refused old new = (refused ≡ false) × (new ≡ old)
-AreTold columns dicts zones batch number (span ∷ spans) refused old new = (between : List ℕ) × (first others : Bool) × IsTold columns dicts zones batch number span first old between
+AreTold columns dicts zones batch number (span ∷ spans) refused old new = (between : List ℕ) × (first others : Bool)
+    × IsTold columns dicts zones batch number span first old between
     × AreTold columns dicts zones batch (suc number) spans others between new × (refused ≡ (first || others))

@@ -15,14 +15,19 @@ with_number words n before = before ++ (words ++ decimal n)
 -- how many entries of each kind there are
 abbrev pub counts_text : Counts → List ℕ → List ℕ
 counts_text c before =
-    with_number (codes ", end ") c.ends (with_number (codes ", stop ") c.stops (with_number (codes ", release ") c.releases (with_number (codes ", deliver ") c.delivers
-    (with_number (codes ", failed ") c.failed (with_number (codes ", filled ") c.filled (with_number (codes ", fill ") c.fills (with_number (codes ", evict ") c.evicts
+    with_number (codes ", end ") c.ends
+    (with_number (codes ", stop ") c.stops
+    (with_number (codes ", release ") c.releases (with_number (codes ", deliver ") c.delivers
+    (with_number (codes ", failed ") c.failed
+    (with_number (codes ", filled ") c.filled
+    (with_number (codes ", fill ") c.fills (with_number (codes ", evict ") c.evicts
     (with_number (codes ", plan ") c.plans (with_number (codes "\nregister ") c.registers before)))))))))
 
 -- how many entries there are and how many reads, and how many reads separate scans would make
 abbrev pub legal_text : ℕ → ℕ → ℕ → Counts → List ℕ
 legal_text entries reads apart c =
-    counts_text c (with_number (codes " reads, at most ") apart (with_number (codes ", ") reads (codes "legal: " ++ (decimal entries ++ codes " entries")))) ++ codes "\n"
+    counts_text c (with_number (codes " reads, at most ") apart
+    (with_number (codes ", ") reads (codes "legal: " ++ (decimal entries ++ codes " entries")))) ++ codes "\n"
 
 -- the line of a statement for which nothing stands
 abbrev pub unanswered_text : ℕ → ℕ → List ℕ

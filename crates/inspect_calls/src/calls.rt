@@ -30,7 +30,9 @@ pub fn inspect<F: Shelf, O: Sink, E: Sink, R: Threads + Sync>(
     err: &mut E,
 ) -> u8
     ensures { (reply : Reply)
-        × IsReplyTo (texts words.now) (F.held shelf.old) (F.faults shelf.old) (F.faults shelf.new) reply × IsSaid reply (over (O.taken out.old) (O.taken out.new) (O.faults out.old) (O.faults out.new)) (over (E.taken err.old) (E.taken err.new) (E.faults err.old) (E.faults err.new)) result }
+        × IsReplyTo (texts words.now) (F.held shelf.old) (F.faults shelf.old) (F.faults shelf.new) reply
+        × IsSaid reply (over (O.taken out.old) (O.taken out.new) (O.faults out.old) (O.faults out.new))
+        (over (E.taken err.old) (E.taken err.new) (E.faults err.old) (E.faults err.new)) result }
 {
     let reply = reply_to(rt, alloc, keys, words, shelf);
     say(&reply, out, err)

@@ -28,7 +28,8 @@ pub(crate) fn judgement<F: Shelf, R: Threads + Sync>(
     shelf: &mut F,
 ) -> Reply
     requires limits { IsWithinLimits (request_view run.now) }
-    ensures { IsJudgement (request_view run.now) (F.held shelf.old) name.now (F.faults shelf.old) (F.faults shelf.new) result }
+    ensures { IsJudgement (request_view run.now) (F.held shelf.old) name.now (F.faults shelf.old)
+        (F.faults shelf.new) result }
 {
     match inputs_of(rt, alloc, keys, run, shelf) {
         Ok(inputs) => judged_from(alloc, &inputs, run, name, shelf),
@@ -45,7 +46,8 @@ fn judged_from<F: Shelf>(
     shelf: &mut F,
 ) -> Reply
     requires can { CanRun inputs.now }
-    ensures { IsJudgedFrom inputs.now run.now.policy (is_some (request_view run.now).scratch) (F.held shelf.old) name.now
+    ensures { IsJudgedFrom inputs.now run.now.policy (is_some (request_view run.now).scratch)
+        (F.held shelf.old) name.now
         (F.faults shelf.old) (F.faults shelf.new) result }
 {
     match read_output(alloc, name, shelf) {

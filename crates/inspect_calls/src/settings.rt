@@ -19,7 +19,8 @@ use std::alloc::Global;
 use std::hash::RandomState;
 use std::thread::Threads;
 
-/// What is said to `setting`: the text of the setting in which `judge` judges the story of the run; or why there is none.
+/// What is said to `setting`: the text of the setting in which `judge` judges the story of the run; or why there is
+/// none.
 pub(crate) fn setting_said<F: Shelf, R: Threads + Sync>(
     rt: &R,
     alloc: Global,

@@ -26,7 +26,8 @@ pub(crate) fn tell_statements(
     requires can { CanTell schema.now dicts.now zones.now }
     requires there { All (IsSpanIn (length batch.now)) spans.now }
     requires short { length batch.now ≤ 1048576 }
-    ensures { IfOk result (λ refused. AreTold schema.now dicts.now zones.now batch.now number spans.now refused out.old out.new) }
+    ensures { IfOk result
+        (λ refused. AreTold schema.now dicts.now zones.now batch.now number spans.now refused out.old out.new) }
 {
     match spans {
         [] => Ok(false),
@@ -69,7 +70,8 @@ fn tell_statement(
     requires can { CanTell schema.now dicts.now zones.now }
     requires there { IsSpanIn (length batch.now) span }
     requires short { length batch.now ≤ 1048576 }
-    ensures { IfOk result (λ refused. IsTold schema.now dicts.now zones.now batch.now number span refused out.old out.new) }
+    ensures { IfOk result
+        (λ refused. IsTold schema.now dicts.now zones.now batch.now number span refused out.old out.new) }
 {
     let text = &batch[span.from as usize..span.to as usize];
     match note_of(alloc, text, schema, dicts, zones) {

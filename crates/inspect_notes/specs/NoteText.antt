@@ -67,4 +67,6 @@ chunks_text needed chunks = codes "\n  chunks " ++ (decimal needed ++ (codes " o
 -- THE LINES of the statement of this number
 abbrev pub note_text : ℕ → List Column → Note → List ℕ
 note_text number columns n =
-    statement_text number n.text ++ (names_text columns (codes "  reads ") n.columns.items ++ (chunks_text n.needed n.chunks ++ flat_map (obstacle_line columns) n.obstacles.items))
+    statement_text number n.text
+    ++ (names_text columns (codes "  reads ") n.columns.items
+    ++ (chunks_text n.needed n.chunks ++ flat_map (obstacle_line columns) n.obstacles.items))

@@ -13,7 +13,8 @@ use Rattle.inspect_notes.specs.Obstacles.{obstacles_of}
 abbrev pub IsQuery : List ℕ → Type 0
 IsQuery bytes = (q : QueryTree) × HasQuery bytes q
 
--- THE NOTE of a text with this plan over chunks with these zones. A run with the plan asks for the same columns and chunks
+-- THE NOTE of a text with this plan over chunks with these zones. A run with the plan asks for the same columns and
+-- chunks
 pub record IsNote (bytes : List ℕ) (p : Plan) (zones : List ChunkZones) (n : Note) : Type 0 where
   pub query : QueryTree
   pub read : HasQuery bytes query

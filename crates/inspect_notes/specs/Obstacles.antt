@@ -1,5 +1,6 @@
 -- What stands in the way of leaving chunks out.
-use Rattle.std.specs.Prelude.{◌==◌, ◌&&◌, ℕ, Bool, true, false, not, nat_lt, List, [], ◌∷◌, map, length, Option, Some, None, if◌then◌else◌}
+use Rattle.std.specs.Prelude.{◌==◌, ◌&&◌, ℕ, Bool, true, false, not, nat_lt, List, []}
+use Rattle.std.specs.Prelude.{◌∷◌, map, length, Option, Some, None, if◌then◌else◌}
 use Rattle.filter_zones.specs.Possible.{needed}
 use Rattle.filter_zones.specs.declared.cond.Bound.{Bound}
 use Rattle.filter_zones.specs.declared.cond.Bound.TheVariants as bound

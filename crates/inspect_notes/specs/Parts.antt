@@ -10,8 +10,9 @@ use Rattle.filter_zones.specs.declared.zone.ChunkZones.{ChunkZones}
 abbrev pub Part : Type 0
 Part = Bool × Cond
 
--- THE PARTS THAT A CONDITION DEMANDS of a row so that it has the truth asked of it, from left to right: comparisons, tests for
--- NULL, and choices, of which one side is enough. A choice is an OR that is to be True, or an AND that is to be False
+-- THE PARTS THAT A CONDITION DEMANDS of a row so that it has the truth asked of it, from left to right: comparisons,
+-- tests for NULL, and choices, of which one side is enough. A choice is an OR that is to be True, or an AND that is to
+-- be False
 abbrev pub demanded : Bool → Cond → List Part
 demanded want (cond.Compare x o v) = (want, cond.Compare x o v) ∷ []
 demanded want (cond.IsNull x negated) = (want, cond.IsNull x negated) ∷ []

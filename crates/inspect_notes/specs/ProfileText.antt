@@ -23,14 +23,16 @@ texts_text (Some n) = codes ", " ++ (decimal n ++ codes " distinct")
 
 abbrev pub ends_text : Kind → Fields → Option (Cell × Cell) → List ℕ
 ends_text kind dict None = codes ", no value"
-ends_text kind dict (Some ends) = codes ", least " ++ (value_text kind (value_in dict ends.0) ++ (codes ", greatest " ++ value_text kind (value_in dict ends.1)))
+ends_text kind dict (Some ends) = codes ", least "
+    ++ (value_text kind (value_in dict ends.0) ++ (codes ", greatest " ++ value_text kind (value_in dict ends.1)))
 
 -- a word and a number
 abbrev pub word_number : List ℕ → ℕ → List ℕ
 word_number word n = word ++ decimal n
 
 abbrev pub strangers_text : ℕ → List ℕ → ℕ → List ℕ
-strangers_text row first count = word_number (codes ", TEXT for ") count ++ (codes " that are no numbers, first " ++ (quoted first ++ word_number (codes " in row ") row))
+strangers_text row first count = word_number (codes ", TEXT for ") count
+    ++ (codes " that are no numbers, first " ++ (quoted first ++ word_number (codes " in row ") row))
 
 abbrev pub reason_text : Fields → Option Reason → List ℕ
 reason_text dict None = []
@@ -39,7 +41,8 @@ reason_text dict (Some Mixed) = codes ", TEXT though each is a number"
 
 -- the number of a column, its name and its kind
 abbrev pub head_text : ℕ → Column → List ℕ
-head_text number column = word_number (codes "column ") number ++ (codes " " ++ (name_text column.name ++ (codes ": " ++ kind_text column.kind)))
+head_text number column = word_number (codes "column ") number
+    ++ (codes " " ++ (name_text column.name ++ (codes ": " ++ kind_text column.kind)))
 
 -- how many rows have no value, and how many different texts there are
 abbrev pub counts_text : ColumnProfile → List ℕ
@@ -47,7 +50,8 @@ counts_text p = word_number (codes ", ") p.nulls ++ (codes " NULL" ++ texts_text
 
 -- THE LINE of a column, which is counted from 1
 abbrev pub column_line : ℕ → Column → Fields → ColumnProfile → List ℕ
-column_line number column dict p = head_text number column ++ (counts_text p ++ (ends_text column.kind dict p.ends ++ (reason_text dict p.reason ++ 10 ∷ [])))
+column_line number column dict p = head_text number column
+    ++ (counts_text p ++ (ends_text column.kind dict p.ends ++ (reason_text dict p.reason ++ 10 ∷ [])))
 
 -- the lines of the columns from one on
 abbrev pub column_lines : ℕ → List Column → List Fields → List ColumnProfile → List ℕ
@@ -58,4 +62,5 @@ column_lines number (c ∷ cs) (d ∷ dicts) (p ∷ ps) = column_line number c d
 
 -- THE LINES of a table: how many rows it has, and a line for each column
 abbrev pub profile_text : Loaded → List ColumnProfile → List ℕ
-profile_text l ps = word_number (codes "rows ") (length l.table.rows) ++ (10 ∷ column_lines 1 l.table.columns l.dicts.items ps)
+profile_text l ps = word_number (codes "rows ") (length l.table.rows)
+    ++ (10 ∷ column_lines 1 l.table.columns l.dicts.items ps)

@@ -30,7 +30,8 @@ IsOfRecords l = (records : List Fields) × IsLoaded records l.table l.dicts.item
 
 -- the profile of a column of a loaded table
 abbrev pub IsProfileAt : Loaded → ℕ → ColumnProfile → Type 0
-IsProfileAt l x p = IsProfile (kind_at l.table.columns x) (dict_at l.dicts.items x) (column_values (dict_at l.dicts.items x) x l.table.rows) p
+IsProfileAt l x p = IsProfile (kind_at l.table.columns x) (dict_at l.dicts.items x)
+    (column_values (dict_at l.dicts.items x) x l.table.rows) p
 
 -- each column of a loaded table has its profile
 pub record AreProfiles (l : Loaded) (profiles : List ColumnProfile) : Type 0 where

@@ -1,5 +1,6 @@
 -- Why a column is one of texts where some of its values spell numbers.
-use Rattle.std.specs.Prelude.{◌≡◌, ◌+◌, ◌-◌, ◌<◌, ◌≤◌, ℕ, Bool, false, not, List, [], length, filter, All, Option, Some, None, is_some, slice_index_or}
+use Rattle.std.specs.Prelude.{◌≡◌, ◌+◌, ◌-◌, ◌<◌, ◌≤◌, ℕ, Bool, false, not, List, [], length}
+use Rattle.std.specs.Prelude.{filter, All, Option, Some, None, is_some, slice_index_or}
 use Rattle.table_core.specs.Value.{Value, none, number, text}
 use Rattle.table_core.specs.declared.schema.Kind.{Kind}
 use Rattle.table_core.specs.declared.schema.Kind.TheVariants.{Text}
@@ -38,5 +39,6 @@ SomeSpell values = strangers_in values < there_in values
 -- numbers has room for all. There is none where the column is one of numbers, or none of its values spells a number
 abbrev pub IsReason : Kind → List (List ℕ) → List Value → Option Reason → Type 0
 IsReason kind dict values None = kind ≡ Text → there_in values ≤ strangers_in values
-IsReason kind dict values (Some (Strangers row code count)) = (kind ≡ Text) × IsFirstStranger dict values row code × (count ≡ strangers_in values) × SomeSpell values
+IsReason kind dict values (Some (Strangers row code count)) = (kind ≡ Text) × IsFirstStranger dict values row code
+    × (count ≡ strangers_in values) × SomeSpell values
 IsReason kind dict values (Some Mixed) = (kind ≡ Text) × (0 < there_in values) × All (λ v. is_stranger v ≡ false) values

@@ -1,5 +1,6 @@
 -- The values of a column from the first row to the last, and what is told of them.
-use Rattle.std.specs.Prelude.{◌≡◌, ◌≢◌, ◌-◌, ℕ, Bool, true, false, List, length, map, filter, All, Contains, Option, Some, None}
+use Rattle.std.specs.Prelude.{◌≡◌, ◌≢◌, ◌-◌, ℕ, Bool, true, false, List, length}
+use Rattle.std.specs.Prelude.{map, filter, All, Contains, Option, Some, None}
 use Rattle.std.specs.Ordering.{is_le}
 use Rattle.table_core.specs.Value.{Value, none, number, text, value_in, value_cmp}
 use Rattle.table_core.specs.declared.cell.Cell.{Cell}

@@ -23,4 +23,5 @@ pub record IsReadable (dict : Fields) (p : ColumnProfile) : Type 0 where
 pub record AreWritable (columns : List Column) (dicts : List Fields) (profiles : List ColumnProfile) : Type 0 where
   pub dict_count : length dicts ≡ length columns
   pub count : length profiles ≡ length columns
-  pub each : (x : ℕ) (d : ColumnProfile) → x < length columns → IsReadable (dict_at dicts x) (slice_index_or profiles x d)
+  pub each : (x : ℕ) (d : ColumnProfile) → x < length columns
+      → IsReadable (dict_at dicts x) (slice_index_or profiles x d)

@@ -1,7 +1,7 @@
-//! What is told of a loaded table and of the statements of a batch before they run. Of the table: its rows, and for each
-//! column its name, kind, NULLs, distinct texts, least and greatest value, and why it is one of texts where some of its
-//! values spell numbers. Of a statement: the query in its one form, the columns that it reads, how many chunks it needs,
-//! and what stands in the way where it needs all of them.
+//! What is told of a loaded table and of the statements of a batch before they run. Of the table: its rows, and for
+//! each column its name, kind, NULLs, distinct texts, least and greatest value, and why it is one of texts where some
+//! of its values spell numbers. Of a statement: the query in its one form, the columns that it reads, how many chunks
+//! it needs, and what stands in the way where it needs all of them.
 //!
 //!     let profiles = profile_of(alloc, &loaded)?;
 //!     let text = write_profile(alloc, &loaded, &profiles)?;           // a line for the table, one for each column

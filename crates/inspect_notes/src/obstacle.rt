@@ -11,9 +11,9 @@ pub enum Choice {
 
 /// What stands in the way where a query needs each chunk. Columns are numbered from 0, and told by their names.
 ///
-/// A condition demands some of its parts: both sides of an AND, but of an OR only one or the other. Below a NOT an AND is
-/// like an OR, and an OR like an AND. Each of the parts that it demands stands in the way, since the zones of no chunk
-/// rule it out.
+/// A condition demands some of its parts: both sides of an AND, but of an OR only one or the other. Below a NOT an AND
+/// is like an OR, and an OR like an AND. Each of the parts that it demands stands in the way, since the zones of no
+/// chunk rule it out.
 #[derive(Clone, Copy, Debug, PartialEq, Eq)]
 pub enum Obstacle {
     /// The query has no WHERE.

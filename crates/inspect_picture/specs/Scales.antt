@@ -8,7 +8,8 @@ use Rattle.inspect_picture.specs.declared.scale.Scale.{Scale}
 -- The greatest numbers
 
 abbrev pub with_room : Scale → ℕ → ℕ → ℕ → Scale
-with_room z w f c = record z { last_worker = max z.last_worker w; last_frame = max z.last_frame f; last_chunk = max z.last_chunk c }
+with_room z w f c = record z
+    { last_worker = max z.last_worker w; last_frame = max z.last_frame f; last_chunk = max z.last_chunk c }
 
 -- room for the worker, frame and chunk that the entry names
 abbrev pub seen : Scale → Entry → Scale

@@ -53,7 +53,10 @@ drawn_ink g = if g.failed then Red else g.ink
 
 abbrev pub rect_text : Rect → List ℕ
 rect_text r =
-    codes "x='" ++ (decimal r.x ++ (codes "' y='" ++ (decimal r.y ++ (codes "' width='" ++ (decimal r.width ++ (codes "' height='" ++ (decimal r.height ++ codes "'")))))))
+    codes "x='" ++ (decimal r.x
+    ++ (codes "' y='"
+    ++ (decimal r.y ++
+    (codes "' width='" ++ (decimal r.width ++ (codes "' height='" ++ (decimal r.height ++ codes "'")))))))
 
 abbrev pub ink_text : Ink → List ℕ
 ink_text (Hue h) = codes "hsl(" ++ (decimal h ++ codes ",60%,50%)")
@@ -72,7 +75,8 @@ is_titled z = nat_le (shown z) 10000
 
 abbrev pub told_text : Stretch → List ℕ
 told_text g = if g.count == 1 then title_text g.mark
-    else decimal g.count ++ (codes " marks up to entry " ++ (decimal g.last ++ (codes ", first: " ++ title_text g.mark)))
+    else decimal g.count
+    ++ (codes " marks up to entry " ++ (decimal g.last ++ (codes ", first: " ++ title_text g.mark)))
 
 -- what stands in the element of marks that are drawn as one
 abbrev pub inside : Bool → Stretch → List ℕ
@@ -80,7 +84,8 @@ inside titled g = if titled then codes "<title>" ++ (told_text g ++ codes "</tit
 
 abbrev pub element_text : Rect → Ink → Bool → Stretch → List ℕ
 element_text r ink titled g =
-    codes "<rect " ++ (rect_text r ++ (codes " fill='" ++ (ink_text ink ++ (codes "'>" ++ (inside titled g ++ codes "</rect>\n")))))
+    codes "<rect " ++
+    (rect_text r ++ (codes " fill='" ++ (ink_text ink ++ (codes "'>" ++ (inside titled g ++ codes "</rect>\n")))))
 
 -- THE ELEMENT of marks that are drawn as one
 abbrev pub shape_text : Scale → Bool → Stretch → List ℕ
@@ -130,7 +135,8 @@ drawn z ms (suc k) = min (drawn z ms k + length (stretches z k ms)) 184467440737
 
 -- the steps at which numbers are written
 unfoldable pub steps : List ℕ
-steps = 1 ∷ 2 ∷ 5 ∷ 10 ∷ 20 ∷ 50 ∷ 100 ∷ 200 ∷ 500 ∷ 1000 ∷ 2000 ∷ 5000 ∷ 10000 ∷ 20000 ∷ 50000 ∷ 100000 ∷ 200000 ∷ 500000 ∷ []
+steps = 1 ∷ 2 ∷ 5 ∷ 10 ∷ 20 ∷ 50 ∷ 100 ∷ 200 ∷ 500 ∷ 1000 ∷ 2000 ∷ 5000 ∷ 10000 ∷ 20000 ∷ 50000 ∷ 100000 ∷ 200000
+    ∷ 500000 ∷ []
 
 abbrev pub step_from : List ℕ → ℕ → ℕ
 step_from [] n = 1000000000
@@ -202,12 +208,14 @@ guides z (suc k) = guides z k ++ guides_at z k
 unfoldable pub opening_text : ℕ → List ℕ
 opening_text height =
     codes "<svg xmlns='http://www.w3.org/2000/svg' viewBox='0 0 9000 " ++ (decimal height
-    ++ (codes "' width='900' font-family='sans-serif' font-size='120'>\n" ++ codes "<rect width='100%' height='100%' fill='#fff'/>\n"))
+    ++ (codes "' width='900' font-family='sans-serif' font-size='120'>\n"
+    ++ codes "<rect width='100%' height='100%' fill='#fff'/>\n"))
 
 -- the title line
 unfoldable pub counts_text : ℕ → ℕ → ℕ → List ℕ
 counts_text entries reads deliveries =
-    codes "<text x='1000' y='280' font-size='180'>" ++ (decimal entries ++ (codes " entries, " ++ (decimal reads ++ (codes " reads, "
+    codes "<text x='1000' y='280' font-size='180'>"
+    ++ (decimal entries ++ (codes " entries, " ++ (decimal reads ++ (codes " reads, "
     ++ (decimal deliveries ++ codes " deliveries</text>\n")))))
 
 -- the colours from the begin of the table to its end
@@ -256,7 +264,8 @@ sharing_text z =
 
 unfoldable pub notes_in : Bool → ℕ → ℕ → Scale → List ℕ
 notes_in part first last z =
-    codes "<text x='1000' y='1090' fill='#5a6478'>" ++ (range_text part first last ++ (sharing_text z ++ codes "</text>\n"))
+    codes "<text x='1000' y='1090' fill='#5a6478'>"
+    ++ (range_text part first last ++ (sharing_text z ++ codes "</text>\n"))
 
 -- what of it is shown, and how
 abbrev pub notes_text : Scale → List ℕ
@@ -269,7 +278,8 @@ head_text h =
 
 -- the title of the axis
 unfoldable pub axis_text : ℕ → List ℕ
-axis_text y = codes "<text x='4850' y='" ++ (decimal y ++ codes "' dy='340' text-anchor='middle'>number of the entry in the story</text>\n")
+axis_text y = codes "<text x='4850' y='"
+    ++ (decimal y ++ codes "' dy='340' text-anchor='middle'>number of the entry in the story</text>\n")
 
 -- what was merged
 unfoldable pub merged_text : ℕ → ℕ → List ℕ
@@ -289,7 +299,8 @@ head z entries = record { scale = z; reads = reads entries; deliveries = deliver
 -- the picture with this scale of a story with these marks
 abbrev pub picture_of : Scale → List Entry → List Mark → List ℕ
 picture_of z entries ms =
-    head_text (head z entries) ++ (guides z 32 ++ (rows_text z ms 114 ++ foot_text z (shown_count z ms) (drawn z ms 114)))
+    head_text (head z entries)
+    ++ (guides z 32 ++ (rows_text z ms 114 ++ foot_text z (shown_count z ms) (drawn z ms 114)))
 
 -- THE PICTURE OF A STORY, of the entries from and to these: the head, the guides, the marks row by row, and the foot
 abbrev pub picture_part : ℕ → ℕ → ℕ → List Entry → List ℕ

@@ -19,7 +19,8 @@ trace_from at_line (b ∷ bs) = if at_line && starts_story (b ∷ bs) then b ∷
 abbrev pub lines_before : Bool → List ℕ → ℕ
 lines_before at_line [] = 0
 lines_before at_line (b ∷ bs) =
-    if at_line && starts_story (b ∷ bs) then 0 else (if b == 10 then lines_before true bs + 1 else lines_before false bs)
+    if at_line && starts_story (b ∷ bs) then 0
+    else (if b == 10 then lines_before true bs + 1 else lines_before false bs)
 
 -- how many bytes there are up to the last quote, where so many stand before these, and so many up to their last quote
 abbrev pub quoted_from : ℕ → ℕ → List ℕ → ℕ
@@ -44,7 +45,8 @@ trace printed = trace_from (quoted_len printed == 0) (drop (quoted_len printed) 
 -- how many lines end before it
 unfoldable pub lines_above : List ℕ → ℕ
 lines_above printed =
-    ended (take (quoted_len printed) printed) + lines_before (quoted_len printed == 0) (drop (quoted_len printed) printed)
+    ended (take (quoted_len printed) printed)
+    + lines_before (quoted_len printed == 0) (drop (quoted_len printed) printed)
 
 -- the line is the first of the trace that is no entry's, counted in the whole text
 pub record IsBadLine (printed : List ℕ) (line : ℕ) : Type 0 where

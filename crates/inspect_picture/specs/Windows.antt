@@ -16,8 +16,8 @@ touches from to m = nat_le (first_of m) to && nat_le from (last_of m)
 abbrev pub cut : ℕ → ℕ → ℕ → ℕ
 cut from to i = min (max i from) (to + 1)
 
--- A PICTURE OF THESE ENTRIES: of the marks of the whole story it shows just those that touch them, each cut to them, and
--- one that was open before lies from the left edge on
+-- A PICTURE OF THESE ENTRIES: of the marks of the whole story it shows just those that touch them, each cut to them,
+-- and one that was open before lies from the left edge on
 pub record IsWindow (z : Scale) (from to : ℕ) : Type 0 where
   pub touching : (m : Mark) → is_shown z m ≡ touches from to m
   pub cut_to : (i : ℕ) → x_at z i ≡ x_at z (cut from to i)

@@ -121,7 +121,8 @@ impl Ahead {
 
     // The walk goes back over the entry with this number.
     pub(crate) fn note(&mut self, number: u32, entry: Entry) -> Result<(), Memory>
-        ensures { (es : List Entry) → IsAhead self.old (number + 1) es → OnOk result (IsAhead self.new number (entry ∷ es)) }
+        ensures { (es : List Entry) → IsAhead self.old (number + 1) es
+            → OnOk result (IsAhead self.new number (entry ∷ es)) }
     {
         match entry {
             Entry::Fill { frame, .. } => put(&mut self.fills, frame, number),

@@ -247,7 +247,8 @@ impl fmt::Display for Notes {
 impl Scale {
     // What of it is shown, and how.
     fn notes(&self) -> Notes
-        ensures { notes_in result.range.shown result.range.first result.range.last result.sharing.scale ≡ notes_text self.now }
+        ensures { notes_in result.range.shown result.range.first result.range.last result.sharing.scale
+            ≡ notes_text self.now }
     {
         Notes {
             range: Range {

@@ -24,7 +24,8 @@ kind_of (Text t) = kind.Text
 
 abbrev pub size_of_value : Option ℕ → Size
 size_of_value None = size.TooLarge
-size_of_value (Some n) = if nat_le n 4096 then size.Limit else (if nat_lt n (2 ^ 63) then size.Positive else size.Negative)
+size_of_value (Some n) = if nat_le n 4096 then size.Limit
+    else (if nat_lt n (2 ^ 63) then size.Positive else size.Negative)
 
 abbrev pub number_size : ℕ → Size
 number_size n = size_of_value (up_to (2 ^ 63) n)

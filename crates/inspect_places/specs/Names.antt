@@ -1,5 +1,7 @@
--- The names among the tokens of a statement, each with the part that it plays, and the first one that a refusal is about.
-use Rattle.std.specs.Prelude.{ℕ, suc, Bool, true, false, not, ◌&&◌, if◌then◌else◌, List, [], ◌∷◌, ◌++◌, map, Option, Some, None}
+-- The names among the tokens of a statement, each with the part that it plays, and the first one that a refusal is
+-- about.
+use Rattle.std.specs.Prelude.{ℕ, suc, Bool, true, false, not, ◌&&◌, if◌then◌else◌}
+use Rattle.std.specs.Prelude.{List, [], ◌∷◌, ◌++◌, map, Option, Some, None}
 use Rattle.std.specs.List.{flat_map}
 use Rattle.std.specs.Str.{bytes_eq}
 use Rattle.table_core.specs.declared.schema.Column as columns
@@ -114,7 +116,8 @@ order_name o = (o.column, role.Bare)
 
 -- items, table, condition, keys, orders
 abbrev pub query_names : QueryTree → List Named
-query_names q = flat_map item_names q.items ++ ((q.table, role.Table) ∷ (where_names q.cond ++ (map key_name q.keys ++ map order_name q.order)))
+query_names q = flat_map item_names q.items
+    ++ ((q.table, role.Table) ∷ (where_names q.cond ++ (map key_name q.keys ++ map order_name q.order)))
 
 -- those that are there
 abbrev pub somes : List (Option Named) → List Named

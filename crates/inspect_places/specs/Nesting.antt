@@ -1,5 +1,6 @@
 -- The token at which a statement is nested too deep.
-use Rattle.std.specs.Prelude.{◌<◌, ◌≤◌, ℕ, suc, ◌+◌, ◌-◌, ◌==◌, Bool, true, false, if◌then◌else◌, List, [], ◌∷◌, length, take}
+use Rattle.std.specs.Prelude.{◌<◌, ◌≤◌, ℕ, suc, ◌+◌, ◌-◌, ◌==◌, Bool, true}
+use Rattle.std.specs.Prelude.{false, if◌then◌else◌, List, [], ◌∷◌, length, take}
 use Rattle.sql_tokens.specs.declared.keyword.Keyword.TheVariants as key
 use Rattle.sql_text.specs.Grammar.{Token, nesting}
 use Rattle.inspect_places.specs.declared.kind.Kind.{Kind}
@@ -24,4 +25,5 @@ kind_nests _ = false
 abbrev pub nested_from : ℕ → List Token → ℕ
 nested_from room [] = 0
 nested_from room (t ∷ ts) =
-    if kind_nests (kind_of t) then (if room == 0 then 0 else suc (nested_from (room - 1) ts)) else suc (nested_from room ts)
+    if kind_nests (kind_of t) then (if room == 0 then 0 else suc (nested_from (room - 1) ts))
+    else suc (nested_from room ts)

@@ -1,5 +1,6 @@
 -- The place at which tokens stop being the beginning of a query, and what could stand there.
-use Rattle.std.specs.Prelude.{◌≡◌, ◌<◌, ◌≤◌, ◌+◌, ℕ, Bool, true, false, if◌then◌else◌, List, [], ◌∷◌, ◌++◌, length, map, take, Option, Some, None, slice_get}
+use Rattle.std.specs.Prelude.{◌≡◌, ◌<◌, ◌≤◌, ◌+◌, ℕ, Bool, true, false, if◌then◌else◌, List}
+use Rattle.std.specs.Prelude.{[], ◌∷◌, ◌++◌, length, map, take, Option, Some, None, slice_get}
 use Rattle.std.specs.List.{Contains}
 use Rattle.sql_tokens.specs.declared.span.Span.{Span}
 use Rattle.sql_tokens.specs.declared.token.Token as tokens
@@ -54,8 +55,8 @@ pub record IsMostWithin (before : List Token) (most : ℕ) : Type 0 where
   pub within : (n : ℕ) → Begin true (before ++ Number n ∷ []) → n ≤ most
   pub stands : (n : ℕ) → Begin true before → n ≤ most → Begin true (before ++ Number n ∷ [])
 
--- the greatest number that is told: behind LIMIT that of the limits, whatever is refused there, and else the bound where
--- a number is refused
+-- the greatest number that is told: behind LIMIT that of the limits, whatever is refused there, and else the bound
+-- where a number is refused
 abbrev pub told_most : Bool → Bool → Option ℕ → Option ℕ
 told_most is_limit is_number bound = if is_limit then Some 4096 else (if is_number then bound else None)
 
@@ -68,8 +69,8 @@ span_or end (Some t) = t.span
 abbrev pub span_at : ℕ → List tokens.Token → ℕ → Span
 span_at end ts number = span_or end (slice_get ts number)
 
--- The place of the tokens of a text, by the grammar: where it is, what is known there, and just the kinds that can stand
--- there.
+-- The place of the tokens of a text, by the grammar: where it is, what is known there, and just the kinds that can
+-- stand there.
 pub record IsGrammarPlace (limited : Bool) (bytes : List ℕ) (all : List tokens.Token) (p : Place) : Type 0 where
   pub number : ℕ
   pub place : IsPlace limited (map (meaning_in bytes) all) number

@@ -9,7 +9,8 @@ use Rattle.sql_tokens.specs.declared.token.Token.{Token}
 pub record IsLongestPrefix (bytes : List ℕ) (prefix : ℕ) : Type 0 where
   pub within : prefix ≤ length bytes
   pub tokens : (ts : List Token) × HasTokens 0 (take prefix bytes) ts
-  pub longest : (more : ℕ) → prefix < more → more ≤ length bytes → (ts : List Token) → HasTokens 0 (take more bytes) ts → ⊥
+  pub longest : (more : ℕ) → prefix < more → more ≤ length bytes → (ts : List Token) → HasTokens 0 (take more bytes) ts
+      → ⊥
 
 -- how long the longest prefix is that f takes, whatever it is; None where it takes no prefix
 abbrev pub IsLong : (List ℕ → Option Piece) → List ℕ → Option ℕ → Type 0

@@ -23,12 +23,14 @@ IsAt bytes all number p = (p.span ≡ span_at (length bytes) all number) × (p.s
 
 -- the first token that is this name in a part that is refused
 abbrev pub IsNamePlace : List ℕ → List Column → List tokens.Token → About → List ℕ → Place → Type 0
-IsNamePlace bytes columns all a name p = IsAt bytes all (first_index (is_about columns a name) (names_at (map (meaning_in bytes) all))) p
+IsNamePlace bytes columns all a name p = IsAt bytes all
+    (first_index (is_about columns a name) (names_at (map (meaning_in bytes) all))) p
 
 abbrev pub IsTextPlace : List ℕ → List tokens.Token → TextRefusal → Place → Type 0
 IsTextPlace bytes all text.Syntax p = IsGrammarPlace false bytes all p
 IsTextPlace bytes all text.TooManyItems p = IsGrammarPlace true bytes all p
-IsTextPlace bytes all text.TooNested p = (number : ℕ) × IsNestingPlace (map (meaning_in bytes) all) number × IsAt bytes all number p
+IsTextPlace bytes all text.TooNested p = (number : ℕ) × IsNestingPlace (map (meaning_in bytes) all) number
+    × IsAt bytes all number p
 IsTextPlace bytes all text.Memory p = ⊥
 
 abbrev pub IsQueryPlace : List ℕ → List Column → List tokens.Token → BindRefusal → Place → Type 0

@@ -14,4 +14,5 @@ continues b = nat_le 128 b && nat_lt b 192
 
 -- THE END OF THE CHARACTER that begins at a byte of the text: up to three bytes behind the first go on with it
 abbrev pub char_end : List ℕ → ℕ → ℕ
-char_end bytes at = min (at + 1 + min 3 (prefix_len continues (drop (min (at + 1) (length bytes)) bytes))) (length bytes)
+char_end bytes at = min (at + 1 + min 3 (prefix_len continues (drop (min (at + 1) (length bytes)) bytes)))
+    (length bytes)

@@ -30,6 +30,8 @@ pub record IsTokenOf (bytes : List ℕ) (all : List tokens.Token) (name : List �
 
 -- THE PLACE OF A REFUSED NAME is a token that is this name, and never the end of the text
 abbrev pub NamesStand : Type 0
-NamesStand = (bytes : List ℕ) (columns : List Column) (why : BindRefusal) (name : List ℕ) (all : List tokens.Token) (p : Place)
-    → name_of why ≡ Some name → TextCause bytes columns (Some (statement.Query why)) → HasTokens 0 bytes all → IsQueryPlace bytes columns all why p
+NamesStand = (bytes : List ℕ) (columns : List Column) (why : BindRefusal) (name : List ℕ) (all : List tokens.Token)
+    (p : Place)
+    → name_of why ≡ Some name → TextCause bytes columns (Some (statement.Query why)) → HasTokens 0 bytes all
+    → IsQueryPlace bytes columns all why p
     → IsTokenOf bytes all name p

@@ -22,8 +22,8 @@ abbrev pub opening_of : List ℕ → ℕ → Option tokens.Token → ℕ
 opening_of bytes prefix None = prefix
 opening_of bytes prefix (Some t) = if is_reopened bytes prefix t then t.span.from else prefix
 
--- where a text stops having tokens: the quote that opens what is open there, which may be that of the last token; or else
--- the byte behind the longest prefix that has tokens
+-- where a text stops having tokens: the quote that opens what is open there, which may be that of the last token; or
+-- else the byte behind the longest prefix that has tokens
 abbrev pub opening : List ℕ → ℕ → List tokens.Token → ℕ
 opening bytes prefix all = opening_of bytes prefix (slice_get all (length all - 1))
 

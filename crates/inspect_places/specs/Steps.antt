@@ -1,11 +1,13 @@
 -- Token by token: what each state of the reader goes on with. It is just the grammar, as the clauses of `syntax_place`
 -- say.
-use Rattle.std.specs.Prelude.{ℕ, ◌+◌, ◌-◌, ◌^◌, ◌==◌, Bool, true, false, if◌then◌else◌, List, [], ◌∷◌, Option, Some, None, option_map, is_some}
+use Rattle.std.specs.Prelude.{ℕ, ◌+◌, ◌-◌, ◌^◌, ◌==◌, Bool, true, false, if◌then◌else◌}
+use Rattle.std.specs.Prelude.{List, [], ◌∷◌, Option, Some, None, option_map, is_some}
 use Rattle.sql_tokens.specs.declared.keyword.Keyword.TheVariants as key
 use Rattle.sql_text.specs.Grammar.{Token}
 use Rattle.sql_text.specs.Reading.{choose}
 use Rattle.inspect_places.specs.declared.kind.Kind.{Kind}
-use Rattle.inspect_places.specs.declared.kind.Kind.TheVariants.{Key, Open, Close, Comma, Star, Minus, Comparison, Name, Number, Decimal, Text, End}
+use Rattle.inspect_places.specs.declared.kind.Kind.TheVariants.{Key, Open, Close, Comma, Star, Minus}
+use Rattle.inspect_places.specs.declared.kind.Kind.TheVariants.{Comparison, Name, Number, Decimal, Text, End}
 use Rattle.inspect_places.specs.declared.state.State.{State}
 use Rattle.inspect_places.specs.declared.state.State.TheVariants as state
 use Rattle.inspect_places.specs.declared.word.Size.{Size}
@@ -266,6 +268,8 @@ opened _ = 0
 -- each kind once
 abbrev pub all_kinds : List Kind
 all_kinds =
-    Name ∷ Key key.Select ∷ Key key.From ∷ Key key.Where ∷ Key key.Group ∷ Key key.Order ∷ Key key.By ∷ Key key.Limit ∷ Key key.Count ∷ Key key.Sum ∷ Key key.Min
-    ∷ Key key.Max ∷ Key key.And ∷ Key key.Or ∷ Key key.Is ∷ Key key.Not ∷ Key key.Null ∷ Key key.Asc ∷ Key key.Desc ∷ Comparison
+    Name ∷ Key key.Select ∷ Key key.From ∷ Key key.Where ∷ Key key.Group ∷ Key key.Order ∷ Key key.By ∷ Key key.Limit
+    ∷ Key key.Count ∷ Key key.Sum ∷ Key key.Min
+    ∷ Key key.Max ∷ Key key.And ∷ Key key.Or ∷ Key key.Is ∷ Key key.Not ∷ Key key.Null ∷ Key key.Asc ∷ Key key.Desc
+    ∷ Comparison
     ∷ Number ∷ Decimal ∷ Text ∷ Minus ∷ Star ∷ Open ∷ Close ∷ Comma ∷ End ∷ []

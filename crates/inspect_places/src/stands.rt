@@ -96,8 +96,8 @@ fn write_others(
     Ok(())
 }
 
-/// Puts what could stand at a place at the end, as `WHERE, GROUP or the end`, or `a number up to 4096` behind LIMIT. Out
-/// of memory may leave a part of it.
+/// Puts what could stand at a place at the end, as `WHERE, GROUP or the end`, or `a number up to 4096` behind LIMIT.
+/// Out of memory may leave a part of it.
 pub fn write_stands(out: &mut Bytes, place: &Place) -> Result<(), Memory>
     ensures { OnOk result (out.new ≡ out.old
         ++ spec.stands_text place.now.is_table place.now.most place.now.stands.items) }

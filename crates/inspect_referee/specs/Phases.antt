@@ -25,4 +25,5 @@ is_over Stopped = true
 -- each query has ended or stopped, no load is underway, and no worker holds a chunk
 abbrev pub is_complete : Setting → History → Bool
 is_complete s h =
-    list_all (λ n. is_ended h n.query || is_stopped h n.query) s.needs && is_none (underway s h) && not (any_below (λ w. is_some (held_by h w)) s.workers)
+    list_all (λ n. is_ended h n.query || is_stopped h n.query) s.needs && is_none (underway s h)
+    && not (any_below (λ w. is_some (held_by h w)) s.workers)

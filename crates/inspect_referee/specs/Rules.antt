@@ -1,8 +1,10 @@
 -- The rules of which entry may follow, one by one.
-use Rattle.std.specs.Prelude.{◌==◌, ◌+◌, ◌&&◌, ◌||◌, not, true, false, ℕ, Bool, Option, None, Some, is_none, nat_lt, nat_le, length}
+use Rattle.std.specs.Prelude.{◌==◌, ◌+◌, ◌&&◌, ◌||◌, not, true, false, ℕ, Bool}
+use Rattle.std.specs.Prelude.{Option, None, Some, is_none, nat_lt, nat_le, length}
 use Rattle.std.specs.List.{list_any}
 use Rattle.scan_story.specs.declared.entry.Entry.{Entry}
-use Rattle.scan_story.specs.declared.entry.Entry.TheVariants.{Register, Plan, Evict, Fill, Filled, Failed, Deliver, Release, Stop, End}
+use Rattle.scan_story.specs.declared.entry.Entry.TheVariants.{Register, Plan, Evict, Fill, Filled}
+use Rattle.scan_story.specs.declared.entry.Entry.TheVariants.{Failed, Deliver, Release, Stop, End}
 use Rattle.scan_story.specs.declared.entry.Why.{Why}
 use Rattle.scan_story.specs.declared.entry.Why.TheVariants.{Fault, Damage}
 use Rattle.scan_story.specs.declared.view.Hold.{Hold}
@@ -15,7 +17,11 @@ use Rattle.scan_story.specs.Loads.{underway, begins, begins_in, all_begun, is_lo
 use Rattle.scan_story.specs.Numbers.{needed, is_starved}
 use Rattle.scan_story.specs.MayFollow.{is_target, is_ready, is_victim}
 use Rattle.inspect_referee.specs.declared.rule.Rule.{Rule}
-use Rattle.inspect_referee.specs.declared.rule.Rule.TheVariants.{First, OnWorker, Alone, HoldsNothing, LoadsNothing, IsWorker, NoneUnderway, Starved, Target, OwnLoad, NoneBegun, TooFew, Victim, Enough, IsFrame, Free, Missing, NotBegun, Begun, NotFilled, AllBegun, ForQuery, Reason, Active, Ready, Holds, NeedsNothing}
+use Rattle.inspect_referee.specs.declared.rule.Rule.TheVariants.{First, OnWorker, Alone, HoldsNothing, LoadsNothing}
+use Rattle.inspect_referee.specs.declared.rule.Rule.TheVariants.{IsWorker, NoneUnderway, Starved, Target, OwnLoad}
+use Rattle.inspect_referee.specs.declared.rule.Rule.TheVariants.{NoneBegun, TooFew, Victim, Enough, IsFrame, Free}
+use Rattle.inspect_referee.specs.declared.rule.Rule.TheVariants.{Missing, NotBegun, Begun, NotFilled, AllBegun}
+use Rattle.inspect_referee.specs.declared.rule.Rule.TheVariants.{ForQuery, Reason, Active, Ready, Holds, NeedsNothing}
 
 -- some query of the worker is active
 abbrev pub has_active : Setting → History → ℕ → Bool
@@ -33,7 +39,8 @@ is_hold q c (Some o) = o.query == q && o.chunk == c
 
 -- the count of faults rose, or stands at its last value
 abbrev pub is_reason : Why → Bool
-is_reason (Fault before after) = nat_lt before after || (before == 18446744073709551615 && after == 18446744073709551615)
+is_reason (Fault before after) = nat_lt before after
+    || (before == 18446744073709551615 && after == 18446744073709551615)
 is_reason (Damage word) = true
 
 -- the entry keeps the rule; a rule that isn't asked of its kind it keeps
@@ -53,7 +60,8 @@ keeps s h (Evict w c) NoneBegun = with_load (underway s h) (λ l. length l.begun
 keeps s h (Evict w c) TooFew = with_load (underway s h) (λ l. nat_lt (free_frames s h) (length l.missing))
 keeps s h (Evict w c) Victim = is_victim s h c
 keeps s h (Fill w f p) OwnLoad = is_load_by w (underway s h)
-keeps s h (Fill w f p) Enough = with_load (underway s h) (λ l. nat_le (length l.missing) (free_frames s h + length l.begun))
+keeps s h (Fill w f p) Enough = with_load (underway s h)
+    (λ l. nat_le (length l.missing) (free_frames s h + length l.begun))
 keeps s h (Fill w f p) IsFrame = nat_lt f s.frames
 keeps s h (Fill w f p) Free = is_free s h f
 keeps s h (Fill w f p) Missing = with_load (underway s h) (λ l. has l.missing p)

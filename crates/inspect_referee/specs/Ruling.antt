@@ -1,5 +1,6 @@
 -- What a ruling says of a story.
-use Rattle.std.specs.Prelude.{◌≡◌, ◌⊎◌, ◌↔◌, ◌<◌, ◌+◌, ◌∷◌, ◌++◌, true, false, ℕ, Bool, List, Option, None, Some, IsTrue, length, take}
+use Rattle.std.specs.Prelude.{◌≡◌, ◌⊎◌, ◌↔◌, ◌<◌, ◌+◌, ◌∷◌, ◌++◌, true, false, ℕ}
+use Rattle.std.specs.Prelude.{Bool, List, Option, None, Some, IsTrue, length, take}
 use Rattle.scan_story.specs.declared.entry.Entry.{Entry}
 use Rattle.scan_story.specs.declared.entry.Entry.TheVariants.{Plan, Evict, Deliver}
 use Rattle.scan_story.specs.declared.setting.Setting.{Setting}

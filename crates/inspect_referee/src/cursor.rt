@@ -1,5 +1,6 @@
 //! The policy's cursor, as a list of numbers.
-ghost use Rattle.std.specs.Prelude.{◌≡◌, ◌==◌, ◌++◌, ◌∷◌, ◌+◌, ◌-◌, ◌%◌, ◌<◌, ◌≤◌, [], ℕ, IfOk, get_or, length, not, replicate, set};
+ghost use Rattle.std.specs.Prelude.{◌≡◌, ◌==◌, ◌++◌, ◌∷◌, ◌+◌, ◌-◌, ◌%◌, ◌<◌, ◌≤◌};
+ghost use Rattle.std.specs.Prelude.{[], ℕ, IfOk, get_or, length, not, replicate, set};
 ghost use Rattle.std.specs.List.{filter};
 ghost use Rattle.scan_story.specs.declared.setting.Setting.{Setting};
 ghost use Rattle.scan_story.specs.Setting.{first_cursor};

@@ -5,7 +5,8 @@ ghost use Rattle.std.specs.Option.{option_map};
 ghost use Rattle.scan_story.specs.declared.setting.Setting.{Setting};
 ghost use Rattle.scan_story.specs.Counting.{has};
 ghost use Rattle.scan_story.specs.Views.{History};
-ghost use Rattle.scan_story.specs.Loads.{all_begun, begin_fill, begins, begins_in, end_fill, fills_frame, if_open, is_load_by, is_open, missing_pieces, underway};
+ghost use Rattle.scan_story.specs.Loads.{all_begun, begin_fill, begins, begins_in, end_fill, fills_frame};
+ghost use Rattle.scan_story.specs.Loads.{if_open, is_load_by, is_open, missing_pieces, underway};
 ghost use Rattle.interest_book.specs.Stands.{MayFollow, Stands};
 
 use interest_book::{Book, Pieces};

@@ -1,7 +1,8 @@
 //! Which rule an entry breaks.
 ghost use Rattle.std.specs.Prelude.{◌≡◌, false, true, ℕ, IfNone, IfSome};
 ghost use Rattle.scan_story.specs.declared.entry.Why.{Why};
-ghost use Rattle.scan_story.specs.declared.entry.Entry.TheVariants.{Register, Plan, Evict, Fill, Filled, Failed, Deliver, Release, Stop, End};
+ghost use Rattle.scan_story.specs.declared.entry.Entry.TheVariants.{Register, Plan, Evict, Fill, Filled};
+ghost use Rattle.scan_story.specs.declared.entry.Entry.TheVariants.{Failed, Deliver, Release, Stop, End};
 ghost use Rattle.scan_story.specs.MayFollow.{Allowed};
 ghost use Rattle.inspect_referee.specs.Rules.{is_reason, keeps};
 ghost use Rattle.inspect_referee.specs.Seen.{setting, seen, IsReading};

@@ -37,8 +37,8 @@ pub record OfBegin (f : Freedom) (setting story : List ℕ) (Holds : Choices →
   pub holds : Holds (choices_of f plain.head.policy) (setting_in f plain.head plain.needs.items entries) entries
       is_whole
 
--- the entries before the place are legal and licensed, and the one there may not come, for this reason; it stands in this
--- line
+-- the entries before the place are legal and licensed, and the one there may not come, for this reason; it stands in
+-- this line
 pub record IsRefusedIn (line : ℕ) (reason : Reason) (choices : Choices) (s : Setting) (es : List Entry)
     (is_whole : Bool) : Type 0 where
   pub place : ℕ
@@ -47,8 +47,8 @@ pub record IsRefusedIn (line : ℕ) (reason : Reason) (choices : Choices) (s : S
   pub first : IsFirstIllegalBy choices s es (Some place)
   pub licensed : IsLicensed (past (take place es))
 
--- the entries before the place are legal, and the fault there is the first that begins below the count that the last one
--- left
+-- the entries before the place are legal, and the fault there is the first that begins below the count that the last
+-- one left
 pub record FallsIn (line last : ℕ) (choices : Choices) (s : Setting) (es : List Entry) (is_whole : Bool) : Type 0 where
   pub place : ℕ
   pub at_line : place + 1 ≡ line

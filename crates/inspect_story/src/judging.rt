@@ -94,7 +94,8 @@ fn verdict_on(
 }
 
 /// Whether the text of a story, of at most 2^30 bytes, is a right story in the setting of a text, of which so much is
-/// left to it; or the first that stands in the way: first of the setting, then of the story. The error is out of memory.
+/// left to it; or the first that stands in the way: first of the setting, then of the story. The error is out of
+/// memory.
 ///
 /// `Legal` comes exactly where it is one: the setting contradicts nothing, each entry may follow those before it, and,
 /// unless choices are free, takes a choice of the policy; each query is over and nothing is left open; no chunk that is

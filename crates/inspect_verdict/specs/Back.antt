@@ -33,8 +33,8 @@ use Rattle.inspect_verdict.specs.Words.{IsWithin}
 use Rattle.inspect_verdict.specs.declared.verdict.Verdict.{Verdict}
 use Rattle.inspect_verdict.specs.declared.verdict.Verdict.TheVariants as verdict
 
--- a depot such as the words name: a scratch file's may be any; that in memory tells what it holds, and its count of faults
--- didn't rise
+-- a depot such as the words name: a scratch file's may be any; that in memory tells what it holds, and its count of
+-- faults didn't rise
 abbrev pub KeepsAs : Bool → DepotAt → DepotAt → Type 0
 KeepsAs true old new = Unit {0}
 KeepsAs false old new = Tells old.held × (Rose old.faults new.faults → ⊥)
@@ -43,7 +43,8 @@ KeepsAs false old new = Tells old.held × (Rose old.faults new.faults → ⊥)
 pub record IsSound (i : Inputs) (w : Work) (answers : List Answer) (o : Text) : Type 0 where
   pub output : (texts : List (List ℕ)) → ComeTo i.loaded.table.columns i.loaded.dicts.items texts i.outcomes.items
       → IsOutput i.loaded.table.columns (map (row_values i.loaded.dicts.items) i.loaded.table.rows) texts
-      (losses i.outcomes.items answers) (totals_of i.summary w.story (length i.loaded.table.rows)) (Some w.story) o.0 o.1
+      (losses i.outcomes.items answers) (totals_of i.summary w.story (length i.loaded.table.rows))
+      (Some w.story) o.0 o.1
   pub within : AllByRecursion (IsWithin (shape_in i)) (past w.story)
 
 -- the verdict is Legal
@@ -51,9 +52,9 @@ abbrev pub IsLegal : Verdict → Type 0
 IsLegal (verdict.Legal entries reads apart counts) = Unit {0}
 IsLegal _ = ⊥
 
--- WHAT A RUN PRINTED of a request, over a shelf and a sink, is judged legal: it read some texts, ran with what they give,
--- and wrote a text. Where this is sound, as it is over each depot that tells what it holds, it tells the run, and each
--- verdict on it is Legal
+-- WHAT A RUN PRINTED of a request, over a shelf and a sink, is judged legal: it read some texts, ran with what they
+-- give, and wrote a text. Where this is sound, as it is over each depot that tells what it holds, it tells the run, and
+-- each verdict on it is Legal
 pub record IsJudgedBack (r : Request) (shelf : OverShelf) (sink : OverSink) (w : Work) : Type 0 where
   pub table : Option (List ℕ)
   pub batch : Option (List ℕ)
@@ -70,8 +71,8 @@ pub record IsJudgedBack (r : Request) (shelf : OverShelf) (sink : OverSink) (w :
   pub legal : IsSound given w run.answers text
       → (v : Verdict) → IsVerdict given w.policy (is_some r.scratch) text.1 v → IsLegal v
 
--- a run with a policy keeps its promises, and ended with 0 or 1 with its trace asked for; its policy began with the first
--- cursor, and its depot is one such as the words name
+-- a run with a policy keeps its promises, and ended with 0 or 1 with its trace asked for; its policy began with the
+-- first cursor, and its depot is one such as the words name
 pub record HasPrinted (r : Request) (over : Devices) (did : Did) : Type 0 where
   pub promises : KeepsPromises (Some r) over did
   pub ended : did.status ≤ 1

@@ -51,8 +51,8 @@ pub record IsStray (s : Setting) (z : TableShape) (scratch : Bool) (es : List En
   pub legal : Legal s (past (take place es))
   pub first : IsFirstUnfit s z scratch es place reason
 
--- legal, whole and undisturbed, it fits the words, and separate scans would read so many pieces; or the first entry that
--- may not come, or that doesn't fit the words, and why; or legal, but not whole
+-- legal, whole and undisturbed, it fits the words, and separate scans would read so many pieces; or the first entry
+-- that may not come, or that doesn't fit the words, and why; or legal, but not whole
 abbrev pub IsJudged : Setting → TableShape → Bool → List Entry → Judged → Type 0
 IsJudged s z scratch es (judged.Legal counts apart) = Legal s (past es) × IsWhole s (past es) × Undisturbed s (past es)
     × AreCounts es counts × (apart ≡ reads_apart s) × WholeReadLittle s (past es)

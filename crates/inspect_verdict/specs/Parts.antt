@@ -20,7 +20,8 @@ text_of p (Some words) = line_of p.head words
 abbrev pub PartWays : List ℕ → List ℕ → Type 0
 PartWays a b = (r s : List ℕ) → a ++ r ≢ b ++ s
 
--- a line of these words may stand for the part: it is one line, begins with the part's head, and can't be taken for its text
+-- a line of these words may stand for the part: it is one line, begins with the part's head, and can't be taken for its
+-- text
 pub record IsLine (p : Part) (words : List ℕ) : Type 0 where
   pub headed : is_some p.head ≡ true
   pub one : lacks 10 words ≡ true
@@ -49,7 +50,8 @@ StandsFor p text = (text ≡ p.text) ⊎ IsHeadedLine p.head text
 -- WHAT STANDS BEHIND PARTS: the text has one text for each of them, in order, and then this
 abbrev pub StandsBehind : List Part → List ℕ → List ℕ → Type 0
 StandsBehind [] text rest = text ≡ rest
-StandsBehind (p ∷ parts) text rest = (begin more : List ℕ) × StandsFor p begin × (text ≡ begin ++ more) × StandsBehind parts more rest
+StandsBehind (p ∷ parts) text rest = (begin more : List ℕ) × StandsFor p begin × (text ≡ begin ++ more)
+    × StandsBehind parts more rest
 
 -- nothing that a text begins with stands for the part
 abbrev pub HasNone : Part → List ℕ → Type 0

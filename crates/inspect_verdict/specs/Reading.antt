@@ -27,14 +27,15 @@ abbrev pub IsSummaryLine : Bool → List ℕ → Type 0
 IsSummaryLine true line = IsHeadedLine (Some summary_head) line
 IsSummaryLine false line = line ≡ []
 
--- THE TRACE of an output: it stands behind the statements, for each of which its plain answer stands, the line of its refusal, or
--- a line that begins as one; and behind the summary line, where there is one
+-- THE TRACE of an output: it stands behind the statements, for each of which its plain answer stands, the line of its
+-- refusal, or a line that begins as one; and behind the summary line, where there is one
 pub record IsTrace (i : Inputs) (out trace : List ℕ) : Type 0 where
   pub answers : List Answer
   pub plain : ArePlain i.loaded.table.rows (plans_of i.outcomes.items) answers
   pub line : List ℕ
   pub summary : IsSummaryLine i.summary line
-  pub behind : StandsBehind (parts_in i.loaded.table.columns i.loaded.dicts.items 1 i.outcomes.items answers) out (line ++ trace)
+  pub behind : StandsBehind (parts_in i.loaded.table.columns i.loaded.dicts.items 1 i.outcomes.items answers) out
+      (line ++ trace)
 
 -- NO ANSWER: for the statement of this number nothing stands, and from this line on, what stands behind those before it
 -- isn't its plain answer, or the line of its refusal
@@ -59,12 +60,15 @@ pub record LacksSummary (i : Inputs) (out : List ℕ) (line : ℕ) : Type 0 wher
 
 -- what the statements print with these answers
 abbrev pub statements_text : Inputs → List Answer → List ℕ
-statements_text i answers = flat_map text_in (printed i.loaded.table.columns i.loaded.dicts.items 1 i.outcomes.items answers)
+statements_text i answers = flat_map text_in
+    (printed i.loaded.table.columns i.loaded.dicts.items 1 i.outcomes.items answers)
 
--- WHAT A RUN PRINTS of what it is given, with these answers and this story: the statements, the summary where it is asked for, the trace
+-- WHAT A RUN PRINTS of what it is given, with these answers and this story: the statements, the summary where it is
+-- asked for, the trace
 abbrev pub text_with : Inputs → List Answer → List Entry → List ℕ
 text_with i answers story =
-    output (printed i.loaded.table.columns i.loaded.dicts.items 1 i.outcomes.items answers) (totals_of i.summary story (length i.loaded.table.rows)) (Some story)
+    output (printed i.loaded.table.columns i.loaded.dicts.items 1 i.outcomes.items answers)
+    (totals_of i.summary story (length i.loaded.table.rows)) (Some story)
 
 -- these are the lines, and this is the story
 abbrev pub IsToldIn : List Bool → List Entry → Result Told Verdict → Type 0
@@ -78,4 +82,5 @@ IsToldBy i answers story r = IsToldIn (map is_some (words_of i.outcomes.items an
 -- where a text is what the statements print, a summary line and a story, that is what is read of it
 abbrev pub HasRead : Inputs → List Answer → List ℕ → List Entry → List ℕ → Result Told Verdict → Type 0
 HasRead i answers line story out r =
-    IsSummaryLine i.summary line → AllByRecursion Fits story → length out ≤ 2 ^ 30 → out ≡ statements_text i answers ++ (line ++ story_text story) → IsToldBy i answers story r
+    IsSummaryLine i.summary line → AllByRecursion Fits story → length out ≤ 2 ^ 30
+    → out ≡ statements_text i answers ++ (line ++ story_text story) → IsToldBy i answers story r

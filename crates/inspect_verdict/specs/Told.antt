@@ -25,9 +25,9 @@ abbrev pub run_setting : Inputs → PolicyName → Setting
 run_setting i name = setting_in i name (first_cursor name)
 
 -- A RUN IS TOLD by a text: a story in the run's setting that is legal, whole and undisturbed, in which each worker
--- registered its scans in their order and reads failed as they may where pieces are kept in memory or in a scratch file;
--- why it stopped queries; and the text is the output of the batch over its table, for these stops and with this story as
--- its trace
+-- registered its scans in their order and reads failed as they may where pieces are kept in memory or in a scratch
+-- file; why it stopped queries; and the text is the output of the batch over its table, for these stops and with this
+-- story as its trace
 pub record IsRunTold (i : Inputs) (name : PolicyName) (scratch : Bool) (out : List ℕ) (story : List Entry)
     : Type 0 where
   -- its numbers have 32 bits, and its counts 64

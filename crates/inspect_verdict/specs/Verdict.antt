@@ -31,7 +31,8 @@ use Rattle.inspect_verdict.specs.declared.verdict.Verdict.TheVariants as verdict
 abbrev pub TellsNoRun : Inputs → PolicyName → Bool → List ℕ → Type 0
 TellsNoRun i name scratch out = (story : List Entry) → IsRunTold i name scratch out story → ⊥
 
--- a run is told by the text, with so many entries, reads, and entries of each kind; separate scans would read so many pieces
+-- a run is told by the text, with so many entries, reads, and entries of each kind; separate scans would read so many
+-- pieces
 pub record TellsRun (i : Inputs) (name : PolicyName) (scratch : Bool) (out : List ℕ) (entries reads_made apart : ℕ)
     (counts : Counts) : Type 0 where
   pub story : List Entry
@@ -40,7 +41,8 @@ pub record TellsRun (i : Inputs) (name : PolicyName) (scratch : Bool) (out : Lis
   pub reads_are : reads_made ≡ reads (past story)
   pub apart_are : apart ≡ reads_apart (run_setting i name)
   -- where a chunk has one piece and no query was stopped, it read no more than that
-  pub little : (run_setting i name).groups ≡ 1 → stopped_queries (run_setting i name) (past story) ≡ 0 → reads_made ≤ apart
+  pub little : (run_setting i name).groups ≡ 1 → stopped_queries (run_setting i name) (past story) ≡ 0
+      → reads_made ≤ apart
   pub counts_are : AreCounts story counts
 
 -- no run is told: the trace begins with a story whose entry at this place is the first that may not come, for this
@@ -54,8 +56,8 @@ pub record RefusesEntry (i : Inputs) (name : PolicyName) (scratch : Bool) (out :
   pub refused : IsIllegal (run_setting i name) (shape_in i) scratch story place reason
   pub at_line : BeginsAtLine out (story_text (drop place story) ++ rest) line
 
--- no run is told: the trace begins with a story whose entries before this place are legal, the one there doesn't fit the
--- words, for this reason, and it goes on from there at the line of this number
+-- no run is told: the trace begins with a story whose entries before this place are legal, the one there doesn't fit
+-- the words, for this reason, and it goes on from there at the line of this number
 pub record RefusesUnfit (i : Inputs) (name : PolicyName) (scratch : Bool) (out : List ℕ) (line place : ℕ)
     (reason : Unfit) : Type 0 where
   pub none : TellsNoRun i name scratch out

@@ -1,5 +1,6 @@
 -- What the words of a run ask of its story, beside the rules of all stories.
-use Rattle.std.specs.Prelude.{◌≡◌, ◌≢◌, ◌==◌, ◌<◌, ◌≤◌, ◌^◌, ◌-◌, ◌++◌, true, false, ℕ, Bool, List, [], ◌∷◌, Option, None, Some, filter, map, not, take, length, get_or, if◌then◌else◌}
+use Rattle.std.specs.Prelude.{◌≡◌, ◌≢◌, ◌==◌, ◌<◌, ◌≤◌, ◌^◌, ◌-◌, ◌++◌, true, false, ℕ, Bool, List, [], ◌∷◌}
+use Rattle.std.specs.Prelude.{Option, None, Some, filter, map, not, take, length, get_or, if◌then◌else◌}
 use Rattle.piece_format.specs.Shape.{TableShape, piece_at, pieces, words_in}
 use Rattle.scan_story.specs.declared.entry.Entry.{Entry}
 use Rattle.scan_story.specs.declared.entry.Entry.TheVariants.{Failed, Register}
@@ -62,8 +63,8 @@ AreTurns es w due (turns.Broken place next) = IsBrokenAt es w due place next
 
 -- ---- faults
 
--- where pieces are kept in memory no read fails and none is damaged; in a scratch file the counts of faults rise from 0,
--- as far as they can
+-- where pieces are kept in memory no read fails and none is damaged; in a scratch file the counts of faults rise from
+-- 0, as far as they can
 abbrev pub IsLicensed : Bool → History → Type 0
 IsLicensed scratch h = Licensed (not scratch) 0 (if scratch then 2 ^ 64 - 1 else 0) h
 

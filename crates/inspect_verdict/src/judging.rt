@@ -20,8 +20,8 @@ use table_pieces::shape_of;
 /// What is said of the story of a run.
 #[derive(Clone, Copy, Debug, PartialEq, Eq)]
 pub(crate) enum Judged {
-    /// It is legal and whole, no chunk was disturbed while it was held, and it has so many entries of each kind. Separate
-    /// scans would read so many pieces.
+    /// It is legal and whole, no chunk was disturbed while it was held, and it has so many entries of each kind.
+    /// Separate scans would read so many pieces.
     Legal { counts: Counts, apart: u64 },
     /// The entry at this place, from 0, is the first that may not come where it stands, for this reason.
     Illegal { place: usize, reason: Reason },

@@ -1,5 +1,6 @@
 // The order in which a worker registers its queries.
-ghost use Rattle.std.specs.Prelude.{◌≡◌, ◌≢◌, ◌<◌, ◌++◌, ◌∷◌, [], IfNone, IfOk, IfSome, List, None, Some, take, length, get_or, ℕ};
+ghost use Rattle.std.specs.Prelude.{◌≡◌, ◌≢◌, ◌<◌, ◌++◌, ◌∷◌, [], IfNone, IfOk};
+ghost use Rattle.std.specs.Prelude.{IfSome, List, None, Some, take, length, get_or, ℕ};
 ghost use Rattle.scan_story.specs.declared.entry.Entry.TheVariants.{Register};
 ghost use Rattle.scan_story.specs.Makers.{entries_by};
 ghost use Rattle.batch_ends.specs.Registering.{registered};
@@ -50,7 +51,8 @@ fn behind_entry<'a>(left: &'a [u32], entry: &Entry, worker: u32) -> Option<&'a [
     }
 }
 
-/// Whether a worker, in a story that has the oldest entry first, registers its queries in this order. It takes no memory.
+/// Whether a worker, in a story that has the oldest entry first, registers its queries in this order. It takes no
+/// memory.
 pub(crate) fn turns_of(story: &[Entry], worker: u32, due: &[u32]) -> Turns
     ensures { spec.AreTurns story.now worker due.now result }
 {

@@ -28,8 +28,8 @@ use scan_story::Entry;
 use std::alloc::Global;
 use table_core::Memory;
 
-/// What an output tells: whether a line stands for the answer to each statement, and the story behind them, which begins
-/// at the line of this number, from 1.
+/// What an output tells: whether a line stands for the answer to each statement, and the story behind them, which
+/// begins at the line of this number, from 1.
 #[derive(Drop)]
 pub(crate) struct Told {
     pub(crate) lines: Vec<bool>,

@@ -100,7 +100,8 @@ pub fn parts_of(
     requires columns { AllByRecursion (NamesColumns (length schema.now)) (plans_of outcomes.now) }
     requires answers { AllZip (CanBeWritten dicts.now) (plans_of outcomes.now) answers.now }
     ensures parts { IfOk result (λ parts. parts.items ≡ spec.parts_in schema.now dicts.now 1 outcomes.now answers.now) }
-    ensures print { IfOk result (λ parts. spec.ArePartsFrom schema.now dicts.now 1 outcomes.now answers.now parts.items) }
+    ensures print { IfOk result
+        (λ parts. spec.ArePartsFrom schema.now dicts.now 1 outcomes.now answers.now parts.items) }
 {
     let mut parts = Vec::new(alloc);
     let mut query = 0;

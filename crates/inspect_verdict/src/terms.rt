@@ -21,8 +21,8 @@ use table_pieces::{chunks_of, shape_of, zones_of_chunks};
 /// over a table with its dictionaries.
 ///
 /// The conditions are those of `batch_run::run_batch`. The table keeps the limits of shapes, and its cells fit its
-/// columns. The tasks' numbers rise and make at most 256 scans; each plan names columns of the table, and each condition
-/// fits its rows. The error is out of memory.
+/// columns. The tasks' numbers rise and make at most 256 scans; each plan names columns of the table, and each
+/// condition fits its rows. The error is out of memory.
 pub fn terms_of(
     alloc: Global,
     table: &Table,

@@ -39,8 +39,8 @@ pub(crate) fn terms_with(
     )
 }
 
-/// The terms by which `verdict_of` judges the story of a run: what it is given, and the policy of this name. The error is
-/// out of memory.
+/// The terms by which `verdict_of` judges the story of a run: what it is given, and the policy of this name. The error
+/// is out of memory.
 pub fn run_terms(alloc: Global, inputs: &Inputs, policy: PolicyName) -> Result<Terms, Memory>
     requires can { CanRun inputs.now }
     ensures setting { IfOk result (λ t. setting_of t ≡ run_setting inputs.now policy) }

@@ -47,22 +47,22 @@ pub enum Verdict {
     NotStory {
         line: u64,
     },
-    /// The entry at this line of the output, from 1, and this place of the story, from 0, is the first that may not come
-    /// where it stands: it breaks this rule, or there was this better choice.
+    /// The entry at this line of the output, from 1, and this place of the story, from 0, is the first that may not
+    /// come where it stands: it breaks this rule, or there was this better choice.
     Illegal {
         line: u64,
         place: usize,
         reason: Reason,
     },
-    /// The entry at this line of the output, from 1, and this place of the story, from 0, keeps the rules of stories, but
-    /// is none of a run with these words: it is the first, for this reason.
+    /// The entry at this line of the output, from 1, and this place of the story, from 0, keeps the rules of stories,
+    /// but is none of a run with these words: it is the first, for this reason.
     Unfit {
         line: u64,
         place: usize,
         why: Unfit,
     },
-    /// The story is legal, but a query isn't over, so a chunk that it needs was not delivered exactly once, or something
-    /// is left open. The output ends before this line, counted from 1.
+    /// The story is legal, but a query isn't over, so a chunk that it needs was not delivered exactly once, or
+    /// something is left open. The output ends before this line, counted from 1.
     NotWhole {
         line: u64,
     },
@@ -172,9 +172,9 @@ fn front_of(text: &[u8], bytes: usize) -> &[u8]
     &text[..bytes]
 }
 
-/// Whether a text of at most 2^30 bytes is the output of a run of these inputs under the policy of this name, which keeps
-/// its pieces in a scratch file or, without `scratch`, in memory, and of which length; or the first that stands in the
-/// way: of several entries and lines of the trace the first. The error is out of memory.
+/// Whether a text of at most 2^30 bytes is the output of a run of these inputs under the policy of this name, which
+/// keeps its pieces in a scratch file or, without `scratch`, in memory, and of which length; or the first that stands
+/// in the way: of several entries and lines of the trace the first. The error is out of memory.
 ///
 /// `Legal` comes exactly where it is one: some story in the setting of the run is legal, whole and undisturbed, each
 /// worker registered its scans in the order of the batch, each read failed as it may, and the text is the answers

@@ -11,10 +11,10 @@ ghost use Rattle.inspect_verdict.specs.Back.{HasPrinted, HasPrintedOn, IsJudgedB
 use inspect_story::numbers_fit;
 use scan_story::Entry;
 
-/// What `run` and `run_boxed` of coop_run print with status 0 or 1 and the trace, under these words, is judged legal, over
-/// every device: a law, about the story that they answer. Over a depot that tells what it holds nothing more is asked;
-/// over one that tells nothing no run promises that the pieces that it reads are those of the table, so it is said of
-/// what is sound. It takes no memory.
+/// What `run` and `run_boxed` of coop_run print with status 0 or 1 and the trace, under these words, is judged legal,
+/// over every device: a law, about the story that they answer. Over a depot that tells what it holds nothing more is
+/// asked; over one that tells nothing no run promises that the pieces that it reads are those of the table, so it is
+/// said of what is sound. It takes no memory.
 pub fn printed_runs_are_legal(story: &[Entry])
     ensures run { (r : RequestOf) (over : DevicesOf) (did : DidOf) → did.story ≡ story.now → HasPrinted r over did
         → IsJudgedBack r over.shelf over.sink (work_of over did) }

@@ -17,8 +17,8 @@ use scan_story::Entry;
 use std::alloc::Global;
 use table_core::Memory;
 
-/// The line of a text, from 1, from which on it isn't what a run prints with these answers and this story; none where it
-/// is that. The error is out of memory.
+/// The line of a text, from 1, from which on it isn't what a run prints with these answers and this story; none where
+/// it is that. The error is out of memory.
 pub(crate) fn other_line(
     alloc: Global,
     inputs: &Inputs,

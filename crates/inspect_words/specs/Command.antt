@@ -31,7 +31,8 @@ cut_rules = number MOST_CHUNK_ROWS (codes "rows") ∷ option (codes "layout") �
 
 -- who works on it, and how
 abbrev pub work_rules : List Rule
-work_rules = number MOST_WORKERS (codes "threads") ∷ number MOST_FRAMES (codes "frames") ∷ number MOST_PARTS (codes "parts") ∷ option (codes "policy") ∷ []
+work_rules = number MOST_WORKERS (codes "threads") ∷ number MOST_FRAMES (codes "frames")
+    ∷ number MOST_PARTS (codes "parts") ∷ option (codes "policy") ∷ []
 
 -- what changes no answer and no entry: where pieces are kept, and what is printed
 abbrev pub side_rules : List Rule

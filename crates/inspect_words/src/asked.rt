@@ -6,8 +6,8 @@ use command_words::Request;
 /// What the words ask for.
 #[derive(Clone, Copy, Debug, PartialEq, Eq)]
 pub enum Asked<'a> {
-    /// What a table holds, and what becomes of each statement of a batch, where the table is cut as the request says. All
-    /// else of the request is usual: `explain`.
+    /// What a table holds, and what becomes of each statement of a batch, where the table is cut as the request says.
+    /// All else of the request is usual: `explain`.
     Explain {
         run: Request<'a>,
     },

@@ -26,8 +26,8 @@ use std::alloc::Global;
 ///
 /// # Errors
 ///
-/// `Said` exactly where clap finds a fault in the words, or where they ask for help or the version; `Run` only where clap
-/// takes them and `coop_cli` doesn't take those of the run. `Memory` may come at any time. Nothing is left behind.
+/// `Said` exactly where clap finds a fault in the words, or where they ask for help or the version; `Run` only where
+/// clap takes them and `coop_cli` doesn't take those of the run. `Memory` may come at any time. Nothing is left behind.
 pub fn asked_of<'a>(alloc: Global, words: &'a [String]) -> Result<Asked<'a>, Refused<'a>>
     ensures asked { IfOk result (λ a. asked_of (texts words.now) ≡ Some (asked_view a)) }
     ensures limits { IfOk result (λ a. HasLimits (asked_view a)) }

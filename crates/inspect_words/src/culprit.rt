@@ -65,8 +65,8 @@ pub(crate) fn bare_in<'a>(words: &'a [String], first: usize) -> Option<Culprit<'
     None
 }
 
-/// A value that `coop_cli` doesn't take though clap does: a name that it doesn't know, or a number that isn't one to ten
-/// digits.
+/// A value that `coop_cli` doesn't take though clap does: a name that it doesn't know, or a number that isn't one to
+/// ten digits.
 pub(crate) fn value_in<'a>(found: &ArgMatches<'a>) -> Option<Culprit<'a>> {
     for (id, name) in NUMBERS {
         if let Some(value) = found.get_str(*id)

@@ -1,7 +1,8 @@
-//! The words of `coop_inspect`: which of its subcommands they name, and what that is to work on; or why they are refused.
+//! The words of `coop_inspect`: which of its subcommands they name, and what that is to work on; or why they are
+//! refused.
 //!
-//! `clap` reads the words by a command with subcommands, and says help, the version and what is wrong with them. The words
-//! of a run mean what they mean to `coop_cli`, since `command_words` reads them. docs/INSPECT.md is the manual.
+//! `clap` reads the words by a command with subcommands, and says help, the version and what is wrong with them. The
+//! words of a run mean what they mean to `coop_cli`, since `command_words` reads them. docs/INSPECT.md is the manual.
 //!
 //!     let words = ["judge", "--threads", "8", "orders.csv", "report.sql", "answers.txt"];
 //!     let asked = asked_of(alloc, &words)?;             // Asked::Judge { run, output: "answers.txt" }, or a Refused

@@ -1,12 +1,13 @@
 // Which entries of a story are to be drawn.
 ghost use Rattle.std.specs.Prelude.{◌≡◌, IfSome, option_map};
-ghost use Rattle.inspect_words.specs.Windows.{IsInOrder, counted, is_in_order, number_given, number_of, window_by, window_of};
+ghost use Rattle.inspect_words.specs.Windows.{IsInOrder, counted, is_in_order, number_given};
+ghost use Rattle.inspect_words.specs.Windows.{number_of, window_by, window_of};
 
 /// The greatest number that an entry may have in the words.
 pub(crate) const MOST_ENTRIES: u32 = u32::MAX;
 
-/// The entries of a story that are to be drawn, from 1, both ends included. Without either all are; without one of them it
-/// is the first, or the last, of the story.
+/// The entries of a story that are to be drawn, from 1, both ends included. Without either all are; without one of them
+/// it is the first, or the last, of the story.
 #[derive(Clone, Copy, Debug, PartialEq, Eq)]
 pub struct Window {
     /// The first, which is no later than the last.

@@ -1,6 +1,7 @@
 //! The manager's book: who needs which chunks, what stands in frames, who holds what, and the numbers of all this.
 //!
-//! A book follows a story entry by entry and answers each number of the story so far. By it a policy of the manager picks:
+//! A book follows a story entry by entry and answers each number of the story so far. By it a policy of the manager
+//! picks:
 //! `Policy` says what each one owes. `docs/MANAGER.md` tells the rules and how each number is kept.
 //!
 //!     let mut book = Book::new(alloc, needs, chunks, workers, frames, groups)?;

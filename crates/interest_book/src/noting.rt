@@ -6,7 +6,8 @@ use scan_story::{Entry, Hold};
 impl Book {
     ghost use Rattle.std.specs.Prelude.{◌≡◌, ◌∷◌, ◌^◌, ◌-◌, ◌/◌, ◌<◌, ◌≤◌, ℕ, length};
     ghost use Rattle.scan_story.specs.declared.entry.Why.{Why};
-    ghost use Rattle.scan_story.specs.declared.entry.Entry.TheVariants.{Register, Plan, Evict, Fill, Filled, Failed, Deliver, Release, Stop, End};
+    ghost use Rattle.scan_story.specs.declared.entry.Entry.TheVariants.{Register, Plan, Evict, Fill, Filled};
+    ghost use Rattle.scan_story.specs.declared.entry.Entry.TheVariants.{Failed, Deliver, Release, Stop, End};
     ghost use Rattle.scan_story.specs.declared.setting.Setting.{Setting};
     ghost use Rattle.scan_story.specs.Views.{History};
     ghost use Rattle.scan_story.specs.MayFollow.{Allowed};

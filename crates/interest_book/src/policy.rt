@@ -4,7 +4,8 @@ ghost use Rattle.scan_story.specs.declared.setting.PolicyName.{PolicyName};
 ghost use Rattle.scan_story.specs.declared.setting.Setting.{Setting};
 ghost use Rattle.scan_story.specs.Views.{History};
 ghost use Rattle.interest_book.specs.Stands.{Stands};
-ghost use Rattle.interest_book.specs.Picks.{PicksQuery, PicksLoad, PicksDelivery, PicksVictim, cursor_after_load, cursor_after_delivery, HasActive, HasNoneBegun};
+ghost use Rattle.interest_book.specs.Picks.{PicksQuery, PicksLoad, PicksDelivery, PicksVictim};
+ghost use Rattle.interest_book.specs.Picks.{cursor_after_load, cursor_after_delivery, HasActive, HasNoneBegun};
 
 use crate::book::Book;
 use scan_story::PolicyName;

@@ -13,7 +13,9 @@ impl Book {
     ghost use Rattle.scan_story.specs.Setting.{need_of, columns_in};
     ghost use Rattle.scan_story.specs.Views.{History, phase_of, needs_chunk, is_available, held_by, is_held, piece_in};
     ghost use Rattle.scan_story.specs.Loads.{underway, free_frames};
-    ghost use Rattle.scan_story.specs.Numbers.{needed, available, is_starved, holds_for, waiting, running, interested, starved_interested, close, missing, cached, missing_for, overlap, starved_overlap};
+    ghost use Rattle.scan_story.specs.Numbers.{needed, available, is_starved, holds_for, waiting};
+    ghost use Rattle.scan_story.specs.Numbers.{running, interested, starved_interested, close};
+    ghost use Rattle.scan_story.specs.Numbers.{missing, cached, missing_for, overlap, starved_overlap};
     ghost use Rattle.scan_story.specs.MayFollow.{feeds_starved};
     ghost use Rattle.chunk_interest.specs.Clients.{client_at};
     ghost use Rattle.interest_book.specs.Stands.{Stands, underway_of, IsLeastQuery};

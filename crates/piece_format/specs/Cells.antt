@@ -1,5 +1,6 @@
 -- The words of one cell, and the cells that a table of a shape has.
-use Rattle.std.specs.Prelude.{◌≡◌, ◌≢◌, ◌<◌, ℕ, Bool, true, false, nat_lt, if◌then◌else◌, List, [], length, map, slice_index, slice_index_or}
+use Rattle.std.specs.Prelude.{◌≡◌, ◌≢◌, ◌<◌, ℕ, Bool, true, false, nat_lt, if◌then◌else◌}
+use Rattle.std.specs.Prelude.{List, [], length, map, slice_index, slice_index_or}
 use Rattle.std.specs.Int.{cast_signed, cast_unsigned, w64}
 use Rattle.table_core.specs.Chunk.{chunk}
 use Rattle.table_core.specs.Table.{TableRows}
@@ -33,7 +34,8 @@ cell_of kinds.Int len false word = Int (cast_signed w64 word)
 cell_of kinds.Text len false word = text_cell len word
 cell_of (kinds.Dec places) len false word = Int (cast_signed w64 word)
 
--- what a cell of a column may be: no value, a code below the length of the dictionary in a column of texts, a number in any other
+-- what a cell of a column may be: no value, a code below the length of the dictionary in a column of texts, a number in
+-- any other
 abbrev pub FitsKind : Kind → ℕ → Cell → Type 0
 FitsKind kind len Null = Unit {0}
 FitsKind kind len (Int n) = kind ≢ kinds.Text
@@ -59,7 +61,8 @@ piece_rows s rows piece = chunk rows s.per (chunk_of s piece)
 -- the rows are those of a table of this shape, and each cell fits its column
 pub record AreRowsOf (s : TableShape) (rows : List (List Cell)) : Type 0 where
   pub count : length rows ≡ s.rows
-  pub fits : (row x : ℕ) → row < s.rows → x < length s.kinds → FitsKind (kind_at s x) (dict_len_at s x) (cell_at rows row x)
+  pub fits : (row x : ℕ) → row < s.rows → x < length s.kinds
+      → FitsKind (kind_at s x) (dict_len_at s x) (cell_at rows row x)
 
 -- the table has this shape
 pub record IsTableOf (s : TableShape) (table : TableRows) : Type 0 where

@@ -14,7 +14,8 @@ use Rattle.piece_format.specs.Words.{Slot, nulls, value}
 
 -- so far a value word may go where its null bit isn't set
 abbrev pub IsTop : Kind → ℕ → ℕ → Type 0
-IsTop kind len top = (null : Bool) (w : ℕ) → w < 2 ^ 64 → nat_le w (if null then 0 else top) ≡ not (is_broken_value kind len null w)
+IsTop kind len top = (null : Bool) (w : ℕ) → w < 2 ^ 64
+    → nat_le w (if null then 0 else top) ≡ not (is_broken_value kind len null w)
 
 -- the same for each column of a shape
 abbrev pub AreTops : TableShape → List ℕ → Type 0

@@ -10,7 +10,8 @@ use Rattle.piece_format.specs.Words.{bits, first_words, slot_at, value}
 
 -- a cell that its words give back, whatever the column that it fits
 abbrev pub IsKept : Cell → Type 0
-IsKept cell = (kind : Kind) (len : ℕ) → FitsKind kind len cell → cell_of kind len (is_null cell) (value_word cell) ≡ cell
+IsKept cell = (kind : Kind) (len : ℕ) → FitsKind kind len cell
+    → cell_of kind len (is_null cell) (value_word cell) ≡ cell
 
 -- the rows of the piece's chunk stand in the table, from one row on
 pub record HoldsRows (q : Piece) (table : TableRows) (from : ℕ) : Type 0 where
@@ -35,6 +36,8 @@ pub record AreFirst (q : Piece) (cell : ℕ → ℕ → Cell) (count : ℕ) (wor
 pub record AreFilled (q : Piece) (cell : ℕ → ℕ → Cell) (done : ℕ → ℕ) (words : List ℕ) : Type 0 where
   pub room : length words ≡ q.rows * (q.columns + 1)
   pub few : (row : ℕ) → row < q.rows → done row ≤ q.columns
-  pub masks : (row : ℕ) → row < q.rows → slice_index words (row * (q.columns + 1)) ≡ bits (λ x. is_null (cell row x)) (done row)
-  pub values : (row x : ℕ) → row < q.rows → x < done row → slice_index words (row * (q.columns + 1) + 1 + x) ≡ value_word (cell row x)
+  pub masks : (row : ℕ) → row < q.rows
+      → slice_index words (row * (q.columns + 1)) ≡ bits (λ x. is_null (cell row x)) (done row)
+  pub values : (row x : ℕ) → row < q.rows → x < done row
+      → slice_index words (row * (q.columns + 1) + 1 + x) ≡ value_word (cell row x)
   pub kept : (row x : ℕ) → row < q.rows → x < done row → IsKept (cell row x)

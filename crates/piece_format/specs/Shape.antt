@@ -50,9 +50,15 @@ chunk_of s piece = piece / groups s
 abbrev pub rows_in : TableShape → ℕ → ℕ
 rows_in s c = chunk_end s.rows s.per c - c * s.per
 
--- what a piece is: its layout, the columns of the table, the rows of its chunk, and its place among the pieces of the chunk
+-- what a piece is: its layout, the columns of the table, the rows of its chunk, and its place among the pieces of the
+-- chunk
 abbrev pub piece_at : TableShape → ℕ → Piece
-piece_at s piece = record { layout = s.layout; columns = length s.kinds; rows = rows_in s (chunk_of s piece); group = piece % groups s }
+piece_at s piece = record {
+  layout = s.layout;
+  columns = length s.kinds;
+  rows = rows_in s (chunk_of s piece);
+  group = piece % groups s;
+}
 
 -- the limits of a piece
 pub record IsPiece (q : Piece) : Type 0 where

@@ -1,5 +1,6 @@
 -- The words of a piece, said for each place: the value word of a cell, or a word of null bits.
-use Rattle.std.specs.Prelude.{◌+◌, ◌-◌, ◌*◌, ◌/◌, ◌%◌, ◌^◌, ◌==◌, ℕ, zero, suc, Bool, nat_lt, if◌then◌else◌, min, List, map}
+use Rattle.std.specs.Prelude.{◌+◌, ◌-◌, ◌*◌, ◌/◌, ◌%◌, ◌^◌, ◌==◌, ℕ, zero, suc}
+use Rattle.std.specs.Prelude.{Bool, nat_lt, if◌then◌else◌, min, List, map}
 use Rattle.std.specs.List.{range_with_len}
 use Rattle.table_core.specs.declared.cell.Cell.{Cell}
 use Rattle.piece_format.specs.declared.layout.Layout.{Layout}
@@ -8,13 +9,15 @@ use Rattle.piece_format.specs.declared.pieces.Piece.{Piece}
 use Rattle.piece_format.specs.Cells.{cell_at, is_null, piece_rows, value_word}
 use Rattle.piece_format.specs.Shape.{TableShape, piece_at, words_in}
 
--- the value word of the cell in a row and a column, or a word of null bits, of which so many name cells: each by its row and its column
+-- the value word of the cell in a row and a column, or a word of null bits, of which so many name cells: each by its
+-- row and its column
 pub data Slot : Type 0 where
   value : ℕ → ℕ → Slot
   nulls : ℕ → (ℕ → ℕ) → (ℕ → ℕ) → Slot
 
 -- Row layout: each row is a mask word, whose bit x is that of column x, and then the value word of each column.
--- Column layout: the value words of all rows, and then null words, of which word k has the bits of the 64 rows from row 64 * k on.
+-- Column layout: the value words of all rows, and then null words, of which word k has the bits of the 64 rows from row
+-- 64 * k on.
 abbrev pub slot_in : Layout → Piece → ℕ → Slot
 slot_in layouts.Row q i =
     let width = q.columns + 1 in

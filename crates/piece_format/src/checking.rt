@@ -1,5 +1,6 @@
 // The first word of a piece that breaks the rules.
-ghost use Rattle.std.specs.Prelude.{◌≡◌, ◌<◌, ◌≤◌, ◌+◌, ◌*◌, ℕ, List, min, IfErr, IfNone, IfSome, IsOk, OnOk, length, slice_index};
+ghost use Rattle.std.specs.Prelude.{◌≡◌, ◌<◌, ◌≤◌, ◌+◌, ◌*◌, ℕ, List, min, IfErr};
+ghost use Rattle.std.specs.Prelude.{IfNone, IfSome, IsOk, OnOk, length, slice_index};
 ghost use Rattle.table_core.specs.declared.cell.Cell.{Cell};
 ghost use Rattle.piece_format.specs.declared.layout.Layout.TheVariants as layouts;
 ghost use Rattle.piece_format.specs.Bytes.{bytes_of, word_of};

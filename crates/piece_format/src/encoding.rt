@@ -85,9 +85,9 @@ fn encode_rows(words: &mut Vec<u64>, piece: Piece, table: &Table, from: u32) -> 
 /// The words of a piece of a table, in place of the words that stood in the vector, whose room is used again. After an
 /// `Err`, which is out of memory, any words stand there.
 ///
-/// The table has the kinds and rows of the shape, and each of its cells is NULL, a code below the length of its column's
-/// dictionary in a column of texts, or a number in any other. The words give back each cell of the chunk that the piece
-/// has, and so do their bytes; none of them breaks the rules that `check` judges.
+/// The table has the kinds and rows of the shape, and each of its cells is NULL, a code below the length of its
+/// column's dictionary in a column of texts, or a number in any other. The words give back each cell of the chunk that
+/// the piece has, and so do their bytes; none of them breaks the rules that `check` judges.
 pub fn encode_into(
     words: &mut Vec<u64>,
     shape: &Shape,

@@ -1,5 +1,5 @@
-//! Pieces: the chunks of a table as words of 64 bits and as bytes, row by row or column by column. docs/PIECES.md has the
-//! formats.
+//! Pieces: the chunks of a table as words of 64 bits and as bytes, row by row or column by column. docs/PIECES.md has
+//! the formats.
 //!
 //!     let piece = piece_of(&shape, chunk, group);
 //!     let words = encode(alloc, &shape, &table, piece)?;

@@ -11,8 +11,8 @@ use table_core::chunk_span;
 
 /// What a piece is, and where the words of its cells stand. It is a few numbers, made once for a piece.
 ///
-/// Rows are those of the piece's chunk, from 0. In the row layout a piece has every column, in the column layout the one
-/// of its group. A cell has two words: one with its null bit, which it shares with other cells, and its value word.
+/// Rows are those of the piece's chunk, from 0. In the row layout a piece has every column, in the column layout the
+/// one of its group. A cell has two words: one with its null bit, which it shares with other cells, and its value word.
 #[derive(Clone, Copy, PartialEq, Eq)]
 pub struct Piece {
     pub layout: Layout,

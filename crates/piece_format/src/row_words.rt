@@ -47,8 +47,8 @@ fn put_column(words: &mut [u64], piece: Piece, table: &Table, from: u32, x: u32)
     }
 }
 
-/// The words of a chunk in the row layout, where no words stand. After an `Err`, which is out of memory, any words stand
-/// there.
+/// The words of a chunk in the row layout, where no words stand. After an `Err`, which is out of memory, any words
+/// stand there.
 pub(crate) fn fill_rows(
     words: &mut Vec<u64>,
     piece: Piece,

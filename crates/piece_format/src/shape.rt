@@ -29,7 +29,13 @@ pub struct Shape {
 impl Model for Shape {
     ghost Value = { spec.TableShape };
 
-    ghost view = { λ s. record { layout = s.layout; kinds = s.kinds.items; dict_lens = s.dict_lens.items; rows = s.rows; per = s.per } };
+    ghost view = { λ s. record {
+      layout = s.layout;
+      kinds = s.kinds.items;
+      dict_lens = s.dict_lens.items;
+      rows = s.rows;
+      per = s.per;
+    } };
 }
 
 impl Shape {

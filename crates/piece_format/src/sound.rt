@@ -13,8 +13,8 @@ use crate::word_bytes::word_at;
 use std::simd::prelude::*;
 use table_core::{MOST_CHUNK_ROWS, MOST_COLUMNS};
 
-// Whether in so many rows no mask word has a bit that names no column, and the value words of four columns go no further
-// than they may. Where the table has fewer columns, the words behind them are those of the next row.
+// Whether in so many rows no mask word has a bit that names no column, and the value words of four columns go no
+// further than they may. Where the table has fewer columns, the words behind them are those of the next row.
 fn group_is_sound(
     columns: u32,
     bytes: &[u8],

@@ -24,5 +24,6 @@ pub record IsFirstFrom (chunks start : ℕ) (test : ℕ → Bool) (c : ℕ) : Ty
 -- each load was of the first chunk, from the cursor on and around, that some starved query needed and missed
 abbrev pub LoadsWentAround : Setting → History → Type 0
 LoadsWentAround s [] = Unit {0}
-LoadsWentAround s (Plan w q c ∷ h) = IsFirstFrom s.chunks (get_or (cursor_at s h) 0 0) (is_wanted s h) c × LoadsWentAround s h
+LoadsWentAround s (Plan w q c ∷ h) = IsFirstFrom s.chunks (get_or (cursor_at s h) 0 0) (is_wanted s h) c
+    × LoadsWentAround s h
 LoadsWentAround s (_ ∷ h) = LoadsWentAround s h

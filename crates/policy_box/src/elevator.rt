@@ -6,7 +6,8 @@ ghost use Rattle.scan_story.specs.MayFollow.{is_trigger, is_target, is_ready};
 ghost use Rattle.scan_story.specs.Policies.{dist_from, is_least_close, reach};
 ghost use Rattle.interest_book.specs.Stands.{Stands};
 ghost use Rattle.relevance.specs.Best.{IsFirstBest};
-ghost use Rattle.interest_book.specs.Picks.{PicksQuery, PicksLoad, PicksDelivery, PicksVictim, cursor_after_load, cursor_after_delivery, HasActive, HasNoneBegun};
+ghost use Rattle.interest_book.specs.Picks.{PicksQuery, PicksLoad, PicksDelivery, PicksVictim};
+ghost use Rattle.interest_book.specs.Picks.{cursor_after_load, cursor_after_delivery, HasActive, HasNoneBegun};
 ghost use Rattle.relevance.specs.Rated.{is_below};
 ghost use Rattle.policy_box.specs.Next.{next_of};
 

@@ -66,7 +66,8 @@ impl Policy for Attach {
     ghost use Rattle.scan_story.specs.Policies.{dist_from, is_least_close, start_of};
     ghost use Rattle.interest_book.specs.Stands.{Stands};
     ghost use Rattle.relevance.specs.Best.{IsFirstBest};
-    ghost use Rattle.interest_book.specs.Picks.{PicksQuery, PicksLoad, PicksDelivery, PicksVictim, cursor_after_load, cursor_after_delivery, HasActive, HasNoneBegun};
+    ghost use Rattle.interest_book.specs.Picks.{PicksQuery, PicksLoad, PicksDelivery, PicksVictim};
+    ghost use Rattle.interest_book.specs.Picks.{cursor_after_load, cursor_after_delivery, HasActive, HasNoneBegun};
     ghost use Rattle.relevance.specs.Rated.{is_above, is_below};
     ghost use Rattle.policy_plain.specs.Starts.{cursor_of};
 
@@ -93,7 +94,8 @@ impl Policy for Attach {
         ensures picks { (s : Setting) (h : History) → Stands book.now s h
             → PicksLoad names.Attach (cursor_of self.old.last self.old.starts) s h q result }
         ensures first { (s : Setting) (h : History) → Stands book.now s h → IfSome result
-            (IsFirstBest is_below (is_target s h q) (dist_from s (start_of (cursor_of self.old.last self.old.starts) q))) }
+            (IsFirstBest is_below (is_target s h q)
+            (dist_from s (start_of (cursor_of self.old.last self.old.starts) q))) }
         ensures cursor { (s : Setting) (h : History) → Stands book.now s h → cursor_of self.new.last self.new.starts
             ≡ cursor_after_load names.Attach s (cursor_of self.old.last self.old.starts) q result }
     {
@@ -109,7 +111,8 @@ impl Policy for Attach {
         ensures picks { (s : Setting) (h : History) → Stands book.now s h
             → PicksDelivery names.Attach (cursor_of self.old.last self.old.starts) s h q result }
         ensures first { (s : Setting) (h : History) → Stands book.now s h → IfSome result
-            (IsFirstBest is_below (is_ready s h q) (dist_from s (start_of (cursor_of self.old.last self.old.starts) q))) }
+            (IsFirstBest is_below (is_ready s h q)
+            (dist_from s (start_of (cursor_of self.old.last self.old.starts) q))) }
         ensures cursor { cursor_of self.new.last self.new.starts
             ≡ cursor_after_delivery names.Attach (cursor_of self.old.last self.old.starts) q result }
     {

@@ -64,7 +64,8 @@ impl Policy for Normal {
     ghost use Rattle.scan_story.specs.Policies.{is_least_close, place_in};
     ghost use Rattle.interest_book.specs.Stands.{Stands};
     ghost use Rattle.relevance.specs.Best.{IsFirstBest};
-    ghost use Rattle.interest_book.specs.Picks.{PicksQuery, PicksLoad, PicksDelivery, PicksVictim, cursor_after_load, cursor_after_delivery, HasActive, HasNoneBegun};
+    ghost use Rattle.interest_book.specs.Picks.{PicksQuery, PicksLoad, PicksDelivery, PicksVictim};
+    ghost use Rattle.interest_book.specs.Picks.{cursor_after_load, cursor_after_delivery, HasActive, HasNoneBegun};
     ghost use Rattle.relevance.specs.Rated.{is_above, is_below};
 
     ghost name = { λ _. names.Normal };

@@ -1,6 +1,7 @@
 // A field as a date.
 ghost use Rattle.std.specs.Prelude.{◌≡◌, ◌<◌, IfSome, option_map};
-ghost use Rattle.prepare_dates.specs.Days.{IsOfYears, date_in, date_with, either_end, numbers_of, year_first, year_last};
+ghost use Rattle.prepare_dates.specs.Days.{IsOfYears, date_in, date_with, either_end};
+ghost use Rattle.prepare_dates.specs.Days.{numbers_of, year_first, year_last};
 
 use crate::number::{is_run, number_in};
 use crate::order::Order;
@@ -59,9 +60,9 @@ fn either_end(order: Order, runs: Runs<'_>) -> Option<Date>
     year_last(order, runs)
 }
 
-/// The date that a field is in this order, if it is one: day and month of one or two digits and a year of four, with one
-/// of `.`, `/` and `-` between them, twice the same; or a year of four digits, a month and a day of two, with dashes
-/// between them, as `2026-01-05`, in either order. The day is one of the Gregorian calendar, from 0000-01-01 to
+/// The date that a field is in this order, if it is one: day and month of one or two digits and a year of four, with
+/// one of `.`, `/` and `-` between them, twice the same; or a year of four digits, a month and a day of two, with
+/// dashes between them, as `2026-01-05`, in either order. The day is one of the Gregorian calendar, from 0000-01-01 to
 /// 9999-12-31.
 pub fn date_of(order: Order, field: &[u8]) -> Option<Date>
     ensures value { option_map numbers_of result ≡ date_in order field.now }

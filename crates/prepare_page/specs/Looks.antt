@@ -1,5 +1,6 @@
 -- All that is seen of an export.
-use Rattle.std.specs.Prelude.{◌≡◌, ◌+◌, ℕ, Bool, false, nat_le, not, ◌&&◌, None, List, [], ◌∷◌, length, drop, if◌then◌else◌}
+use Rattle.std.specs.Prelude.{◌≡◌, ◌+◌, ℕ, Bool, false, nat_le, not, ◌&&◌}
+use Rattle.std.specs.Prelude.{None, List, [], ◌∷◌, length, drop, if◌then◌else◌}
 use Rattle.csv.specs.Reading.{strip_bom}
 use Rattle.csv.specs.Records.{fields_of}
 use Rattle.csv.specs.declared.parser.State.TheVariants as st

@@ -299,8 +299,8 @@ fn with_point(survey: &Survey, has_points: bool) -> Reading
     Reading::Point
 }
 
-/// How the numbers of an export are read: with a decimal comma where some column of numbers shows one, or points between
-/// groups of digits, and none shows a decimal point, or commas between groups.
+/// How the numbers of an export are read: with a decimal comma where some column of numbers shows one, or points
+/// between groups of digits, and none shows a decimal point, or commas between groups.
 pub fn reading_of(survey: &Survey) -> Reading
     ensures { result ≡ spec.reading_of survey.now }
 {

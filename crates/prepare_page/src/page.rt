@@ -31,9 +31,9 @@ pub struct Page<'a> {
     pub(crate) asked_marks: Vec<bool>,
 }
 
-/// The page of an export whose characters are written so, by its text in UTF-8 and all that is seen of it; where runs of
-/// blanks part its columns, by the text with tabs in their place, as `tabs_in` gives it. More than 2^62 records are a
-/// failure, `TooLong`.
+/// The page of an export whose characters are written so, by its text in UTF-8 and all that is seen of it; where runs
+/// of blanks part its columns, by the text with tabs in their place, as `tabs_in` gives it. More than 2^62 records are
+/// a failure, `TooLong`.
 pub fn page_of<'a>(
     alloc: Global,
     file: &'a str,

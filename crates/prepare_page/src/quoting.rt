@@ -15,8 +15,8 @@ fn is_plain_word(word: &[u8]) -> bool {
     !word.is_empty()
 }
 
-/// A word of a command: as it is where no byte of it means something to a shell, else in single quotes, where one of its
-/// own is written by `'\\''`.
+/// A word of a command: as it is where no byte of it means something to a shell, else in single quotes, where one of
+/// its own is written by `'\\''`.
 #[derive(Clone, Copy)]
 pub(crate) struct Quoted<'a>(pub &'a str);
 

@@ -54,7 +54,8 @@ impl Widths {
         requires few { IsFew self.old }
         ensures records { self.new.records ≡ self.old.records + 1 }
         ensures there { told_width (length (fields_of row.now)) < length self.old.counts.items }
-        ensures counts { self.new.counts.items ≡ one_higher self.old.counts.items (told_width (length (fields_of row.now))) }
+        ensures counts { self.new.counts.items
+            ≡ one_higher self.old.counts.items (told_width (length (fields_of row.now))) }
     {
         self.records += 1;
         one_more(self.counts.as_mut_slice(), told_width(row.len()));

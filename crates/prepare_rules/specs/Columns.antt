@@ -1,5 +1,6 @@
 -- The columns that are written.
-use Rattle.std.specs.Prelude.{◌+◌, ◌-◌, ◌==◌, ◌&&◌, ℕ, zero, suc, Bool, nat_le, List, [], ◌∷◌, length, map, slice_index_or, Option, Some, None, Result, Ok, Err, if◌then◌else◌, Vec}
+use Rattle.std.specs.Prelude.{◌+◌, ◌-◌, ◌==◌, ◌&&◌, ℕ, zero, suc, Bool, nat_le, List, [], ◌∷◌, length, map}
+use Rattle.std.specs.Prelude.{slice_index_or, Option, Some, None, Result, Ok, Err, if◌then◌else◌, Vec}
 use Rattle.std.specs.Global.{Global}
 use Rattle.std.specs.List.{list_any}
 use Rattle.std.specs.Str.{bytes_eq}
@@ -34,7 +35,8 @@ place_first word (Some place) (Ok places) = Ok (place ∷ places)
 -- the places of columns, of which the first has this number; the first that isn't there is told by its number
 abbrev pub places_from : Record → ℕ → List Column → Result (List ℕ) ℕ
 places_from names word [] = Ok []
-places_from names word (column ∷ columns) = place_first word (place_of names column) (places_from names (word + 1) columns)
+places_from names word (column ∷ columns) = place_first word (place_of names column)
+    (places_from names (word + 1) columns)
 
 -- so many numbers from a number on
 abbrev pub from_on : ℕ → ℕ → List ℕ
@@ -54,7 +56,8 @@ lost_first word (Some place) rest = rest
 -- the first name that is given up and isn't there, by its number from this one on
 abbrev pub lost_name : Record → ℕ → List Rename → Option ℕ
 lost_name names word [] = None
-lost_name names word (r ∷ renames) = lost_first word (place_from 0 names r.from.now) (lost_name names (word + 1) renames)
+lost_name names word (r ∷ renames) = lost_first word (place_from 0 names r.from.now)
+    (lost_name names (word + 1) renames)
 
 -- a name as it is written
 abbrev pub renamed : List Rename → List ℕ → List ℕ
@@ -103,7 +106,8 @@ picks_named (Some word) picks = Err (cause.NoName word)
 
 -- THE COLUMNS THAT ARE WRITTEN of an export with these names
 abbrev pub picks_of : Rules → Record → Result (List Pick) Cause
-picks_of rules names = picks_named (lost_name names 0 rules.renames.now) (picks_from rules names (written_places rules.columns.now names))
+picks_of rules names = picks_named (lost_name names 0 rules.renames.now)
+    (picks_from rules names (written_places rules.columns.now names))
 
 -- a list of what a vector holds
 abbrev pub listed : {A E : Type 0} → Result (Vec A Global) E → Result (List A) E

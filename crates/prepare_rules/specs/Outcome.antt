@@ -83,12 +83,14 @@ counted_names n = map (λ k. codes "c" ++ decimal k) (from_on 1 n)
 
 -- this record and those behind it, below names by their numbers
 abbrev pub from_first : Rules → Lined → List Lined → Outcome
-from_first rules first rows = under rules (counted_names (length first.fields)) first.line (rules.skip + 1) (first ∷ rows)
+from_first rules first rows = under rules (counted_names (length first.fields)) first.line (rules.skip + 1)
+    (first ∷ rows)
 
 -- the records that aren't left out
 abbrev pub kept : Rules → List Lined → Outcome
 kept rules [] = all_done (refused_first rules.skip None cause.NoHeader)
-kept rules (first ∷ rows) = if rules.has_names then under rules first.fields first.line (rules.skip + 2) rows else from_first rules first rows
+kept rules (first ∷ rows) = if rules.has_names then under rules first.fields first.line (rules.skip + 2) rows
+    else from_first rules first rows
 
 -- WHAT BECOMES OF ALL RECORDS
 abbrev pub prepared : Rules → List Lined → Outcome
@@ -150,4 +152,5 @@ IsTable (names ∷ rows) refusal = (is_few (length names) ≡ true) × (names_re
 
 -- the records that are written are those of the text that is written
 abbrev pub ReadsBack : Type 0
-ReadsBack = (rules : Rules) (rows : List Lined) → records default_config (rows_text (prepared rules rows).rows) ≡ (prepared rules rows).rows
+ReadsBack = (rules : Rules) (rows : List Lined)
+    → records default_config (rows_text (prepared rules rows).rows) ≡ (prepared rules rows).rows

@@ -91,8 +91,8 @@ pub enum Cause {
 pub struct Refusal {
     /// Its number, from 1, among all records of the export, those that are left out and the names among them.
     pub number: u64,
-    /// The line of the export on which it begins, from 1; none where there is no such record. A carriage return, a line feed
-    /// or both end a line.
+    /// The line of the export on which it begins, from 1; none where there is no such record. A carriage return, a line
+    /// feed or both end a line.
     pub line: Option<u64>,
     pub cause: Cause,
 }

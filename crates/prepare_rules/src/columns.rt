@@ -57,7 +57,8 @@ fn picks_among(
     names: &ByteRecord,
     places: &[usize],
 ) -> Result<Result<Vec<Pick>, Cause>, AllocError>
-    ensures { IfOk result (λ found. listed found ≡ picks_among (places_from (fields_of names.now) 0 rules.now.numbers.now)
+    ensures { IfOk result
+        (λ found. listed found ≡ picks_among (places_from (fields_of names.now) 0 rules.now.numbers.now)
         (places_from (fields_of names.now) 0 rules.now.dates.now) places.now) }
 {
     let numbers = match places_of(alloc, rules.numbers, names)? {

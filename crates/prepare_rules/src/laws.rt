@@ -3,8 +3,8 @@ ghost use Rattle.prepare_rules.specs.Dates.{KeepsDay};
 ghost use Rattle.prepare_rules.specs.Numbers.{KeepsWorth, RoundsNearest};
 ghost use Rattle.prepare_rules.specs.Outcome.{ReadsBack};
 
-/// The text that `prepare` writes, read again in the form that `coop_cli` takes, has the very records that were written,
-/// field by field.
+/// The text that `prepare` writes, read again in the form that `coop_cli` takes, has the very records that were
+/// written, field by field.
 pub fn written_records_are_read_back()
     ensures { ReadsBack }
 {}

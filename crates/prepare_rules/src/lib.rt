@@ -1,5 +1,6 @@
-//! From an export to the CSV that `coop_cli` takes: rules as values, what each of them makes of a field and of a record, and
-//! `prepare`, which reads records under any marks from a reader and writes what the rules make of them to a writer.
+//! From an export to the CSV that `coop_cli` takes: rules as values, what each of them makes of a field and of a
+//! record, and `prepare`, which reads records under any marks from a reader and writes what the rules make of them to a
+//! writer.
 #![tactic(auto)]
 
 mod cause;

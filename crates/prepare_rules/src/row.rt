@@ -2,7 +2,8 @@
 ghost use Rattle.std.specs.Prelude.{◌≡◌, ◌<◌, ◌^◌, ◌-◌, ◌++◌, ◌∷◌, [], IfOk};
 ghost use Rattle.csv.specs.Records.{fields_of, partial_of};
 ghost use Rattle.prepare_numbers.specs.Values.{digits_in};
-ghost use Rattle.prepare_rules.specs.Made.{IsRowMade, bare, bare_change, bare_made, date_change, date_field, fields_told};
+ghost use Rattle.prepare_rules.specs.Made.{IsRowMade, bare, bare_change, bare_made};
+ghost use Rattle.prepare_rules.specs.Made.{date_change, date_field, fields_told};
 ghost use Rattle.prepare_rules.specs.Made.{is_mark, is_taken, mark_change, number_change, number_field, picked_made};
 ghost use Rattle.prepare_rules.specs.Made.{row_made, row_told};
 ghost use Rattle.prepare_rules.specs.Numbers.{IsFitted, fit_by, text_by};

@@ -58,8 +58,8 @@ pub struct Rules<'a> {
     pub renames: &'a [Rename<'a>],
     /// The columns of numbers, in which marks for missing values and the rules on numbers act.
     pub numbers: &'a [Column<'a>],
-    /// The columns of dates, none of which is one of numbers. A date is written as YYYY-MM-DD; a field that is none, and
-    /// isn't empty, refuses its record.
+    /// The columns of dates, none of which is one of numbers. A date is written as YYYY-MM-DD; a field that is none,
+    /// and isn't empty, refuses its record.
     pub dates: &'a [Column<'a>],
     /// Which of two numbers before the year of a date is the day.
     pub order: Order,

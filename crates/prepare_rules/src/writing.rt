@@ -13,7 +13,9 @@ use std::io::Write;
 pub(crate) fn put<W: Write + Drop>(writer: &mut Writer<W>, row: &ByteRecord) -> Result<(), Failure>
     requires { IsWriting writer.old }
     ensures writing { OnOk result (IsWriting writer.new) }
-    ensures text { OnOk result (Appends (text_written W.contents writer.old) (text_written W.contents writer.new) (row_text default_writer (fields_of row.now))) }
+    ensures text { OnOk result
+        (Appends (text_written W.contents writer.old) (text_written W.contents writer.new)
+        (row_text default_writer (fields_of row.now))) }
 {
     let Ok(()) = writer.write_byte_record(row) else {
         return Err(Failure::Output);

@@ -1,7 +1,8 @@
 // The command, as clap has it.
 ghost use Rattle.std.specs.Prelude.{◌≡◌, IfOk};
 ghost use Rattle.clap.specs.Simple.{App, app_of};
-ghost use Rattle.prepare_words.specs.Command.{IsCommand, date_rules, export_place, look, number_rules, prepare, record_rules};
+ghost use Rattle.prepare_words.specs.Command.{IsCommand, date_rules, export_place, look};
+ghost use Rattle.prepare_words.specs.Command.{number_rules, prepare, record_rules};
 ghost use Rattle.prepare_words.specs.Command.{table_rules, with_rules, write};
 
 use crate::places::{flag, option, options, place};

@@ -18,9 +18,11 @@ use Rattle.query_gather.specs.Partial.{unnumbered}
 
 -- the answer to a plan over its matching rows, unless the query was stopped
 abbrev pub IsAnswerOver : Plan → List (Numbered Cell) → Answer → Type 0
-IsAnswerOver p rows (Rows r) = (p.rows ≡ None) × (r ≡ meaning codes p.items.items p.keys.items (unnumbered rows)) × (overflow codes p.items.items p.keys.items (unnumbered rows) ≡ None)
+IsAnswerOver p rows (Rows r) = (p.rows ≡ None) × (r ≡ meaning codes p.items.items p.keys.items (unnumbered rows))
+    × (overflow codes p.items.items p.keys.items (unnumbered rows) ≡ None)
 IsAnswerOver p rows (Picked r) = MatchOption p.rows ⊥ (λ q. r ≡ rows_meaning codes q rows)
-IsAnswerOver p rows (Overflow item total) = (p.rows ≡ None) × (overflow codes p.items.items p.keys.items (unnumbered rows) ≡ Some (item, total))
+IsAnswerOver p rows (Overflow item total) = (p.rows ≡ None)
+    × (overflow codes p.items.items p.keys.items (unnumbered rows) ≡ Some (item, total))
 IsAnswerOver p rows (Stopped why) = Unit {0}
 
 -- THE ANSWER to a plan over the rows of a table, unless the query was stopped
@@ -42,9 +44,11 @@ pub record IsLostSum (p : Plan) (item : ℕ) (total : ℤ) : Type 0 where
   pub sum : IsSumOf 1 p.items.items item
   pub beyond : fits total ≡ false
 
--- each cell of the answer can be read in the dictionary of its column; a sum without an answer is one of the plan, and doesn't fit
+-- each cell of the answer can be read in the dictionary of its column; a sum without an answer is one of the plan, and
+-- doesn't fit
 abbrev pub CanBeWritten : List (List (List ℕ)) → Plan → Answer → Type 0
-CanBeWritten dicts p (Rows r) = (p.rows ≡ None) × All (AreCellsOf (groups_text.columns_of p.keys.items p.items.items) dicts) r
+CanBeWritten dicts p (Rows r) = (p.rows ≡ None)
+    × All (AreCellsOf (groups_text.columns_of p.keys.items p.items.items) dicts) r
 CanBeWritten dicts p (Picked r) = MatchOption p.rows ⊥ (λ q. All (AreCellsOf (rows_text.columns_of q.columns) dicts) r)
 CanBeWritten dicts p (Overflow item total) = IsLostSum p item total
 CanBeWritten dicts p (Stopped why) = Unit {0}

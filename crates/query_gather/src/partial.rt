@@ -1,5 +1,6 @@
 // What a query's scan gathers.
-ghost use Rattle.std.specs.Prelude.{◌≡◌, ◌<◌, ◌≤◌, ◌+◌, ◌++◌, ℕ, List, [], ◌∷◌, length, false, All, OnOk, OnErr, IfOk, IsOk};
+ghost use Rattle.std.specs.Prelude.{◌≡◌, ◌<◌, ◌≤◌, ◌+◌, ◌++◌, ℕ, List, [], ◌∷◌};
+ghost use Rattle.std.specs.Prelude.{length, false, All, OnOk, OnErr, IfOk, IsOk};
 ghost use Rattle.table_core.specs.declared.cell.Cell.{Cell};
 ghost use Rattle.row_blocks.specs.Blocks.{rows_in};
 ghost use Rattle.row_blocks.specs.Chosen.{chosen as chosen_rows};
@@ -183,7 +184,8 @@ impl Partial {
 
     /// The answer: what the plan means over each list of rows that is gathered.
     ///
-    /// A query without a limit is answered its result rows, or the first sum that overflows, and one with a limit its rows.
+    /// A query without a limit is answered its result rows, or the first sum that overflows, and one with a limit its
+    /// rows.
     /// Out of memory, it is stopped.
     pub fn finish(self) -> Answer
         ensures answer { (p : Plan) (rows : List (Numbered Cell)) → spec.FitsPlan p self → spec.Stands self rows

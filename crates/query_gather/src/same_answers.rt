@@ -20,7 +20,8 @@ pub fn answer_of_table()
     ensures { (p : Plan) (table : List (List Cell)) (a : Answer) → AnswersTable p table a }
 {}
 
-/// What is gathered of some rows is gathered of them in each other order: a law, for scans that take chunks as they come.
+/// What is gathered of some rows is gathered of them in each other order: a law, for scans that take chunks as they
+/// come.
 /// It does nothing.
 pub fn any_order()
     ensures { (p : Partial) (rows other : List (Numbered Cell)) → IsPermutation rows other → Stands p rows
@@ -32,17 +33,18 @@ pub fn alike_parts()
     ensures { (plan : Plan) (a b : Partial) → FitsPlan plan a → FitsPlan plan b → IsAlike a b }
 {}
 
-/// Over rows that agree at the columns that a plan names, the same rows match and the answer is the same: a law, for scans
-/// that read these columns alone. It does nothing.
+/// Over rows that agree at the columns that a plan names, the same rows match and the answer is the same: a law, for
+/// scans that read these columns alone. It does nothing.
 pub fn answer_agrees()
     ensures { (n : ℕ) (p : Plan) (xs ys : List (Numbered Cell)) (a : Answer) → ReadsItsColumns n p
         → Agree p.columns xs ys → AnswerAgrees p xs ys a }
 {}
 
-/// Over rows that fit the columns, whose dictionaries rise, the cells of an answer can be written: a law, for the text of
-/// answers. It does nothing.
+/// Over rows that fit the columns, whose dictionaries rise, the cells of an answer can be written: a law, for the text
+/// of answers. It does nothing.
 pub fn can_be_written()
     ensures { (columns : List Column) (dicts : List (List (List ℕ))) (p : Plan) (rows : List (Numbered Cell))
         (a : Answer) →
-        length dicts ≡ length columns → All Rises dicts → All (FitsRow columns dicts) (unnumbered rows) → IsAnswerOver p rows a → CanBeWritten dicts p a }
+        length dicts ≡ length columns → All Rises dicts → All (FitsRow columns dicts) (unnumbered rows)
+        → IsAnswerOver p rows a → CanBeWritten dicts p a }
 {}

@@ -1,5 +1,7 @@
--- What a groups query means over its matching rows: one result row for each key, in key order, and the first sum that overflows.
-use Rattle.std.specs.Prelude.{ℕ, ◌+◌, ◌==◌, ◌^◌, Bool, not, ◌&&◌, if◌then◌else◌, List, [], ◌∷◌, ◌++◌, length, map, filter, fold, Option, Some, None, ℤ, pos, neg_ℤ, ◌+ℤ◌, int_lt, slice_index_or}
+-- What a groups query means over its matching rows: one result row for each key, in key order, and the first sum that
+-- overflows.
+use Rattle.std.specs.Prelude.{ℕ, ◌+◌, ◌==◌, ◌^◌, Bool, not, ◌&&◌, if◌then◌else◌, List, [], ◌∷◌, ◌++◌, length}
+use Rattle.std.specs.Prelude.{map, filter, fold, Option, Some, None, ℤ, pos, neg_ℤ, ◌+ℤ◌, int_lt, slice_index_or}
 use Rattle.std.specs.Ordering.{is_eq, is_lt, match_ordering}
 use Rattle.std.specs.Cmp.Lexicographic.{slice_cmp}
 use Rattle.std.specs.declared.cmp.Ordering.{Ordering}
@@ -99,10 +101,12 @@ module _ {C : Type 0} (k : Cells C) where
   abbrev pub meaning : List Item → List ℕ → List (List C) → List (List C)
   meaning items keys rows = map (λ q. map (answer q (group keys q rows)) items) (keys_of keys rows)
 
-  -- the first sum over the rows of a key that is no whole number of 64 bits, with its item; the first item has the number n
+  -- the first sum over the rows of a key that is no whole number of 64 bits, with its item; the first item has the
+  -- number n
   abbrev pub over : ℕ → List Item → List (List C) → Option (ℕ × ℤ)
   over n [] rows = None
-  over n (Sum x ∷ items) rows = if fits (total (values x rows)) then over (n + 1) items rows else Some (n, total (values x rows))
+  over n (Sum x ∷ items) rows = if fits (total (values x rows)) then over (n + 1) items rows
+      else Some (n, total (values x rows))
   over n (i ∷ items) rows = over (n + 1) items rows
 
   -- THE OVERFLOW: the first in key order, then in item order, items counted from 1

@@ -1,4 +1,5 @@
--- What a rows query means over its matching rows: the first rows in the order that it asks for, and of these the values of the named columns.
+-- What a rows query means over its matching rows: the first rows in the order that it asks for, and of these the values
+-- of the named columns.
 use Rattle.std.specs.Prelude.{◌≡◌, ℕ, ◌==◌, ◌||◌, Bool, true, false, if◌then◌else◌, List, [], ◌∷◌, map, take}
 use Rattle.std.specs.Ordering.{is_lt, ordering_then, nat_cmp}
 use Rattle.std.specs.declared.cmp.Ordering.{Ordering}
@@ -35,7 +36,8 @@ AreApart rows more = (n : ℕ) → has_number rows n ≡ true → has_number mor
 module _ {C : Type 0} (k : Cells C) where
   -- how two rows stand in one order: by their cells in its column, the greater one first where it is descending
   abbrev pub order_cmp : Order → List C → List C → Ordering
-  order_cmp o a b = if o.descending then k.order (cell k b o.column) (cell k a o.column) else k.order (cell k a o.column) (cell k b o.column)
+  order_cmp o a b = if o.descending then k.order (cell k b o.column) (cell k a o.column)
+      else k.order (cell k a o.column) (cell k b o.column)
 
   -- how two rows stand: in the first order in which they differ
   abbrev pub orders_cmp : List Order → List C → List C → Ordering

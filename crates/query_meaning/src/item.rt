@@ -13,6 +13,7 @@ pub enum Item {
     Min(u32),
     /// The greatest cell of the column that isn't NULL, NULL where there is none.
     Max(u32),
-    /// The cell of the key column of this place, counted from 0 along the key columns; NULL where there is no such place.
+    /// The cell of the key column of this place, counted from 0 along the key columns; NULL where there is no such
+    /// place.
     Key(u32),
 }

@@ -1,5 +1,6 @@
 -- The best so far, going up the numbers: among equals the least number.
-use Rattle.std.specs.Prelude.{◌≡◌, ◌<◌, ◌==◌, ◌*◌, ℕ, zero, suc, ℤ, Bool, true, false, Option, None, Some, nat_lt, int_lt, if◌then◌else◌}
+use Rattle.std.specs.Prelude.{◌≡◌, ◌<◌, ◌==◌, ◌*◌, ℕ, zero, suc, ℤ, Bool, true, false}
+use Rattle.std.specs.Prelude.{Option, None, Some, nat_lt, int_lt, if◌then◌else◌}
 use Rattle.scan_story.specs.declared.ratio.Ratio.{Ratio}
 use Rattle.relevance.specs.declared.best.BestChunk.{BestChunk}
 use Rattle.relevance.specs.declared.best.BestQuery.{BestQuery}
@@ -13,7 +14,8 @@ better_of made key beats (Some b) x k = if beats k (key b) then Some (made x k) 
 abbrev pub best_below : {B K : Type 0} → (ℕ → K → B) → (B → K) → (K → K → Bool) → (ℕ → Bool) → (ℕ → K) → ℕ → Option B
 best_below made key beats test rank zero = None
 best_below made key beats test rank (suc n) =
-    if test n then better_of made key beats (best_below made key beats test rank n) n (rank n) else best_below made key beats test rank n
+    if test n then better_of made key beats (best_below made key beats test rank n) n (rank n)
+    else best_below made key beats test rank n
 
 -- x passes, none that passes beats it, and it beats each that passes and is less: among equals it is the least
 pub record IsFirstBest {K : Type 0} (beats : K → K → Bool) (test : ℕ → Bool) (rank : ℕ → K) (x : ℕ) : Type 0 where

@@ -6,7 +6,8 @@ ghost use Rattle.scan_story.specs.Ratios.{query_rank, load_ratio, use_ratio, kee
 ghost use Rattle.scan_story.specs.MayFollow.{is_trigger, is_target, is_ready, is_victim};
 ghost use Rattle.interest_book.specs.Stands.{Stands};
 ghost use Rattle.relevance.specs.Best.{IsFirstBest, is_higher, is_greater, is_less};
-ghost use Rattle.interest_book.specs.Picks.{PicksQuery, PicksLoad, PicksDelivery, PicksVictim, cursor_after_load, cursor_after_delivery, HasActive, HasNoneBegun};
+ghost use Rattle.interest_book.specs.Picks.{PicksQuery, PicksLoad, PicksDelivery, PicksVictim};
+ghost use Rattle.interest_book.specs.Picks.{cursor_after_load, cursor_after_delivery, HasActive, HasNoneBegun};
 
 use crate::best::{chunk_in, greater_of, higher_of, lesser_of, query_in};
 use crate::loads::gaining_more;

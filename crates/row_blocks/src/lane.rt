@@ -14,8 +14,8 @@ pub enum Holds {
     Codes,
 }
 
-/// A column of a block: for each of up to 64 rows a word and a null bit. What stands for rows that the block doesn't have
-/// says nothing.
+/// A column of a block: for each of up to 64 rows a word and a null bit. What stands for rows that the block doesn't
+/// have says nothing.
 #[derive(Clone, Copy)]
 pub struct Lane {
     /// What the words hold.

@@ -30,9 +30,10 @@ taken_in (Some ran) = ran.taken.items
 abbrev pub IsUnanswered : Inputs → Work → Stop → Type 0
 IsUnanswered i w s = ((s ≡ stop.Memory) × IsIdle w) ⊎ IsNotStored i w s
 
--- a batch was answered: with the answers stand its statements, the columns of its table and their dictionaries; where the depot tells
--- what it holds each answer is the one over the whole table
-pub record IsAnswered (i : Inputs) (w : Work) (outcomes : List Outcome) (answers : List Answer) (columns : List Column) (dicts : List Fields) : Type 0 where
+-- a batch was answered: with the answers stand its statements, the columns of its table and their dictionaries; where
+-- the depot tells what it holds each answer is the one over the whole table
+pub record IsAnswered (i : Inputs) (w : Work) (outcomes : List Outcome) (answers : List Answer) (columns : List Column)
+    (dicts : List Fields) : Type 0 where
   pub outcomes_are : outcomes ≡ i.outcomes.items
   pub columns_are : columns ≡ i.loaded.table.columns
   pub dicts_are : dicts ≡ i.loaded.dicts.items

@@ -41,11 +41,12 @@ abbrev pub ComesOf : Inputs → Work → Result Text Stop → Type 0
 ComesOf i w (Ok o) = IsRunOf i w o
 ComesOf i w (Err s) = LacksMemory i w s ⊎ IsNotStored i w s
 
--- why a run stops before its batch runs, by the texts of its table and its batch: the first refusal in the order of the work,
--- or memory ran out, or the shelf failed in that order: while the batch was read only where the table is accepted
+-- why a run stops before its batch runs, by the texts of its table and its batch: the first refusal in the order of the
+-- work, or memory ran out, or the shelf failed in that order: while the batch was read only where the table is accepted
 abbrev pub StopsBefore : Request → Option (List ℕ) → Option (List ℕ) → OverShelf → Result Text Stop → Type 0
 StopsBefore r table batch shelf (Ok o) = ⊥
-StopsBefore r table batch shelf (Err s) = (first_stop r table batch ≡ Some s) ⊎ (s ≡ stop.Memory) ⊎ (IsReadFault r table s × Rose shelf.before shelf.now)
+StopsBefore r table batch shelf (Err s) = (first_stop r table batch ≡ Some s) ⊎ (s ≡ stop.Memory)
+    ⊎ (IsReadFault r table s × Rose shelf.before shelf.now)
 
 -- the batch runs where nothing stops the run before
 pub record Runs (r : Request) (table batch : Option (List ℕ)) (w : Work) (d : Result Text Stop) : Type 0 where
@@ -58,8 +59,8 @@ pub record Runs (r : Request) (table batch : Option (List ℕ)) (w : Work) (d : 
 abbrev pub ComesTo : Request → Option (List ℕ) → Option (List ℕ) → OverShelf → Work → Result Text Stop → Type 0
 ComesTo r table batch shelf w d = Runs r table batch w d ⊎ (StopsBefore r table batch shelf d × IsUntouched w)
 
--- THE DECISION on a request over every shelf and every depot: some texts were read, which are those that the shelf tells where
--- it tells any, and they decide
+-- THE DECISION on a request over every shelf and every depot: some texts were read, which are those that the shelf
+-- tells where it tells any, and they decide
 pub record IsDecided (r : Request) (shelf : OverShelf) (w : Work) (d : Result Text Stop) : Type 0 where
   pub table : Option (List ℕ)
   pub batch : Option (List ℕ)
@@ -80,8 +81,8 @@ abbrev pub IsDecision : Option Request → OverShelf → Work → Result Text St
 IsDecision None shelf w d = IsUsage w d
 IsDecision (Some r) shelf w d = IsDecided r shelf w d
 
--- WHAT THE WORKERS DID for a request, over every shelf: with what some texts gave the run, which are those that the shelf tells
--- where it tells any
+-- WHAT THE WORKERS DID for a request, over every shelf: with what some texts gave the run, which are those that the
+-- shelf tells where it tells any
 pub record HasWorked (r : Request) (shelf : OverShelf) (w : Work) : Type 0 where
   pub table : Option (List ℕ)
   pub batch : Option (List ℕ)

@@ -7,8 +7,8 @@ use Rattle.run_ends.specs.Work.{Work, work}
 use Rattle.run_ends.specs.Policies.{PolicyAt, policy_at}
 use Rattle.run_ends.specs.OverDevices.{Devices}
 
--- WHAT A RUN DID under a policy: how it ended, what its workers recorded, the oldest entry first, and the chunks that its scans took;
--- story and chunks are none where no worker ran
+-- WHAT A RUN DID under a policy: how it ended, what its workers recorded, the oldest entry first, and the chunks that
+-- its scans took; story and chunks are none where no worker ran
 pub record Did : Type 0 where
   pub policy : PolicyAt
   pub status : ℕ

@@ -1,5 +1,6 @@
 -- How a run ends: its status, and what is written.
-use Rattle.std.specs.Prelude.{◌≡◌, ◌<◌, ◌⊎◌, ◌++◌, ℕ, List, length, replicate, take, IsPermutation, Option, Some, None, Result, Ok, Err, All}
+use Rattle.std.specs.Prelude.{◌≡◌, ◌<◌, ◌⊎◌, ◌++◌, ℕ, List, length, replicate, take}
+use Rattle.std.specs.Prelude.{IsPermutation, Option, Some, None, Result, Ok, Err, All}
 use Rattle.coop_outside.specs.Causes.{Rose}
 use Rattle.coop_outside.specs.Taken.{grown}
 use Rattle.command_words.specs.Options.{Request}
@@ -30,7 +31,8 @@ IsWritten text sink = sink.new ≡ grown sink.old text
 
 -- the sink took less than the whole text, since it failed
 abbrev pub IsCutShort : List ℕ → OverSink → Type 0
-IsCutShort text sink = (k : ℕ) × (k < length text) × (sink.new ≡ grown sink.old (take k text)) × Rose sink.before sink.now
+IsCutShort text sink = (k : ℕ) × (k < length text) × (sink.new ≡ grown sink.old (take k text))
+    × Rose sink.before sink.now
 
 -- the line of a stop is written, or a prefix of it
 abbrev pub IsLineWritten : Stop → OverSink → Type 0
@@ -47,26 +49,30 @@ abbrev pub values_of : List ℕ → Values
 values_of table = table_of (table_records table)
 
 -- THE HEADLINE, over files and a depot that tells what it holds, of a text and the status that goes with it
-pub record Headline (r : Request) (files : List ℕ → Option (List ℕ)) (w : Work) (status : ℕ) (text : List ℕ) : Type 0 where
-  -- for every table and batch, number of workers and buffer of at least three frames per worker plus one, in every interleaving that ends:
+pub record Headline (r : Request) (files : List ℕ → Option (List ℕ)) (w : Work) (status : ℕ)
+    (text : List ℕ) : Type 0 where
+  -- for every table and batch, number of workers and buffer of at least three frames per worker plus one, in every
+  -- interleaving that ends:
   pub table : List ℕ
   pub table_is : text_in (table_source r.table) files ≡ Some table
   pub batch : List ℕ
   pub batch_is : text_in (batch_source r.batch) files ≡ Some batch
   pub given : Inputs
   pub is_given : AreInputs r (Some table) (Some batch) given
-  -- each query not refused prints its SQL meaning over the whole table; why a query is lost is what the story says of its scans, or out of memory;
-  -- a statement that is refused for its text is no loss
+  -- each query not refused prints its SQL meaning over the whole table; why a query is lost is what the story says of
+  -- its scans, or out of memory; a statement that is refused for its text is no loss
   pub losses : List (Option Cause)
   pub lost : AreLostBy (past w.story) r.parts 1 given.outcomes.items losses
-  pub output : IsOutput (values_of table).columns (values_of table).rows (statements_in batch) losses (totals_of r.summary w.story (length (values_of table).rows))
+  pub output : IsOutput (values_of table).columns (values_of table).rows (statements_in batch) losses
+      (totals_of r.summary w.story (length (values_of table).rows))
       (trace_of r.trace w.story) status text
-  -- its scans took each chunk that it needs exactly once, from frames that nobody refilled meanwhile; and every recorded load, delivery and
-  -- eviction was of greatest relevance among those that the policy allowed
+  -- its scans took each chunk that it needs exactly once, from frames that nobody refilled meanwhile; and every
+  -- recorded load, delivery and eviction was of greatest relevance among those that the policy allowed
   pub worked : IsWorked given w
 
 -- the answers are written, and no query is lost unless out of memory
-pub record WritesAll (r : Request) (files : List ℕ → Option (List ℕ)) (w : Work) (status : ℕ) (sink : OverSink) : Type 0 where
+pub record WritesAll (r : Request) (files : List ℕ → Option (List ℕ)) (w : Work) (status : ℕ)
+    (sink : OverSink) : Type 0 where
   pub text : List ℕ
   pub headline : Headline r files w status text
   pub lost : All OnlyForMemory headline.losses
@@ -74,21 +80,26 @@ pub record WritesAll (r : Request) (files : List ℕ → Option (List ℕ)) (w :
 
 -- ---- parts
 
--- THE ANSWERS ALONE of a batch over a table, where no query is lost: they know of no workers, frames, chunks, layout, parts and policy
+-- THE ANSWERS ALONE of a batch over a table, where no query is lost: they know of no workers, frames, chunks, layout,
+-- parts and policy
 abbrev pub AreAnswersAlone : List ℕ → List ℕ → ℕ → List ℕ → Type 0
 AreAnswersAlone table batch status text =
-    IsOutput (values_of table).columns (values_of table).rows (statements_in batch) (replicate (length (statements_in batch)) None) None None status text
+    IsOutput (values_of table).columns (values_of table).rows (statements_in batch)
+    (replicate (length (statements_in batch)) None) None None status text
 
--- a text is the answers alone and what is shown behind them, and each chunk that a query needs was delivered to exactly one of its scans
+-- a text is the answers alone and what is shown behind them, and each chunk that a query needs was delivered to exactly
+-- one of its scans
 pub record IsForAnyParts (table batch : List ℕ) (i : Inputs) (w : Work) (status : ℕ) (text : List ℕ) : Type 0 where
   pub alone : List ℕ
   pub rest : List ℕ
   pub begins : text ≡ alone ++ rest
   pub answers : AreAnswersAlone table batch status alone
-  pub once : All (λ (t : Task). IsPermutation (needed t.plan.cond (zones_in i)) (delivered_to w.story i.options.parts t.query i.options.parts)) (queries_in i)
+  pub once : All (λ (t : Task). IsPermutation (needed t.plan.cond (zones_in i))
+      (delivered_to w.story i.options.parts t.query i.options.parts)) (queries_in i)
 
 -- the output is written; memory ran out for a query, or the answers are those of any number of parts
-pub record WritesForAnyParts (r : Request) (files : List ℕ → Option (List ℕ)) (w : Work) (status : ℕ) (sink : OverSink) : Type 0 where
+pub record WritesForAnyParts (r : Request) (files : List ℕ → Option (List ℕ)) (w : Work) (status : ℕ)
+    (sink : OverSink) : Type 0 where
   pub text : List ℕ
   pub headline : Headline r files w status text
   pub written : IsWritten text sink

@@ -27,8 +27,8 @@ abbrev pub alone_with : Request → Option PolicyAt → Job
 alone_with r None = refused
 alone_with r (Some p) = alone r p
 
--- THE JOB that words and policies give: to compare all policies, or to run with the first one of the name that the words ask for; nothing
--- where the words are refused, and where no policy has the name
+-- THE JOB that words and policies give: to compare all policies, or to run with the first one of the name that the
+-- words ask for; nothing where the words are refused, and where no policy has the name
 abbrev pub job_of : List PolicyAt → Option Request → Job
 job_of policies None = refused
 job_of policies (Some r) = if r.compare then compared r policies else alone_with r (first_named r.policy policies)

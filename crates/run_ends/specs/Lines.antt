@@ -27,7 +27,8 @@ stops (_ ∷ h) = stops h
 abbrev pub AreSmall : History → Type 0
 AreSmall h = (q : ℕ) → is_stopped h q ≡ true → q < 1024
 
--- the line of a name and a history: the Filled and Failed, the Evict and the Deliver entries, and the scans that were stopped
+-- the line of a name and a history: the Filled and Failed, the Evict and the Deliver entries, and the scans that were
+-- stopped
 abbrev pub counted : PolicyName → History → List ℕ
 counted name h = policy_line (name_text name) (reads h) (evictions h) (deliveries h) (stops h)
 

@@ -11,7 +11,8 @@ use Rattle.run_ends.specs.PolicyRuns.{IsCutOff, IsHindered, IsMade}
 use Rattle.run_ends.specs.declared.policy_run.PolicyRun.{PolicyRun}
 
 -- one run more is made: it joins the runs, and its line the text
-pub record IsNext (i : Inputs) (p : PolicyAt) (old new : DepotAt) (runs : List PolicyRun) (o : Text) (runs_after : List PolicyRun) (o_after : Text) : Type 0 where
+pub record IsNext (i : Inputs) (p : PolicyAt) (old new : DepotAt) (runs : List PolicyRun) (o : Text)
+    (runs_after : List PolicyRun) (o_after : Text) : Type 0 where
   pub run : PolicyRun
   pub status : ℕ
   pub made : IsMade i p old new run status

@@ -23,14 +23,21 @@ abbrev pub shelf_over : {F : Type 0} → Shelf F → F → F → OverShelf
 shelf_over F old new = over_shelf (F.held old) (F.faults old) (F.faults new)
 
 abbrev pub depot_over : {D : Type 0} → Depot D → D → D → OverDepot
-depot_over D old new = record { old = depot_at (D.held old) (D.gets old) (D.faults old); new = depot_at (D.held new) (D.gets new) (D.faults new) }
+depot_over D old new = record {
+  old = depot_at (D.held old) (D.gets old) (D.faults old);
+  new = depot_at (D.held new) (D.gets new) (D.faults new);
+}
 
 abbrev pub sink_over : {O : Type 0} → Sink O → O → O → OverSink
 sink_over O old new = over_sink (O.taken old) (O.taken new) (O.faults old) (O.faults new)
 
 -- the devices of a run: of each its type, and the device before and after
 abbrev pub devices : {F D O : Type 0} → Shelf F → F → F → Depot D → D → D → Sink O → O → O → Devices
-devices F shelf shelf' D depot depot' O sink sink' = record { shelf = shelf_over F shelf shelf'; depot = depot_over D depot depot'; sink = sink_over O sink sink' }
+devices F shelf shelf' D depot depot' O sink sink' = record {
+  shelf = shelf_over F shelf shelf';
+  depot = depot_over D depot depot';
+  sink = sink_over O sink sink';
+}
 
 -- a shelf and a depot that tell what they hold
 pub record AreHonest (over : Devices) (files : List ℕ → Option (List ℕ)) : Type 0 where

@@ -19,7 +19,8 @@ work_in p old new run = work p.name p.cursor old new run.story.items run.taken.i
 abbrev pub no_work : PolicyAt → DepotAt → DepotAt → Work
 no_work p old new = work p.name p.cursor old new [] []
 
--- A RUN IS MADE: its story and its chunks are those of a run with this policy alone, which ends with this status, whatever it writes
+-- A RUN IS MADE: its story and its chunks are those of a run with this policy alone, which ends with this status,
+-- whatever it writes
 pub record IsMade (i : Inputs) (p : PolicyAt) (old new : DepotAt) (run : PolicyRun) (status : ℕ) : Type 0 where
   pub name : run.name ≡ p.name
   pub text : List ℕ

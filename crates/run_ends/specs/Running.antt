@@ -1,5 +1,6 @@
 -- How a batch runs over a table, by what a run is given.
-use Rattle.std.specs.Prelude.{◌≡◌, ◌<◌, ◌≤◌, ◌+◌, ◌*◌, ◌++◌, ℕ, zero, suc, List, [], length, map, All, None, IsPermutation, is_some}
+use Rattle.std.specs.Prelude.{◌≡◌, ◌<◌, ◌≤◌, ◌+◌, ◌*◌, ◌++◌, ℕ, zero, suc, List}
+use Rattle.std.specs.Prelude.{[], length, map, All, None, IsPermutation, is_some}
 use Rattle.std.specs.List.{AllZip}
 use Rattle.table_core.specs.Chunk.{chunk_count}
 use Rattle.table_core.specs.Value.{places_of, row_values}
@@ -55,12 +56,13 @@ queries_in i = tasks_in 1 i.outcomes.items
 abbrev pub scans_in : Inputs → List Scan
 scans_in i = scans i.options.workers i.options.parts (queries_in i)
 
--- THE SETTING of what a run is given, under a policy and its first cursor: each scan needs its part of the chunks that its query needs
+-- THE SETTING of what a run is given, under a policy and its first cursor: each scan needs its part of the chunks that
+-- its query needs
 abbrev pub setting_in : Inputs → PolicyName → List ℕ → Setting
 setting_in i name cursor = batch_setting (shape_in i) (zones_in i) (queries_in i) i.options name cursor
 
--- what a run is given can run: a loaded table of at most 1024 chunks of 1 to 16384 rows, at most 256 statements and scans, and
--- frames enough within the pool's limit
+-- what a run is given can run: a loaded table of at most 1024 chunks of 1 to 16384 rows, at most 256 statements and
+-- scans, and frames enough within the pool's limit
 pub record CanRun (i : Inputs) : Type 0 where
   pub some : 1 ≤ i.options.per
   pub short : i.options.per ≤ 16384
@@ -79,20 +81,24 @@ pub record CanRun (i : Inputs) : Type 0 where
 -- the chunks that the story delivered to the first parts of a query, one part after another
 abbrev pub delivered_to : List Entry → ℕ → ℕ → ℕ → List ℕ
 delivered_to story parts query zero = []
-delivered_to story parts query (suc n) = delivered_to story parts query n ++ chunks_delivered story (scan_number parts query n)
+delivered_to story parts query (suc n) = delivered_to story parts query n
+    ++ chunks_delivered story (scan_number parts query n)
 
--- EACH CHUNK ONCE: the scans of a query that the story didn't stop took each chunk that the query needs exactly once among them
+-- EACH CHUNK ONCE: the scans of a query that the story didn't stop took each chunk that the query needs exactly once
+-- among them
 abbrev pub TookEachOnce : List ChunkZones → ℕ → List Entry → Task → Type 0
 TookEachOnce zones parts story t =
-    cause_of_query (past story) parts t.query ≡ None → IsPermutation (needed t.plan.cond zones) (delivered_to story parts t.query parts)
+    cause_of_query (past story) parts t.query ≡ None
+    → IsPermutation (needed t.plan.cond zones) (delivered_to story parts t.query parts)
 
 -- WHAT THE WORKERS DID with what a run is given
 pub record IsWorked (i : Inputs) (w : Work) : Type 0 where
   -- there are three frames for each worker and one more, counted in chunks
   pub room : HasRoom (setting_in i w.policy w.cursor)
-  -- the story is legal, whole, undisturbed and bounded in the setting of this batch; each fault has its own rise of the depot's count,
-  -- and the depot's gets rose by the story's reads
-  pub story : IsStoryOver (setting_in i w.policy w.cursor) (is_some w.old.held) (counts w.old.gets w.old.faults) (counts w.new.gets w.new.faults) w.story
+  -- the story is legal, whole, undisturbed and bounded in the setting of this batch; each fault has its own rise of the
+  -- depot's count, and the depot's gets rose by the story's reads
+  pub story : IsStoryOver (setting_in i w.policy w.cursor) (is_some w.old.held) (counts w.old.gets w.old.faults)
+      (counts w.new.gets w.new.faults) w.story
   -- one element for each scan, in their order, with exactly the chunks that the story delivered to it
   pub taken : AllZip (IsTakenBy w.story) (scans_in i) w.taken
   -- each scan took chunks of its part, each once, and where it ended all of them
@@ -104,8 +110,9 @@ pub record IsWorked (i : Inputs) (w : Work) : Type 0 where
   -- the table's pieces are put, and stay
   pub stored : ArePut (shape_in i) i.loaded.table.rows (pieces (shape_in i)) (pieces (shape_in i)) w.old.held w.new.held
 
--- THE ANSWERS of a batch: each is the one to its query over the whole table, or tells why its query was stopped; over every depot its
--- rows can be written, and a sum that is told to have no number of 64 bits is one of its query, whose total has none
+-- THE ANSWERS of a batch: each is the one to its query over the whole table, or tells why its query was stopped; over
+-- every depot its rows can be written, and a sum that is told to have no number of 64 bits is one of its query, whose
+-- total has none
 pub record AreAnswers (i : Inputs) (w : Work) (answers : List Answer) : Type 0 where
   pub each : length answers ≡ length (plans_of i.outcomes.items)
   pub worked : IsWorked i w
@@ -119,8 +126,10 @@ text_of i w answers = let p = printed i.loaded.table.columns i.loaded.dicts.item
 
 -- where the depot tells what it holds, this is the output over the table's values
 abbrev pub Means : Inputs → Work → List Answer → Text → Type 0
-Means i w answers o = Tells w.old.held → (texts : List (List ℕ)) → ComeTo i.loaded.table.columns i.loaded.dicts.items texts i.outcomes.items
-    → IsOutput i.loaded.table.columns (map (row_values i.loaded.dicts.items) i.loaded.table.rows) texts (losses i.outcomes.items answers)
+Means i w answers o = Tells w.old.held → (texts : List (List ℕ))
+    → ComeTo i.loaded.table.columns i.loaded.dicts.items texts i.outcomes.items
+    → IsOutput i.loaded.table.columns (map (row_values i.loaded.dicts.items) i.loaded.table.rows) texts
+    (losses i.outcomes.items answers)
     (totals_of i.summary w.story (length i.loaded.table.rows)) (trace_of i.trace w.story) o.0 o.1
 
 -- THE RUN of a batch: answers to its queries, what its workers did, and what is written of them

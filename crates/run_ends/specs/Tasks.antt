@@ -14,9 +14,11 @@ tasks_in n [] = []
 tasks_in n (outcome.Planned p ∷ outcomes) = record { query = n; plan = p } ∷ tasks_in (n + 1) outcomes
 tasks_in n (outcome.Refused why ∷ outcomes) = tasks_in (n + 1) outcomes
 
--- what the summary counts beside the answers, where it is asked for: the Delivers of the story, and the rows of the table
+-- what the summary counts beside the answers, where it is asked for: the Delivers of the story, and the rows of the
+-- table
 abbrev pub totals_of : Bool → List Entry → ℕ → Option Totals
-totals_of summary story rows = if summary then Some (record { deliveries = deliveries (past story); rows = rows }) else None
+totals_of summary story rows = if summary then Some (record { deliveries = deliveries (past story); rows = rows })
+    else None
 
 -- the story, where it is asked for
 abbrev pub trace_of : Bool → List Entry → Option (List Entry)

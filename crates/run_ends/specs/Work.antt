@@ -5,8 +5,8 @@ use Rattle.scan_story.specs.declared.setting.PolicyName.{PolicyName}
 use Rattle.batch_ends.specs.declared.taken.Taken.{Taken}
 use Rattle.run_ends.specs.Devices.{DepotAt}
 
--- the work of a run: the name and the first cursor of its policy, its depot before and after, the story of its workers, the
--- oldest entry first, and the chunks that its scans took; story and chunks are none where no worker ran
+-- the work of a run: the name and the first cursor of its policy, its depot before and after, the story of its workers,
+-- the oldest entry first, and the chunks that its scans took; story and chunks are none where no worker ran
 pub record Work : Type 0 where
   pub policy : PolicyName
   pub cursor : List ℕ
@@ -16,4 +16,11 @@ pub record Work : Type 0 where
   pub taken : List Taken
 
 abbrev pub work : PolicyName → List ℕ → DepotAt → DepotAt → List Entry → List Taken → Work
-work policy cursor old new story taken = record { policy = policy; cursor = cursor; old = old; new = new; story = story; taken = taken }
+work policy cursor old new story taken = record {
+  policy = policy;
+  cursor = cursor;
+  old = old;
+  new = new;
+  story = story;
+  taken = taken;
+}

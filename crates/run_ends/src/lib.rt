@@ -1,15 +1,15 @@
-//! What a run decides of what its batch came to, what it promises, and what it writes: the statements as tasks, the text of
-//! the answers with what is shown behind them, what a story spent; the clauses of the top calls of `coop_run` with their
-//! proofs from what a run decides, and the types that a run leaves. It knows nothing of the workers.
+//! What a run decides of what its batch came to, what it promises, and what it writes: the statements as tasks, the
+//! text of the answers with what is shown behind them, what a story spent; the clauses of the top calls of `coop_run`
+//! with their proofs from what a run decides, and the types that a run leaves. It knows nothing of the workers.
 //!
 //!     let tasks = tasks_of(alloc, &inputs.outcomes)?;
 //!     let reads = Counts::of(&ran.story).reads;
 //!     let status = print(decision.ending, &mut out);
 //!     let ended = leave(alloc, Settled { status, ran: decision.ran, depot: decision.depot });
 //!
-//! specs/Promises.antt has the clauses of a run with one policy, THE HEADLINE first, and specs/Boxed.antt those of a run with
-//! policies in boxes. docs/ANSWERS.md and docs/BATCH.md have the rules, docs/COMMAND_LINE.md is the manual, and
-//! docs/POLICIES.md tells the rules of a comparison.
+//! specs/Promises.antt has the clauses of a run with one policy, THE HEADLINE first, and specs/Boxed.antt those of a
+//! run with policies in boxes. docs/ANSWERS.md and docs/BATCH.md have the rules, docs/COMMAND_LINE.md is the manual,
+//! and docs/POLICIES.md tells the rules of a comparison.
 #![tactic(auto)]
 
 mod answered;

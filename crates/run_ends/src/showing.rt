@@ -66,8 +66,10 @@ pub fn output_of(
         (option_map (λ s. s.now) story.entry)) }
     ensures means { IfOk result (λ o. (texts : List (List ℕ)) (table : List (List Cell))
         → ComeTo schema.now dicts.now texts outcomes.now
-        → AllZip (λ p a. IsAnswer p table a) (plans_of outcomes.now) answers.now → All (FitsRow schema.now dicts.now) table
-        → IsOutput schema.now (map (row_values dicts.now) table) texts (losses outcomes.now answers.now) totals (option_map (λ s. s.now) story.entry) o.status o.text) }
+        → AllZip (λ p a. IsAnswer p table a) (plans_of outcomes.now) answers.now
+        → All (FitsRow schema.now dicts.now) table
+        → IsOutput schema.now (map (row_values dicts.now) table) texts (losses outcomes.now answers.now) totals
+        (option_map (λ s. s.now) story.entry) o.status o.text) }
     ensures err { IfErr result (λ s. s ≡ stop.Memory) }
 {
     match output_text(alloc, schema, dicts, outcomes, answers, totals, story) {
@@ -79,8 +81,8 @@ pub fn output_of(
     }
 }
 
-/// What a run decides once its queries are answered: what is to be written, where memory suffices for it. The table has so
-/// many rows; the summary and the story are shown where they are asked for.
+/// What a run decides once its queries are answered: what is to be written, where memory suffices for it. The table has
+/// so many rows; the summary and the story are shown where they are asked for.
 pub fn decision_of<D: Depot>(
     alloc: Global,
     answered: Answered<D>,
@@ -101,8 +103,12 @@ pub fn decision_of<D: Depot>(
         (spec.totals_of summary answered.ran.story.items rows) (spec.trace_of trace answered.ran.story.items)) }
     ensures means { IfOk result.ending (λ o. (texts : List (List ℕ)) (table : List (List Cell))
         → ComeTo answered.schema answered.dicts.items texts answered.outcomes.items
-        → AllZip (λ p a. IsAnswer p table a) (plans_of answered.outcomes.items) answered.answers.items → All (FitsRow answered.schema answered.dicts.items) table
-        → IsOutput answered.schema (map (row_values answered.dicts.items) table) texts (losses answered.outcomes.items answered.answers.items) (spec.totals_of summary answered.ran.story.items rows) (spec.trace_of trace answered.ran.story.items) o.status o.text) }
+        → AllZip (λ p a. IsAnswer p table a) (plans_of answered.outcomes.items) answered.answers.items
+        → All (FitsRow answered.schema answered.dicts.items) table
+        → IsOutput answered.schema (map (row_values answered.dicts.items) table) texts
+        (losses answered.outcomes.items answered.answers.items)
+        (spec.totals_of summary answered.ran.story.items rows)
+        (spec.trace_of trace answered.ran.story.items) o.status o.text) }
     ensures err { IfErr result.ending (λ s. s ≡ stop.Memory) }
     ensures ran { result.ran ≡ Some answered.ran }
     ensures depot { result.depot ≡ answered.depot }

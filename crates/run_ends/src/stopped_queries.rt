@@ -7,8 +7,8 @@ ghost use Rattle.scan_story.specs.Spent.{stopped_queries};
 ghost use Rattle.scan_story.specs.Views.{History};
 ghost use Rattle.run_ends.specs.Lines.{stops};
 
-/// The stops that a line tells are the stopped queries of each setting, with a need for each query, in which the story is
-/// legal: a law. It does nothing.
+/// The stops that a line tells are the stopped queries of each setting, with a need for each query, in which the story
+/// is legal: a law. It does nothing.
 pub fn stops_are_stopped_queries()
     ensures { (s : Setting) (h : History) → AreDistinct s.needs → Legal s h → stops h ≡ stopped_queries s h }
 {}

@@ -23,8 +23,8 @@ fn push_task<'a>(
     }
 }
 
-/// A task for each statement that has a plan, under the statement's number; the numbers begin at 1. The plans stay where
-/// they are.
+/// A task for each statement that has a plan, under the statement's number; the numbers begin at 1. The plans stay
+/// where they are.
 pub fn tasks_of<'a>(alloc: Global, outcomes: &'a [Outcome]) -> Result<Vec<Task<'a>>, AllocError>
     requires few { length outcomes.now ≤ 256 }
     ensures tasks { IfOk result (λ tasks. tasks.items ≡ tasks_in 1 outcomes.now) }

@@ -30,14 +30,15 @@ Ends why Is IsFault before now (Err s) = (why ≡ Some s) ⊎ (s ≡ stop.Memory
 abbrev pub AcceptsTable : Request → Option (List ℕ) → Type 0
 AcceptsTable r table = stop_in stop.TableFault (table_stop r) table ≡ None
 
--- the shelf failed in the order of the work: while the table was read, or, behind a table that is accepted, while the batch was
+-- the shelf failed in the order of the work: while the table was read, or, behind a table that is accepted, while the
+-- batch was
 abbrev pub IsReadFault : Request → Option (List ℕ) → Stop → Type 0
 IsReadFault r table s = (s ≡ stop.TableFault) ⊎ ((s ≡ stop.BatchFault) × AcceptsTable r table)
 
 -- ---- texts
 
--- a name was read as this text: as the one that the shelf tells, or as any where it tells nothing; as none only where it
--- tells that it lacks the name
+-- a name was read as this text: as the one that the shelf tells, or as any where it tells nothing; as none only where
+-- it tells that it lacks the name
 abbrev pub IsReadAs : Held → List ℕ → Option (List ℕ) → Type 0
 IsReadAs held name None = Lacks held name
 IsReadAs held name (Some text) = (t : Option (List ℕ)) → told held name ≡ Some t → t ≡ Some text
@@ -104,7 +105,8 @@ pub record AreKept (table batch : Option (List ℕ)) (texts : ReadTexts) : Type 
   pub batch_within : length texts.batch ≤ MOST_BATCH_BYTES
 
 -- over every shelf: some texts were read, which are those that it tells where it tells any, and they decide
-pub record IsReadWith {T : Type 0} (Is : Option (List ℕ) → Option (List ℕ) → T → Type 0) (r : Request) (held : Held) (before now : ℕ) (result : Result T Stop) : Type 0 where
+pub record IsReadWith {T : Type 0} (Is : Option (List ℕ) → Option (List ℕ) → T → Type 0) (r : Request) (held : Held)
+    (before now : ℕ) (result : Result T Stop) : Type 0 where
   pub table : Option (List ℕ)
   pub batch : Option (List ℕ)
   pub table_is : IsTextOf held (table_source r.table) table
@@ -124,4 +126,5 @@ IsRead r held before now result = IsReadWith (AreInputs r) r held before now res
 
 -- and they are kept
 abbrev pub IsReadAndKept : Request → Held → ℕ → ℕ → Result (Inputs × ReadTexts) Stop → Type 0
-IsReadAndKept r held before now result = IsReadWith (λ table batch p. AreInputs r table batch p.0 × AreKept table batch p.1) r held before now result
+IsReadAndKept r held before now result = IsReadWith
+    (λ table batch p. AreInputs r table batch p.0 × AreKept table batch p.1) r held before now result

@@ -5,18 +5,22 @@ use Rattle.run_inputs.specs.Draws.{draw, drawn, state}
 -- nothing in one of sixteen rows, else a whole number from -1000 to 1000
 abbrev pub value_by : ℕ → ℕ → List ℕ
 value_by blank value = if blank % 16 == 0 then []
-    else if nat_lt (value % 2001) 1000 then codes "-" ++ decimal (1000 - value % 2001) else decimal (value % 2001 - 1000)
+    else if nat_lt (value % 2001) 1000 then codes "-" ++ decimal (1000 - value % 2001)
+    else decimal (value % 2001 - 1000)
 
 abbrev pub tag_by : ℕ → List ℕ
-tag_by tag = if tag % 4 == 0 then codes "red" else if tag % 4 == 1 then codes "green" else if tag % 4 == 2 then codes "blue" else []
+tag_by tag = if tag % 4 == 0 then codes "red" else if tag % 4 == 1 then codes "green"
+    else if tag % 4 == 2 then codes "blue" else []
 
 -- a row's line, by its number and its four draws
 abbrev pub row_by : ℕ → ℕ → ℕ → ℕ → ℕ → List ℕ
-row_by i group blank value tag = decimal i ++ codes ",g" ++ decimal (group % 16) ++ codes "," ++ value_by blank value ++ codes "," ++ tag_by tag ++ codes "\n"
+row_by i group blank value tag = decimal i ++ codes ",g" ++ decimal (group % 16) ++ codes "," ++ value_by blank value
+    ++ codes "," ++ tag_by tag ++ codes "\n"
 
 -- a row's line, by its number and the state before it
 abbrev pub row : ℕ → ℕ → List ℕ
-row i x = row_by i (drawn (draw x)) (drawn (draw (draw x))) (drawn (draw (draw (draw x)))) (drawn (draw (draw (draw (draw x)))))
+row i x = row_by i (drawn (draw x)) (drawn (draw (draw x))) (drawn (draw (draw (draw x))))
+    (drawn (draw (draw (draw (draw x)))))
 
 abbrev pub rows_below : ℕ → ℕ → List ℕ
 rows_below seed zero = []

@@ -14,7 +14,8 @@ use Rattle.run_stops.specs.declared.stop.Stop.TheVariants as stop
 use Rattle.table_core.specs.Chunk.{chunk_count}
 use Rattle.table_sets.specs.declared.limits.TheConstants.{MOST_CHUNKS}
 use Rattle.run_inputs.specs.Statements.{spans_in}
-use Rattle.run_inputs.specs.declared.limits.TheConstants.{MOST_BATCH_BYTES, MOST_POOL_WORDS, MOST_SCANS, MOST_STATEMENTS}
+use Rattle.run_inputs.specs.declared.limits.TheConstants.{MOST_BATCH_BYTES, MOST_POOL_WORDS}
+use Rattle.run_inputs.specs.declared.limits.TheConstants.{MOST_SCANS, MOST_STATEMENTS}
 
 -- the run stops for this where a number passes its limit
 abbrev pub past : ℕ → ℕ → Stop → Option Stop
@@ -53,13 +54,16 @@ frames_given workers (Some frames) layout columns = frames
 
 -- how many words the frames have together; each has those of the greatest piece
 abbrev pub words_given : ℕ → Option ℕ → Layout → ℕ → ℕ → ℕ → ℕ
-words_given workers frames layout columns per rows = frames_given workers frames layout columns * word_count layout columns (min per rows)
+words_given workers frames layout columns per rows = frames_given workers frames layout columns * word_count layout
+    columns (min per rows)
 
 -- the frames are enough, and have at most MOST_POOL_WORDS words
 abbrev pub frames_stop : ℕ → Option ℕ → Layout → ℕ → ℕ → ℕ → Option Stop
 frames_stop workers frames layout columns per rows =
-    or_else (past (frames_given workers frames layout columns) (frames_needed workers layout columns) (stop.FramesNeeded (frames_needed workers layout columns)))
-    (past MOST_POOL_WORDS (words_given workers frames layout columns per rows) (stop.FrameWords (words_given workers frames layout columns per rows)))
+    or_else (past (frames_given workers frames layout columns) (frames_needed workers layout columns)
+    (stop.FramesNeeded (frames_needed workers layout columns)))
+    (past MOST_POOL_WORDS (words_given workers frames layout columns per rows)
+    (stop.FrameWords (words_given workers frames layout columns per rows)))
 
 -- why a table with so many columns and rows stops the run
 abbrev pub size_stop : Request → ℕ → ℕ → Option Stop
@@ -70,7 +74,8 @@ table_size_stop r t = size_stop r (length t.columns) (length t.rows)
 
 -- why a text that is short enough stops the run as its table
 abbrev pub short_table_stop : Request → List ℕ → Option Stop
-short_table_stop r text = or_else (load_stop (refusal_of (table_records text))) (table_size_stop r (table_of (table_records text)))
+short_table_stop r text = or_else (load_stop (refusal_of (table_records text)))
+    (table_size_stop r (table_of (table_records text)))
 
 -- why the text of the table stops the run
 abbrev pub table_stop : Request → List ℕ → Option Stop
@@ -83,7 +88,8 @@ long_batch text = past MOST_BATCH_BYTES (length text) stop.BatchTooLong
 
 -- there are at most MOST_STATEMENTS statements, and at most MOST_SCANS scans
 abbrev pub count_stop : ℕ → ℕ → Option Stop
-count_stop parts statements = or_else (past MOST_STATEMENTS statements (stop.Statements statements)) (past MOST_SCANS (parts * statements) (stop.Scans (parts * statements)))
+count_stop parts statements = or_else (past MOST_STATEMENTS statements (stop.Statements statements))
+    (past MOST_SCANS (parts * statements) (stop.Scans (parts * statements)))
 
 -- why a text that is short enough stops the run as its batch
 abbrev pub short_batch_stop : Request → List ℕ → Option Stop
@@ -102,4 +108,5 @@ stop_in fault why (Some text) = why text
 
 -- THE FIRST STOP of a request, by the texts of its table and its batch: the table is judged before the batch
 abbrev pub first_stop : Request → Option (List ℕ) → Option (List ℕ) → Option Stop
-first_stop r table batch = or_else (stop_in stop.TableFault (table_stop r) table) (stop_in stop.BatchFault (batch_stop r) batch)
+first_stop r table batch = or_else (stop_in stop.TableFault (table_stop r) table)
+    (stop_in stop.BatchFault (batch_stop r) batch)

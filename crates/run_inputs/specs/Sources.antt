@@ -1,7 +1,8 @@
 -- Where the texts of the table and of the batch come from.
 use Rattle.std.specs.Prelude.{ℕ, ◌≤◌, List, Option, Some, None}
 use Rattle.command_words.specs.declared.limits.TheConstants.{MOST_GENERATED_ROWS}
-use Rattle.command_words.specs.Options.{TableIs, generated, file, BatchIs, generated_batch, batch_file, table_of, batch_of}
+use Rattle.command_words.specs.Options.{TableIs, generated, file, BatchIs}
+use Rattle.command_words.specs.Options.{generated_batch, batch_file, table_of, batch_of}
 use Rattle.run_inputs.specs.GeneratedTable.{table_text}
 use Rattle.run_inputs.specs.GeneratedBatch.{batch_text}
 

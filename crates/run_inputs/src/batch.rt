@@ -1,5 +1,6 @@
 // The batch that the words name, and what each of its statements comes to.
-ghost use Rattle.std.specs.Prelude.{◌≡◌, ◌≢◌, ◌≤◌, ◌<◌, ◌⊎◌, ◌^◌, ℕ, List, All, IfErr, IfOk, None, Some, false, length, map};
+ghost use Rattle.std.specs.Prelude.{◌≡◌, ◌≢◌, ◌≤◌, ◌<◌, ◌⊎◌, ◌^◌, ℕ, List, All};
+ghost use Rattle.std.specs.Prelude.{IfErr, IfOk, None, Some, false, length, map};
 ghost use Rattle.run_inputs.specs.Ending.{IsOfBatch, IsTextRead, SourceFails};
 ghost use Rattle.run_inputs.specs.Order.{count_stop, long_batch};
 ghost use Rattle.run_inputs.specs.Sources.{source_of_batch};

@@ -7,8 +7,8 @@ use run_stops::Outcome;
 /// What a run is given: how it is to work, a table, and a batch.
 #[derive(Drop)]
 pub struct Inputs {
-    /// How the table is cut, and who works on it: into at most `MOST_CHUNKS` chunks, with frames that are enough for the
-    /// workers and have at most `MOST_POOL_WORDS` words together; each number lies within its limits.
+    /// How the table is cut, and who works on it: into at most `MOST_CHUNKS` chunks, with frames that are enough for
+    /// the workers and have at most `MOST_POOL_WORDS` words together; each number lies within its limits.
     pub options: Options,
     /// Asks for the summary behind the answers.
     pub summary: bool,

@@ -3,7 +3,7 @@
 //! docs/COMMAND_LINE.md is the manual.
 //!
 //!     let request = request_in(alloc, Call::Run, &words)?;
-//!     let inputs = inputs_of(&rt, alloc, keys, &request, &mut shelf)?;    // or the first stop in the order of the work
+//!     let inputs = inputs_of(&rt, alloc, keys, &request, &mut shelf)?; // or the first stop of the work
 //!     let rows = inputs.loaded.table.len();
 //!     let first = &inputs.outcomes[0];                  // its plan, or why it is refused
 //!     let table = table_text(alloc, 7, 200000)?;        // gen:7:200000

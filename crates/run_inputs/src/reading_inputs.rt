@@ -1,7 +1,9 @@
 // From a request and a shelf to what a run is given.
 ghost use Rattle.std.specs.Prelude.{◌≡◌, ◌≢◌, ◌≤◌, ◌⊎◌, All, List, Option, ℕ, Err, IfErr, IfOk, None, Some, length};
-ghost use Rattle.run_inputs.specs.Ending.{AreInputs, Ends, EndsOver, IsBatch, IsOfBatch, IsOfTable, IsRead, IsReadAndKept, IsTable, IsTextOf, SourceFails};
-ghost use Rattle.run_inputs.specs.Order.{batch_stop, first_stop, short_batch_stop, short_table_stop, stop_in, table_stop};
+ghost use Rattle.run_inputs.specs.Ending.{AreInputs, Ends, EndsOver, IsBatch, IsOfBatch, IsOfTable};
+ghost use Rattle.run_inputs.specs.Ending.{IsRead, IsReadAndKept, IsTable, IsTextOf, SourceFails};
+ghost use Rattle.run_inputs.specs.Order.{batch_stop, first_stop, short_batch_stop};
+ghost use Rattle.run_inputs.specs.Order.{short_table_stop, stop_in, table_stop};
 ghost use Rattle.run_inputs.specs.Sources.{batch_source, table_source};
 ghost use Rattle.run_inputs.specs.Statements.{spans_in};
 ghost use Rattle.command_words.specs.Limits.{IsWithinLimits};
@@ -179,7 +181,9 @@ fn read_table<F: Shelf, R: Threads + Sync>(
 ) -> Result<(Loaded, u32, Bytes), Stop>
     requires limits { IsWithinLimits (request_view request.now) }
     ensures read { (text : Option (List ℕ)) × IsTextOf (F.held shelf.old) (table_source request.now.table.now) text
-        × Ends (stop_in stop.TableFault (table_stop (request_view request.now)) text) (λ p. IsTable (request_view request.now) text p.0 p.1 × (text ≡ Some p.2)) (λ s. s ≡ stop.TableFault) (F.faults shelf.old) (F.faults shelf.new) result }
+        × Ends (stop_in stop.TableFault (table_stop (request_view request.now)) text)
+        (λ p. IsTable (request_view request.now) text p.0 p.1 × (text ≡ Some p.2)) (λ s. s ≡ stop.TableFault)
+        (F.faults shelf.old) (F.faults shelf.new) result }
     ensures within { IfOk result (λ p. length p.2 ≤ MOST_TEXT_BYTES) }
     ensures of_table { IfErr result IsOfTable }
     ensures cause { IfErr result (λ s. s ≡ stop.TableFault
@@ -226,7 +230,9 @@ fn read_batch<F: Shelf>(
     requires places { All (λ c. places_of c.kind ≤ MOST_PLACES) loaded.now.table.columns }
     requires dicts { length loaded.now.dicts.items ≡ length loaded.now.table.columns }
     ensures read { (text : Option (List ℕ)) × IsTextOf (F.held shelf.old) (batch_source request.now.batch.now) text
-        × Ends (stop_in stop.BatchFault (batch_stop (request_view request.now)) text) (λ p. IsBatch text loaded.now p.0.items × (text ≡ Some p.1)) (λ s. s ≡ stop.BatchFault) (F.faults shelf.old) (F.faults shelf.new) result }
+        × Ends (stop_in stop.BatchFault (batch_stop (request_view request.now)) text)
+        (λ p. IsBatch text loaded.now p.0.items × (text ≡ Some p.1)) (λ s. s ≡ stop.BatchFault) (F.faults shelf.old)
+        (F.faults shelf.new) result }
     ensures within { IfOk result (λ p. length p.1 ≤ MOST_BATCH_BYTES) }
     ensures of_batch { IfErr result IsOfBatch }
     ensures cause { IfErr result (λ s. s ≡ stop.BatchFault

@@ -35,18 +35,23 @@ overflow_of kinds item total = overflow_words item total (places_of (slice_index
 
 -- what result rows print: each cell in its column's kind, its code read in the column's dictionary
 abbrev pub rows_printed : List Column → List (List (List ℕ)) → ℕ → Plan → List (List Cell) → Printed
-rows_printed columns dicts n p rows = answered (answer n (kinds_of columns (result_columns p)) (map (values_of dicts (result_columns p)) rows))
+rows_printed columns dicts n p rows = answered
+    (answer n (kinds_of columns (result_columns p)) (map (values_of dicts (result_columns p)) rows))
 
 -- what the answer to a plan prints, for the statement of this number
 abbrev pub answer_printed : List Column → List (List (List ℕ)) → ℕ → Plan → Answer → Printed
 answer_printed columns dicts n p (answers.Rows rows) = rows_printed columns dicts n p rows
 answer_printed columns dicts n p (answers.Picked rows) = rows_printed columns dicts n p rows
-answer_printed columns dicts n p (answers.Overflow item total) = refused (refusal_line n (overflow_of (kinds_of columns (result_columns p)) item total))
+answer_printed columns dicts n p (answers.Overflow item total) = refused
+    (refusal_line n (overflow_of (kinds_of columns (result_columns p)) item total))
 answer_printed columns dicts n p (answers.Stopped why) = refused (refusal_line n (stop_words why))
 
--- what statements print that come to these outcomes, the first one with this number: each one that has a plan takes the next answer
+-- what statements print that come to these outcomes, the first one with this number: each one that has a plan takes the
+-- next answer
 abbrev pub printed : List Column → List (List (List ℕ)) → ℕ → List Outcome → List Answer → List Printed
 printed columns dicts n [] answers = []
 printed columns dicts n (outcome.Planned p ∷ outcomes) [] = []
-printed columns dicts n (outcome.Planned p ∷ outcomes) (a ∷ answers) = answer_printed columns dicts n p a ∷ printed columns dicts (n + 1) outcomes answers
-printed columns dicts n (outcome.Refused why ∷ outcomes) answers = refused (refusal_line n (statement_words why)) ∷ printed columns dicts (n + 1) outcomes answers
+printed columns dicts n (outcome.Planned p ∷ outcomes) (a ∷ answers) = answer_printed columns dicts n p a
+    ∷ printed columns dicts (n + 1) outcomes answers
+printed columns dicts n (outcome.Refused why ∷ outcomes) answers = refused (refusal_line n (statement_words why))
+    ∷ printed columns dicts (n + 1) outcomes answers

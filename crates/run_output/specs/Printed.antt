@@ -19,10 +19,12 @@ abbrev pub is_answered : Printed → Bool
 is_answered (answered text) = true
 is_answered (refused line) = false
 
--- the summary, where it is asked for: the statements, those that are answered, the deliveries, and the rows of the table
+-- the summary, where it is asked for: the statements, those that are answered, the deliveries, and the rows of the
+-- table
 abbrev pub summary_of : List Printed → Option Totals → List ℕ
 summary_of printed None = []
-summary_of printed (Some totals) = summary_line (length printed) (count_by is_answered printed) totals.deliveries totals.rows
+summary_of printed (Some totals) = summary_line (length printed)
+    (count_by is_answered printed) totals.deliveries totals.rows
 
 -- the trace, where it is asked for: a line for each entry of the story
 abbrev pub trace_of : Option (List Entry) → List ℕ

@@ -39,7 +39,8 @@ stop_words cause.Memory = codes "memory"
 
 -- the sum of this item is no number of 64 bits: its total, with these places
 abbrev pub overflow_words : ℕ → ℤ → ℕ → List ℕ
-overflow_words item total places = codes "sum overflow item " ++ (number_and item (codes " total ") ++ number_text places total)
+overflow_words item total places = codes "sum overflow item "
+    ++ (number_and item (codes " total ") ++ number_text places total)
 
 -- what stands before the words of a refusal
 abbrev pub refusal_head : ℕ → List ℕ

@@ -120,10 +120,15 @@ pub fn output_text(
     requires answers { AllZip (CanBeWritten dicts.now) (plans_of outcomes.now) answers.now }
     ensures text { IfOk result (λ out. out ≡ output (printed schema.now dicts.now 1 outcomes.now answers.now) summary
         (option_map (λ s. s.now) trace.entry)) }
-    // Where the outcomes are those of these texts, and the answers those to a table, it is the output of the texts over the table's values.
+    // Where the outcomes are those of these texts, and the answers those to a table, it is the output of the texts over
+    // the table's values.
     ensures output { IfOk result (λ out. (texts : List (List ℕ)) (table : List (List Cell)) →
-        ComeTo schema.now dicts.now texts outcomes.now → AllZip (λ p a. IsAnswer p table a) (plans_of outcomes.now) answers.now → All (FitsRow schema.now dicts.now) table →
-        IsOutput schema.now (map (row_values dicts.now) table) texts (losses outcomes.now answers.now) summary (option_map (λ s. s.now) trace.entry) (status (printed schema.now dicts.now 1 outcomes.now answers.now)) out) }
+        ComeTo schema.now dicts.now texts outcomes.now
+        → AllZip (λ p a. IsAnswer p table a) (plans_of outcomes.now) answers.now
+        → All (FitsRow schema.now dicts.now) table →
+        IsOutput schema.now (map (row_values dicts.now) table) texts (losses outcomes.now answers.now) summary
+        (option_map (λ s. s.now) trace.entry)
+        (status (printed schema.now dicts.now 1 outcomes.now answers.now)) out) }
 {
     let mut out = statements_text(alloc, schema, dicts, outcomes, answers)?;
     write_totals(&mut out, outcomes, answers, summary)?;

@@ -1,5 +1,6 @@
 // What one statement prints.
-ghost use Rattle.std.specs.Prelude.{◌≡◌, ◌≤◌, ◌<◌, ◌+◌, ◌-◌, ◌^◌, ◌++◌, ◌∷◌, [], List, All, None, IfOk, OnOk, length, slice_index_or};
+ghost use Rattle.std.specs.Prelude.{◌≡◌, ◌≤◌, ◌<◌, ◌+◌, ◌-◌, ◌^◌, ◌++◌, ◌∷◌, [], List};
+ghost use Rattle.std.specs.Prelude.{All, None, IfOk, OnOk, length, slice_index_or};
 ghost use Rattle.std.specs.List.{AllByRecursion, AllZip, flat_map};
 ghost use Rattle.table_core.specs.Value.{places_of};
 ghost use Rattle.table_core.specs.Answer.{IsColumn, kind_at, kinds_of};
@@ -152,7 +153,8 @@ fn write_answer(
     }
 }
 
-/// Puts what a statement prints at the end. It takes the first of the answers where it has a plan, and gives those that are left.
+/// Puts what a statement prints at the end. It takes the first of the answers where it has a plan, and gives those that
+/// are left.
 pub(crate) fn write_statement<'a>(
     alloc: Global,
     out: &mut Bytes,
@@ -169,9 +171,11 @@ pub(crate) fn write_statement<'a>(
         answers.now }
     // With what the other statements print behind it, it is what they print together.
     ensures text { IfOk result (λ left. (rest : List Outcome) →
-        out.new ++ flat_map text_in (printed schema.now dicts.now (query + 1) rest left.now) ≡ out.old ++ flat_map text_in (printed schema.now dicts.now query (outcome.now ∷ rest) answers.now)) }
+        out.new ++ flat_map text_in (printed schema.now dicts.now (query + 1) rest left.now)
+        ≡ out.old ++ flat_map text_in (printed schema.now dicts.now query (outcome.now ∷ rest) answers.now)) }
     ensures left { IfOk result (λ left. (rest : List Outcome) →
-        AllZip (CanBeWritten dicts.now) (plans_of (outcome.now ∷ rest)) answers.now → AllZip (CanBeWritten dicts.now) (plans_of rest) left.now) }
+        AllZip (CanBeWritten dicts.now) (plans_of (outcome.now ∷ rest)) answers.now
+        → AllZip (CanBeWritten dicts.now) (plans_of rest) left.now) }
 {
     match outcome {
         Outcome::Refused(why) => {

@@ -63,7 +63,8 @@ fn write_run_counts(
     write_counted(out, stops, b" stops\n")
 }
 
-/// Puts the line of a policy at the end, where policies are compared: its name as it is given, and the counts of its run.
+/// Puts the line of a policy at the end, where policies are compared: its name as it is given, and the counts of its
+/// run.
 ///
 /// Out of memory leaves what was there and a prefix of it.
 pub fn write_policy_line(

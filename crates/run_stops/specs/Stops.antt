@@ -29,8 +29,10 @@ line_of stop.TableTooLong = codes "stopped 3: table text too long\n"
 line_of stop.NoHeader = codes "stopped 3: no header\n"
 line_of (stop.Columns columns) = codes "stopped 3: " ++ decimal columns ++ codes " columns\n"
 line_of (stop.LongName column) = codes "stopped 3: name of column " ++ decimal column ++ codes " too long\n"
-line_of (stop.TwiceNamed first second) = codes "stopped 3: columns " ++ decimal first ++ codes " and " ++ decimal second ++ codes " have one name\n"
-line_of (stop.Ragged row fields) = codes "stopped 3: row " ++ decimal row ++ codes " has " ++ decimal fields ++ codes " fields\n"
+line_of (stop.TwiceNamed first second) = codes "stopped 3: columns " ++ decimal first ++ codes " and " ++ decimal second
+    ++ codes " have one name\n"
+line_of (stop.Ragged row fields) = codes "stopped 3: row " ++ decimal row ++ codes " has " ++ decimal fields
+    ++ codes " fields\n"
 line_of stop.TooManyRows = codes "stopped 3: too many rows\n"
 line_of (stop.Chunks chunks) = codes "stopped 3: " ++ decimal chunks ++ codes " chunks\n"
 line_of stop.TableFault = codes "stopped 4: table read fault\n"

@@ -33,9 +33,11 @@ last_fault from [] = from
 last_fault from (Failed w q p (Fault before after) ∷ h) = after
 last_fault from (_ ∷ h) = last_fault from h
 
--- each fault has a rise of its own between the two counts, one after another; a depot that tells what it holds has no damage
+-- each fault has a rise of its own between the two counts, one after another; a depot that tells what it holds has no
+-- damage
 abbrev pub Licensed : Bool → ℕ → ℕ → History → Type 0
 Licensed told from to [] = from ≤ to
-Licensed told from to (Failed w q p (Fault before after) ∷ h) = (after ≤ to) × IsRise before after × Licensed told from before h
+Licensed told from to (Failed w q p (Fault before after) ∷ h) = (after ≤ to) × IsRise before after
+    × Licensed told from before h
 Licensed told from to (Failed w q p (Damage word) ∷ h) = (told ≡ false) × Licensed told from to h
 Licensed told from to (_ ∷ h) = Licensed told from to h

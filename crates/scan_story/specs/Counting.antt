@@ -1,5 +1,6 @@
 -- How many numbers or elements pass a test, whether some does, and the least of their values.
-use Rattle.std.specs.Prelude.{◌==◌, ◌+◌, ◌||◌, false, ℕ, zero, suc, min, Bool, List, [], ◌∷◌, Option, None, Some, if◌then◌else◌}
+use Rattle.std.specs.Prelude.{◌==◌, ◌+◌, ◌||◌, false, ℕ, zero, suc, min, Bool}
+use Rattle.std.specs.Prelude.{List, [], ◌∷◌, Option, None, Some, if◌then◌else◌}
 use Rattle.std.specs.List.{list_any}
 
 -- how many elements pass

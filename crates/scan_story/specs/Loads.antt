@@ -1,5 +1,6 @@
 -- The load that is underway, and the frames that are free.
-use Rattle.std.specs.Prelude.{◌==◌, ◌&&◌, not, false, ℕ, Bool, List, [], ◌∷◌, Option, None, Some, is_none, filter, if◌then◌else◌}
+use Rattle.std.specs.Prelude.{◌==◌, ◌&&◌, not, false, ℕ, Bool, List, [], ◌∷◌}
+use Rattle.std.specs.Prelude.{Option, None, Some, is_none, filter, if◌then◌else◌}
 use Rattle.std.specs.List.{list_any, list_all}
 use Rattle.std.specs.Option.{option_map}
 use Rattle.scan_story.specs.declared.entry.Entry.TheVariants.{Plan, Fill, Filled, Failed}

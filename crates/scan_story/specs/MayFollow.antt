@@ -1,15 +1,18 @@
 -- Which entries may follow a history.
-use Rattle.std.specs.Prelude.{◌≡◌, ◌==◌, ◌+◌, ◌-◌, ◌^◌, ◌<◌, ◌≤◌, ◌⊎◌, ◌&&◌, not, true, false, ℕ, Bool, [], None, Some, is_none, is_some, nat_lt, length}
+use Rattle.std.specs.Prelude.{◌≡◌, ◌==◌, ◌+◌, ◌-◌, ◌^◌, ◌<◌, ◌≤◌, ◌⊎◌, ◌&&◌, not, true, false}
+use Rattle.std.specs.Prelude.{ℕ, Bool, [], None, Some, is_none, is_some, nat_lt, length}
 use Rattle.std.specs.List.{list_any}
 use Rattle.scan_story.specs.declared.entry.Why.{Why}
 use Rattle.scan_story.specs.declared.entry.Why.TheVariants.{Fault, Damage}
 use Rattle.scan_story.specs.declared.entry.Entry.{Entry}
-use Rattle.scan_story.specs.declared.entry.Entry.TheVariants.{Register, Plan, Evict, Fill, Filled, Failed, Deliver, Release, Stop, End}
+use Rattle.scan_story.specs.declared.entry.Entry.TheVariants.{Register, Plan, Evict, Fill, Filled}
+use Rattle.scan_story.specs.declared.entry.Entry.TheVariants.{Failed, Deliver, Release, Stop, End}
 use Rattle.scan_story.specs.declared.view.Load.{Load}
 use Rattle.scan_story.specs.declared.setting.Setting.{Setting}
 use Rattle.scan_story.specs.Counting.{has, any_below}
 use Rattle.scan_story.specs.Setting.{need_of, worker_of}
-use Rattle.scan_story.specs.Views.{History, is_registered, is_active, needs_chunk, is_wholly_framed, is_available, held_by, is_held}
+use Rattle.scan_story.specs.Views.{History, is_registered, is_active, needs_chunk}
+use Rattle.scan_story.specs.Views.{is_wholly_framed, is_available, held_by, is_held}
 use Rattle.scan_story.specs.Loads.{underway, begins, begins_in, all_begun, is_load_by, is_load_of, is_free, free_frames}
 use Rattle.scan_story.specs.Numbers.{needed, cached, is_starved}
 
@@ -25,16 +28,19 @@ is_ready s h q c = nat_lt c s.chunks && is_available s h q c
 
 -- a starved query that needs a chunk that isn't wholly in frames, while no plan is underway
 abbrev pub is_trigger : Setting → History → ℕ → Bool
-is_trigger s h q = is_some (need_of s q) && is_none (underway s h) && is_starved s h q && any_below (is_target s h q) s.chunks
+is_trigger s h q = is_some (need_of s q) && is_none (underway s h) && is_starved s h q
+    && any_below (is_target s h q) s.chunks
 
 -- the chunk is available to a starved query
 abbrev pub feeds_starved : Setting → History → ℕ → Bool
 feeds_starved s h c = list_any (λ n. is_starved s h n.query && is_available s h n.query c) s.needs
 
--- a chunk that has a piece in a frame, isn't the target of the load underway, is held by nobody, and available to no starved query
+-- a chunk that has a piece in a frame, isn't the target of the load underway, is held by nobody, and available to no
+-- starved query
 abbrev pub is_victim : Setting → History → ℕ → Bool
 is_victim s h c =
-    nat_lt c s.chunks && nat_lt 0 (cached s h c) && not (is_load_of c (underway s h)) && not (is_held s h c) && not (feeds_starved s h c)
+    nat_lt c s.chunks && nat_lt 0 (cached s h c) && not (is_load_of c (underway s h)) && not (is_held s h c)
+    && not (feeds_starved s h c)
 
 -- What each kind asks
 

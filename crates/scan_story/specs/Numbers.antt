@@ -1,5 +1,6 @@
 -- The numbers of a history.
-use Rattle.std.specs.Prelude.{◌==◌, ◌+◌, ◌&&◌, not, false, ℕ, Bool, [], ◌∷◌, Option, None, Some, nat_lt, nat_le, length, unwrap_or, if◌then◌else◌}
+use Rattle.std.specs.Prelude.{◌==◌, ◌+◌, ◌&&◌, not, false, ℕ, Bool, [], ◌∷◌, Option, None}
+use Rattle.std.specs.Prelude.{Some, nat_lt, nat_le, length, unwrap_or, if◌then◌else◌}
 use Rattle.std.specs.Option.{option_map}
 use Rattle.scan_story.specs.declared.entry.Entry.{Entry}
 use Rattle.scan_story.specs.declared.entry.Entry.TheVariants.{Register, Release}
@@ -68,7 +69,8 @@ starved_interested s h c = count_among (λ n. is_starved s h n.query && needs_ch
 
 -- how many active queries have it available, and at most two available chunks
 abbrev pub close : Setting → History → ℕ → ℕ
-close s h c = count_among (λ n. is_active h n.query && is_available s h n.query c && nat_le (available s h n.query) 2) s.needs
+close s h c = count_among
+    (λ n. is_active h n.query && is_available s h n.query c && nat_le (available s h n.query) 2) s.needs
 
 -- how many of its pieces are in no frame
 abbrev pub missing : Setting → History → ℕ → ℕ
@@ -90,4 +92,5 @@ overlap s h q c = count_among (λ n. is_active h n.query && needs_chunk s h n.qu
 
 -- how many of these are starved
 abbrev pub starved_overlap : Setting → History → ℕ → ℕ → ℕ
-starved_overlap s h q c = count_among (λ n. is_starved s h n.query && needs_chunk s h n.query c && shares s q n.query) s.needs
+starved_overlap s h q c = count_among
+    (λ n. is_starved s h n.query && needs_chunk s h n.query c && shares s q n.query) s.needs

@@ -1,5 +1,6 @@
 -- What each policy chooses, and how its cursor moves.
-use Rattle.std.specs.Prelude.{◌≡◌, ◌==◌, ◌+◌, ◌-◌, ◌%◌, ◌≤◌, ◌&&◌, not, true, ℕ, Bool, ◌≤ℤ◌, List, [], ◌∷◌, ◌++◌, nat_lt, filter, get_or, set, if◌then◌else◌}
+use Rattle.std.specs.Prelude.{◌≡◌, ◌==◌, ◌+◌, ◌-◌, ◌%◌, ◌≤◌, ◌&&◌, not, true, ℕ, Bool, ◌≤ℤ◌}
+use Rattle.std.specs.Prelude.{List, [], ◌∷◌, ◌++◌, nat_lt, filter, get_or, set, if◌then◌else◌}
 use Rattle.scan_story.specs.declared.setting.PolicyName.{PolicyName}
 use Rattle.scan_story.specs.declared.setting.PolicyName.TheVariants.{Relevance, Elevator, Normal, Attach}
 use Rattle.scan_story.specs.declared.setting.Setting.{Setting}
@@ -26,7 +27,8 @@ IsLeast is_candidate f x = IsBest is_candidate (λ a b. f b ≤ f a) x
 
 -- a candidate for a victim of least close
 abbrev pub is_least_close : Setting → History → ℕ → Bool
-is_least_close s h c = is_victim s h c && not (any_below (λ y. is_victim s h y && nat_lt (close s h y) (close s h c)) s.chunks)
+is_least_close s h c = is_victim s h c
+    && not (any_below (λ y. is_victim s h y && nat_lt (close s h y) (close s h c)) s.chunks)
 
 -- Around the chunks, from a start
 
@@ -73,14 +75,16 @@ BestQuery Attach cursor s h q = IsGreatest (is_trigger s h) (waiting s h) q
 
 -- a chunk to load for the trigger q
 abbrev pub BestLoad : PolicyName → List ℕ → Setting → History → ℕ → ℕ → Type 0
-BestLoad Relevance cursor s h q c = IsBest (is_target s h q) (λ a b. IsAtMost (load_ratio s h q a) (load_ratio s h q b)) c
+BestLoad Relevance cursor s h q c = IsBest (is_target s h q)
+    (λ a b. IsAtMost (load_ratio s h q a) (load_ratio s h q b)) c
 BestLoad Elevator cursor s h q c = IsLeast (is_target s h q) (dist s cursor) c
 BestLoad Normal cursor s h q c = IsLeast (is_target s h q) (λ x. x) c
 BestLoad Attach cursor s h q c = IsLeast (is_target s h q) (dist_from s (start_of cursor q)) c
 
 -- a chunk to deliver to q
 abbrev pub BestDelivery : PolicyName → List ℕ → Setting → History → ℕ → ℕ → Type 0
-BestDelivery Relevance cursor s h q c = IsBest (is_ready s h q) (λ a b. IsAtMost (use_ratio s h q a) (use_ratio s h q b)) c
+BestDelivery Relevance cursor s h q c = IsBest (is_ready s h q)
+    (λ a b. IsAtMost (use_ratio s h q a) (use_ratio s h q b)) c
 BestDelivery Elevator cursor s h q c = IsLeast (is_ready s h q) (dist s cursor) c
 BestDelivery Normal cursor s h q c = IsLeast (is_ready s h q) (λ x. x) c
 BestDelivery Attach cursor s h q c = IsLeast (is_ready s h q) (dist_from s (start_of cursor q)) c

@@ -3,7 +3,8 @@ use Rattle.std.specs.Prelude.{◌+◌, ◌*◌, ◌≤◌, ℕ, ℤ, pos, ◌-�
 use Rattle.scan_story.specs.declared.ratio.Ratio.{Ratio}
 use Rattle.scan_story.specs.declared.setting.Setting.{Setting}
 use Rattle.scan_story.specs.Views.{History}
-use Rattle.scan_story.specs.Numbers.{needed, waiting, running, interested, close, cached, missing_for, overlap, starved_overlap}
+use Rattle.scan_story.specs.Numbers.{needed, waiting, running, interested, close}
+use Rattle.scan_story.specs.Numbers.{cached, missing_for, overlap, starved_overlap}
 
 abbrev pub query_rank : Setting → History → ℕ → ℤ
 query_rank s h q = pos (waiting s h q) -ℤ pos (running s h * needed s h q)

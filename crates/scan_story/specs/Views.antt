@@ -1,8 +1,10 @@
 -- What a history says of queries, workers and frames. A history is a list of entries, the newest first.
-use Rattle.std.specs.Prelude.{◌==◌, ◌&&◌, not, false, ℕ, Bool, List, [], ◌∷◌, Option, None, Some, reverse, if◌then◌else◌}
+use Rattle.std.specs.Prelude.{◌==◌, ◌&&◌, not, false, ℕ, Bool, List, [], ◌∷◌}
+use Rattle.std.specs.Prelude.{Option, None, Some, reverse, if◌then◌else◌}
 use Rattle.std.specs.List.{list_any, list_all}
 use Rattle.scan_story.specs.declared.entry.Entry.{Entry}
-use Rattle.scan_story.specs.declared.entry.Entry.TheVariants.{Register, Evict, Fill, Filled, Failed, Deliver, Release, Stop, End}
+use Rattle.scan_story.specs.declared.entry.Entry.TheVariants.{Register, Evict, Fill, Filled}
+use Rattle.scan_story.specs.declared.entry.Entry.TheVariants.{Failed, Deliver, Release, Stop, End}
 use Rattle.scan_story.specs.declared.view.Hold.{Hold}
 use Rattle.scan_story.specs.declared.view.Phase.{Phase}
 use Rattle.scan_story.specs.declared.view.Phase.TheVariants.{Waiting, Active, Ended, Stopped}
@@ -58,7 +60,8 @@ needs_chunk s h q c = asks_for s q c && not (is_stopped h q) && not (is_ended h 
 
 abbrev pub phase_of : History → ℕ → Phase
 phase_of h q =
-    if is_stopped h q then Stopped else (if is_ended h q then Ended else (if is_registered h q then Active else Waiting))
+    if is_stopped h q then Stopped
+    else (if is_ended h q then Ended else (if is_registered h q then Active else Waiting))
 
 -- Workers
 

@@ -36,7 +36,8 @@ had_piece s (Deliver v q c ∷ h) w f =
 had_piece s (Release v q c ∷ h) w f = if v == w then false else had_piece s h w f
 had_piece s (_ ∷ h) w f = had_piece s h w f
 
--- between a Deliver to a worker and its next Release, the chunk is not evicted, and no frame that had a piece of it is filled
+-- between a Deliver to a worker and its next Release, the chunk is not evicted, and no frame that had a piece of it is
+-- filled
 abbrev pub Undisturbed : Setting → History → Type 0
 Undisturbed s [] = Unit {0}
 Undisturbed s (Evict w c ∷ h) = ((v : ℕ) → v < s.workers → has_taken h v c ≡ false) × Undisturbed s h

@@ -25,8 +25,8 @@ fn agree(first: &Option<Bytes>, answers: &Bytes) -> bool
     }
 }
 
-// Plays the queries under a policy, and prints what no schedule changes. Whether it is as it has to be; where there are no
-// answers yet, those of this run are they.
+// Plays the queries under a policy, and prints what no schedule changes. Whether it is as it has to be; where there are
+// no answers yet, those of this run are they.
 fn check_policy<R: Threads + Wait + Sync>(
     handle: &R,
     rt: HostRuntime,
@@ -74,9 +74,9 @@ fn check_plain<R: Threads + Wait + Sync>(
     Ok(status == 0 && taken == needed)
 }
 
-/// Plays the queries in each way, and prints of each run what no schedule changes: its status, and that each chunk which a
-/// query needs was handed to it once; and under a policy that the depot counted a get for each read of the story, and that
-/// the answers are those of the first policy. It ends with 0 where all of this is so, and else with 1.
+/// Plays the queries in each way, and prints of each run what no schedule changes: its status, and that each chunk
+/// which a query needs was handed to it once; and under a policy that the depot counted a get for each read of the
+/// story, and that the answers are those of the first policy. It ends with 0 where all of this is so, and else with 1.
 pub(crate) fn check<R: Threads + Wait + Sync>(
     handle: &R,
     rt: HostRuntime,

@@ -36,9 +36,9 @@ pub(crate) enum Step {
     Stuck,
 }
 
-/// The frames of a plain buffer manager, for comparison with the engine alone: a chunk leaves its frame where another one is
-/// to be loaded and it is, of those that aren't pinned, the one that was used least recently. One chunk is loaded at a time,
-/// in the order in which they were asked for.
+/// The frames of a plain buffer manager, for comparison with the engine alone: a chunk leaves its frame where another
+/// one is to be loaded and it is, of those that aren't pinned, the one that was used least recently. One chunk is
+/// loaded at a time, in the order in which they were asked for.
 #[derive(Drop)]
 pub(crate) struct LruPool {
     frames: Vec<Frame>,
@@ -127,8 +127,8 @@ impl LruPool {
         }
     }
 
-    /// The stream asks for the next chunk of its scan. The chunk is pinned where it lies in a frame, and else the stream waits
-    /// for it.
+    /// The stream asks for the next chunk of its scan. The chunk is pinned where it lies in a frame, and else the
+    /// stream waits for it.
     pub(crate) fn ask(&mut self, stream: usize) -> Option<u32> {
         let now = self.tick();
         let seat = self.seats.get_mut(stream)?;
@@ -213,8 +213,8 @@ impl LruPool {
         served
     }
 
-    /// The chunk was loaded into the frame at the place, and is pinned for those that waited for it. It answers who has to wait
-    /// no longer, a bit for each stream.
+    /// The chunk was loaded into the frame at the place, and is pinned for those that waited for it. It answers who has
+    /// to wait no longer, a bit for each stream.
     pub(crate) fn loaded(&mut self, place: usize, chunk: u32) -> u32 {
         let (now, served) = (self.tick(), self.serve(chunk));
         if let Some(frame) = self.frames.get_mut(place) {

@@ -1,8 +1,8 @@
 //! `scan_streams`: plays streams of range queries over a generated table under each policy, with a depot that takes its
 //! time for each get, and tells what was read and how long streams and queries took.
 //!
-//! It embeds coop_run with a depot and a gate of its own: `SlowDepot` sleeps before each get, and `TimingGate` notes when
-//! a query had its chunks, and works long on those of slow queries. `scan_streams --help` lists its words;
+//! It embeds coop_run with a depot and a gate of its own: `SlowDepot` sleeps before each get, and `TimingGate` notes
+//! when a query had its chunks, and works long on those of slow queries. `scan_streams --help` lists its words;
 //! docs/POLICIES.md and docs/BENCHMARKS.md have what was measured with it.
 #![tactic(auto)]
 

@@ -156,9 +156,9 @@ fn streams_of(alloc: Global, streams: u32) -> Result<Vec<Stream>> {
     Ok(all)
 }
 
-/// Plays the queries over a plain buffer manager with LRU, each scan in table order; where they attach, from the place of
-/// another scan on and around. It is for comparison with the engine alone: it reads no rows and gives no answers. The error
-/// is out of memory, or one of the system's clock.
+/// Plays the queries over a plain buffer manager with LRU, each scan in table order; where they attach, from the place
+/// of another scan on and around. It is for comparison with the engine alone: it reads no rows and gives no answers.
+/// The error is out of memory, or one of the system's clock.
 pub(crate) fn play_plain<R: Threads + Wait + Sync>(
     handle: &R,
     rt: HostRuntime,

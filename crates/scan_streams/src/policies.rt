@@ -9,8 +9,8 @@ use scan_story::PolicyName;
 pub(crate) enum Way {
     /// The engine under a policy.
     Under(PolicyName),
-    /// A plain buffer manager with LRU, for comparison; not the engine. Each scan goes in table order, or attaches to another
-    /// one and goes around.
+    /// A plain buffer manager with LRU, for comparison; not the engine. Each scan goes in table order, or attaches to
+    /// another one and goes around.
     Plain { attaches: bool },
 }
 

@@ -25,7 +25,8 @@ pub(crate) struct RangeQuery {
 }
 
 impl RangeQuery {
-    /// A query of the kind over a table of so many rows, at a place that the draw picks. Its range has at least one row.
+    /// A query of the kind over a table of so many rows, at a place that the draw picks. Its range has at least one
+    /// row.
     pub(crate) fn placed(kind: Kind, table_rows: u32, draw: u32) -> Self
         requires some { 1 ≤ table_rows }
         requires within { table_rows ≤ MOST_GENERATED_ROWS }

@@ -57,7 +57,8 @@ fn print_experiment(rt: &impl Print, experiment: &Experiment) -> io::Result<()> 
     } = *experiment;
     let chunks = experiment.chunks();
     println!(rt;
-        "{streams} streams of {queries} queries over {chunks} chunks with {frames} frames, a get of {get_us} us, a slow chunk of {slow_us} us"
+        "{streams} streams of {queries} queries over {chunks} chunks with {frames} frames, a get of {get_us} us, a \
+slow chunk of {slow_us} us"
     )
 }
 
@@ -177,9 +178,9 @@ fn play_in<R: Threads + Wait + Sync>(
     Ok(Some(played))
 }
 
-/// Plays the queries in the way of a name, or in each in turn for `all`, and prints what was read, how long streams took on
-/// average, and how long the queries of each kind took beside one alone; and what else is wanted. A run that stops or loses
-/// a query ends the work with its status, and what it wrote is printed.
+/// Plays the queries in the way of a name, or in each in turn for `all`, and prints what was read, how long streams
+/// took on average, and how long the queries of each kind took beside one alone; and what else is wanted. A run that
+/// stops or loses a query ends the work with its status, and what it wrote is printed.
 pub(crate) fn report<R: Threads + Wait + Sync>(
     handle: &R,
     rt: HostRuntime,

@@ -23,8 +23,8 @@ struct Mark {
     last: AtomicU64,
 }
 
-/// Notes when each query had its last chunk. A query sleeps first, with the chunk pinned, as if it worked on it, while it
-/// has one of the processors.
+/// Notes when each query had its last chunk. A query sleeps first, with the chunk pinned, as if it worked on it, while
+/// it has one of the processors.
 #[derive(Drop)]
 pub(crate) struct TimingGate<C> {
     watch: Watch<C>,

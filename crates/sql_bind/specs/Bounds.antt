@@ -53,7 +53,8 @@ IsBoundOf k dict (literal.Text t) v = IsTextBound dict t v
 
 -- THE CONDITION over cells: of the same shape, with columns for names and bounds for literals
 abbrev pub IsCondOf : List Column → List (List (List ℕ)) → Tree → Cond → Type 0
-IsCondOf columns dicts (Compare c o l) (cond.Compare x p v) = (x ≡ column_of columns c) × (p ≡ o) × IsBoundOf (kind_at columns x) (dict_at dicts x) l v
+IsCondOf columns dicts (Compare c o l) (cond.Compare x p v) = (x ≡ column_of columns c) × (p ≡ o)
+    × IsBoundOf (kind_at columns x) (dict_at dicts x) l v
 IsCondOf columns dicts (NullTest c negated) (cond.IsNull x n) = (x ≡ column_of columns c) × (n ≡ negated)
 IsCondOf columns dicts (Both a b) (cond.And' p x q y) = IsCondOf columns dicts a x × IsCondOf columns dicts b y
 IsCondOf columns dicts (Either a b) (cond.Or' p x q y) = IsCondOf columns dicts a x × IsCondOf columns dicts b y
@@ -68,7 +69,8 @@ IsBound columns dicts _ _ = ⊥
 
 -- a bound stands for a literal in a column: each cell stands to it as the cell's value stands to the literal
 abbrev pub StandsFor : Kind → List (List ℕ) → Literal → Bound → Type 0
-StandsFor k dict l v = (c : Cell) → FitsColumn k dict c → is_null c ≡ false → order_of c v ≡ value_order k l (value_in dict c)
+StandsFor k dict l v = (c : Cell) → FitsColumn k dict c → is_null c ≡ false
+    → order_of c v ≡ value_order k l (value_in dict c)
 
 -- a bound is of the kind of the column's cells
 abbrev pub IsOfKind : Kind → List (List ℕ) → Bound → Type 0
@@ -76,7 +78,8 @@ IsOfKind k dict v = (c : Cell) → FitsColumn k dict c → Fits c v
 
 -- the columns of a condition are there, and each of its literals is of its column's kind
 abbrev pub IsSound : List Column → Tree → Type 0
-IsSound columns (Compare c o l) = (column_of columns c < length columns) × (misuses (kind_at columns (column_of columns c)) (literal_use l) ≡ false)
+IsSound columns (Compare c o l) = (column_of columns c < length columns)
+    × (misuses (kind_at columns (column_of columns c)) (literal_use l) ≡ false)
 IsSound columns (NullTest c negated) = column_of columns c < length columns
 IsSound columns (Both a b) = IsSound columns a × IsSound columns b
 IsSound columns (Either a b) = IsSound columns a × IsSound columns b
@@ -84,7 +87,8 @@ IsSound columns (Negated a) = IsSound columns a
 
 -- a condition over cells has on each row the truth of this one over the row's values
 abbrev pub HasTruthOf : List Column → List (List (List ℕ)) → Tree → Cond → Type 0
-HasTruthOf columns dicts t c = (row : List Cell) → FitsRow columns dicts row → truth_of c row ≡ truth_over columns t (row_values dicts row)
+HasTruthOf columns dicts t c = (row : List Cell) → FitsRow columns dicts row
+    → truth_of c row ≡ truth_over columns t (row_values dicts row)
 
 -- a condition over cells fits each row
 abbrev pub FitsRows : List Column → List (List (List ℕ)) → Cond → Type 0
@@ -95,7 +99,8 @@ abbrev pub IsSoundWhere : List Column → Option Tree → Type 0
 IsSoundWhere columns None = Unit {0}
 IsSoundWhere columns (Some t) = IsSound columns t
 
--- over each row of cells that fits, the plan's condition fits it and has the truth that the query's has over the row's values
+-- over each row of cells that fits, the plan's condition fits it and has the truth that the query's has over the row's
+-- values
 abbrev pub HasTruth : List Column → List (List (List ℕ)) → Option Tree → Option Cond → Type 0
 HasTruth columns dicts None None = Unit {0}
 HasTruth columns dicts (Some t) (Some c) = HasTruthOf columns dicts t c × FitsRows columns dicts c

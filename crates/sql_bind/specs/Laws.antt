@@ -18,20 +18,25 @@ numbered_values dicts r = (r.0, row_values dicts r.1)
 
 -- the result rows over cells, read as values, are the result rows over the values
 abbrev pub SameMeaning : List (List (List ℕ)) → List Item → List ℕ → List (List Cell) → Type 0
-SameMeaning dicts items keys rows = map (values_of dicts (columns_of keys items)) (meaning codes items keys rows) ≡ meaning texts items keys (map (row_values dicts) rows)
+SameMeaning dicts items keys rows = map (values_of dicts (columns_of keys items)) (meaning codes items keys rows)
+    ≡ meaning texts items keys (map (row_values dicts) rows)
 
 -- a sum overflows over cells where it does over the values
 abbrev pub SameOverflow : List (List (List ℕ)) → List Item → List ℕ → List (List Cell) → Type 0
-SameOverflow dicts items keys rows = overflow codes items keys rows ≡ overflow texts items keys (map (row_values dicts) rows)
+SameOverflow dicts items keys rows = overflow codes items keys rows
+    ≡ overflow texts items keys (map (row_values dicts) rows)
 
 -- the first rows over cells, read as values, are the first rows over the values
 abbrev pub SameFirstRows : List (List (List ℕ)) → RowQuery → List (Numbered Cell) → Type 0
-SameFirstRows dicts q rows = map (values_of dicts (rows_text.columns_of q.columns)) (rows_meaning codes q rows) ≡ rows_meaning texts q (map (numbered_values dicts) rows)
+SameFirstRows dicts q rows = map (values_of dicts (rows_text.columns_of q.columns)) (rows_meaning codes q rows)
+    ≡ rows_meaning texts q (map (numbered_values dicts) rows)
 
 -- each cell of the result rows can be read in the dictionary of its column
 abbrev pub AreReadable : List (List (List ℕ)) → List Item → List ℕ → List (List Cell) → Type 0
-AreReadable dicts items keys rows = All (answers.AreCellsOf (columns_of keys items) dicts) (meaning codes items keys rows)
+AreReadable dicts items keys rows = All (answers.AreCellsOf (columns_of keys items) dicts)
+    (meaning codes items keys rows)
 
 -- each cell of the first rows can be read in the dictionary of its column
 abbrev pub AreReadableRows : List (List (List ℕ)) → RowQuery → List (Numbered Cell) → Type 0
-AreReadableRows dicts q rows = All (answers.AreCellsOf (rows_text.columns_of q.columns) dicts) (rows_meaning codes q rows)
+AreReadableRows dicts q rows = All (answers.AreCellsOf (rows_text.columns_of q.columns) dicts)
+    (rows_meaning codes q rows)

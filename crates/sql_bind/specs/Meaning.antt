@@ -33,15 +33,18 @@ matches_query columns (Some t) row = is_true (truth_over columns t row)
 
 -- the result rows of a query without a limit, in key order
 abbrev pub query_meaning : List Column → QueryTree → List (List Value) → List (List Value)
-query_meaning columns q rows = meaning texts (items_of columns q) (columns_of columns q.keys) (filter (matches_query columns q.cond) rows)
+query_meaning columns q rows = meaning texts (items_of columns q) (columns_of columns q.keys)
+    (filter (matches_query columns q.cond) rows)
 
 -- the first sum that is no whole number of 64 bits, with its item
 abbrev pub query_overflow : List Column → QueryTree → List (List Value) → Option (ℕ × ℤ)
-query_overflow columns q rows = overflow texts (items_of columns q) (columns_of columns q.keys) (filter (matches_query columns q.cond) rows)
+query_overflow columns q rows = overflow texts (items_of columns q) (columns_of columns q.keys)
+    (filter (matches_query columns q.cond) rows)
 
 -- the rows that answer a query with this limit, in its order
 abbrev pub query_rows : List Column → QueryTree → ℕ → List (List Value) → List (List Value)
-query_rows columns q limit rows = rows_meaning texts (row_query columns q limit) (filter (λ (r : Numbered Value). matches_query columns q.cond r.1) (numbered 0 rows))
+query_rows columns q limit rows = rows_meaning texts (row_query columns q limit)
+    (filter (λ (r : Numbered Value). matches_query columns q.cond r.1) (numbered 0 rows))
 
 -- ---- a plan over rows of cells
 
@@ -67,12 +70,18 @@ result_values dicts p rows = map (values_of dicts (groups_text.columns_of p.keys
 abbrev pub row_result_values : List (List (List ℕ)) → RowQuery → List (List Cell) → List (List Value)
 row_result_values dicts r rows = map (values_of dicts (rows_text.columns_of r.columns)) rows
 
--- over rows that fit the columns the plan has the meaning, the overflow or the first rows that the query has over their values
+-- over rows that fit the columns the plan has the meaning, the overflow or the first rows that the query has over their
+-- values
 pub record MeansQuery (columns : List Column) (dicts : List (List (List ℕ))) (q : QueryTree) (p : Plan) : Type 0 where
-  pub meaning : (rows : List (List Cell)) → q.limit ≡ None → All (FitsRow columns dicts) rows → result_values dicts p (plan_meaning p rows) ≡ query_meaning columns q (map (row_values dicts) rows)
-  pub overflow : (rows : List (List Cell)) → q.limit ≡ None → All (FitsRow columns dicts) rows → plan_overflow p rows ≡ query_overflow columns q (map (row_values dicts) rows)
-  pub first_rows : (rows : List (List Cell)) (limit : ℕ) (r : RowQuery) → q.limit ≡ Some limit → p.rows ≡ Some r → All (FitsRow columns dicts) rows
+  pub meaning : (rows : List (List Cell)) → q.limit ≡ None → All (FitsRow columns dicts) rows
+      → result_values dicts p (plan_meaning p rows) ≡ query_meaning columns q (map (row_values dicts) rows)
+  pub overflow : (rows : List (List Cell)) → q.limit ≡ None → All (FitsRow columns dicts) rows
+      → plan_overflow p rows ≡ query_overflow columns q (map (row_values dicts) rows)
+  pub first_rows : (rows : List (List Cell)) (limit : ℕ) (r : RowQuery) → q.limit ≡ Some limit → p.rows ≡ Some r
+      → All (FitsRow columns dicts) rows
       → row_result_values dicts r (plan_rows p r rows) ≡ query_rows columns q limit (map (row_values dicts) rows)
   -- the cells of these answers can be read in the dictionaries of their columns
-  pub readable : (rows : List (List Cell)) → All (FitsRow columns dicts) rows → All (AreCellsOf (groups_text.columns_of p.keys.items p.items.items) dicts) (plan_meaning p rows)
-  pub readable_rows : (rows : List (List Cell)) (r : RowQuery) → p.rows ≡ Some r → All (FitsRow columns dicts) rows → All (AreCellsOf (rows_text.columns_of r.columns) dicts) (plan_rows p r rows)
+  pub readable : (rows : List (List Cell)) → All (FitsRow columns dicts) rows
+      → All (AreCellsOf (groups_text.columns_of p.keys.items p.items.items) dicts) (plan_meaning p rows)
+  pub readable_rows : (rows : List (List Cell)) (r : RowQuery) → p.rows ≡ Some r → All (FitsRow columns dicts) rows
+      → All (AreCellsOf (rows_text.columns_of r.columns) dicts) (plan_rows p r rows)

@@ -1,5 +1,6 @@
 -- A query with its names as columns.
-use Rattle.std.specs.Prelude.{◌≡◌, ℕ, suc, Bool, if◌then◌else◌, ◌==◌, List, [], ◌∷◌, map, Option, Some, None, option_map}
+use Rattle.std.specs.Prelude.{◌≡◌, ℕ, suc, Bool, if◌then◌else◌, ◌==◌, List}
+use Rattle.std.specs.Prelude.{[], ◌∷◌, map, Option, Some, None, option_map}
 use Rattle.std.specs.List.{flat_map, list_any}
 use Rattle.table_sets.specs.Sets.{numbers_below}
 use Rattle.table_sets.specs.declared.limits.TheConstants.{MOST_COLUMNS}
@@ -48,7 +49,11 @@ order_of columns o = record { column = column_of columns o.column; descending = 
 
 -- what a query with a limit asks for
 abbrev pub row_query : List Column → QueryTree → ℕ → RowQuery
-row_query columns q limit = record { columns = flat_map (plain_column columns) q.items; order = map (order_of columns) q.order; limit = limit }
+row_query columns q limit = record {
+  columns = flat_map (plain_column columns) q.items;
+  order = map (order_of columns) q.order;
+  limit = limit;
+}
 
 -- some place names the column
 abbrev pub is_named : List Column → List Place → ℕ → Bool

@@ -1,5 +1,6 @@
 -- Why a query isn't bound: the first cause that holds, at the first place where it holds.
-use Rattle.std.specs.Prelude.{ℕ, Bool, true, false, if◌then◌else◌, List, map, Option, Some, None, is_none, option_map, codes}
+use Rattle.std.specs.Prelude.{ℕ, Bool, true, false, if◌then◌else◌, List, map}
+use Rattle.std.specs.Prelude.{Option, Some, None, is_none, option_map, codes}
 use Rattle.std.specs.List.{find}
 use Rattle.std.specs.Str.{bytes_eq}
 use Rattle.table_sets.specs.Sets.{has}

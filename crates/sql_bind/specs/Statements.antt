@@ -14,13 +14,14 @@ use Rattle.sql_bind.specs.Bounds.{HasTruth, IsBound}
 use Rattle.sql_bind.specs.Reads.{ReadsItsColumns}
 use Rattle.sql_bind.specs.Meaning.{MeansQuery}
 
--- THE CAUSE for which a text is refused over these columns, if there is one: why it is read as no query, or else why its
--- query isn't bound. Out of memory is none
+-- THE CAUSE for which a text is refused over these columns, if there is one: why it is read as no query, or else why
+-- its query isn't bound. Out of memory is none
 abbrev pub TextCause : List ℕ → List Column → Option StatementRefusal → Type 0
 TextCause bytes columns None = (q : QueryTree) × HasQuery bytes q × (refusal_of columns q ≡ None)
 TextCause bytes columns (Some (statement.Text text.Memory)) = ⊥
 TextCause bytes columns (Some (statement.Text e)) = IsRefused bytes e
-TextCause bytes columns (Some (statement.Query e)) = (q : QueryTree) × HasQuery bytes q × (refusal_of columns q ≡ Some e)
+TextCause bytes columns (Some (statement.Query e)) = (q : QueryTree) × HasQuery bytes q
+    × (refusal_of columns q ≡ Some e)
 
 -- what is refused has this cause, unless memory ran out
 abbrev pub IsRefusedFor : List ℕ → List Column → StatementRefusal → Type 0

@@ -21,7 +21,8 @@ use Rattle.sql_bind.specs.Names.{column_of}
 abbrev pub number_order : ℤ → ℕ → ℤ → ℕ → Ordering
 number_order n s m p = int_cmp (n *ℤ pos (10 ^ p)) (m *ℤ pos (10 ^ s))
 
--- how a value of a column of this kind stands to a literal; a value of another kind than the literal is compared with it nowhere
+-- how a value of a column of this kind stands to a literal; a value of another kind than the literal is compared with
+-- it nowhere
 abbrev pub value_order : Kind → Literal → Value → Ordering
 value_order k (literal.Int m) (number n) = number_order n (places_of k) m 0
 value_order k (literal.Dec m p) (number n) = number_order n (places_of k) m p
@@ -46,7 +47,8 @@ value_at row x = slice_index_or row x none
 
 -- THE TRUTH of a query's condition on a row of values
 abbrev pub truth_over : List Column → Tree → List Value → Truth
-truth_over columns (Compare c o l) row = compared o (kind_at columns (column_of columns c)) l (value_at row (column_of columns c))
+truth_over columns (Compare c o l) row = compared o (kind_at columns (column_of columns c)) l
+    (value_at row (column_of columns c))
 truth_over columns (NullTest c negated) row = tested negated (value_at row (column_of columns c))
 truth_over columns (Both a b) row = least (truth_over columns a row) (truth_over columns b row)
 truth_over columns (Either a b) row = greatest (truth_over columns a row) (truth_over columns b row)

@@ -51,7 +51,8 @@ fn doubled(whole: i128, rest: i128) -> i128
     whole + whole + 1
 }
 
-// Twice the number `number * 10^up / 10^down` where it is whole, and else the odd number between its neighbours' doubles.
+// Twice the number `number * 10^up / 10^down` where it is whole, and else the odd number between its neighbours'
+// doubles.
 fn half_steps(number: i64, up: u32, down: u32) -> i128
     requires { up ≤ MOST_PLACES }
     ensures { IsHalfSteps (number *ℤ pos (10 ^ up)) (10 ^ down) result }

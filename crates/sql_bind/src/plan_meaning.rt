@@ -7,8 +7,8 @@ ghost use Rattle.query_meaning.specs.Rows.{Numbered, RowQuery};
 ghost use Rattle.sql_bind.specs.Laws.{AreReadable, AreReadableRows, SameFirstRows, SameMeaning, SameOverflow};
 ghost use Rattle.sql_bind.specs.Texts.{AreCellsOf};
 
-/// Over rising dictionaries, a query has over rows of cells the meaning, the overflow and the first rows that it has over
-/// the values of the rows: laws, for proofs about queries. It does nothing.
+/// Over rising dictionaries, a query has over rows of cells the meaning, the overflow and the first rows that it has
+/// over the values of the rows: laws, for proofs about queries. It does nothing.
 pub fn one_meaning()
     ensures meaning { (dicts : List (List (List ℕ))) (items : List Item) (keys : List ℕ) (rows : List (List Cell)) →
         All Rises dicts → All (AreCellsOf dicts) rows → SameMeaning dicts items keys rows }

@@ -1,5 +1,6 @@
 -- The grammar of queries: each rule as data, the tokens that it spells, and what it means.
-use Rattle.std.specs.Prelude.{◌≡◌, ◌<◌, ◌≤◌, ℕ, ◌+◌, ◌^◌, Bool, true, false, List, [], ◌∷◌, ◌++◌, map, length, Option, Some, None, pos, neg_ℤ, if◌then◌else◌, nat_lt, ◌||◌}
+use Rattle.std.specs.Prelude.{◌≡◌, ◌<◌, ◌≤◌, ℕ, ◌+◌, ◌^◌, Bool, true, false, List, [], ◌∷◌, ◌++◌, map}
+use Rattle.std.specs.Prelude.{length, Option, Some, None, pos, neg_ℤ, if◌then◌else◌, nat_lt, ◌||◌}
 use Rattle.sql_tokens.specs.declared.keyword.Keyword.{Keyword}
 use Rattle.sql_tokens.specs.declared.keyword.Keyword.TheVariants as key
 use Rattle.table_core.specs.declared.op.Op.{Op}
@@ -163,7 +164,8 @@ abbrev pub query_tokens : QueryText → List Token
 query_tokens (groups l t w k) =
     Key key.Select ∷ (list_tokens item_tokens l.0 l.1 ++ (Key key.From ∷ Column t ∷ (where_tokens w ++ group_tokens k)))
 query_tokens (rows l t w o n) =
-    Key key.Select ∷ (list_tokens column_tokens l.0 l.1 ++ (Key key.From ∷ Column t ∷ (where_tokens w ++ (order_by_tokens o ++ (Key key.Limit ∷ Number n ∷ [])))))
+    Key key.Select ∷ (list_tokens column_tokens l.0 l.1
+    ++ (Key key.From ∷ Column t ∷ (where_tokens w ++ (order_by_tokens o ++ (Key key.Limit ∷ Number n ∷ [])))))
 
 -- ---- what each rule means
 
@@ -214,7 +216,14 @@ abbrev pub query_tree : QueryText → QueryTree
 query_tree (groups l t w k) =
     record { items = l.0 ∷ l.1; table = t; cond = cond_of w; keys = all_of (λ c. c) k; order = []; limit = None }
 query_tree (rows l t w o n) =
-    record { items = map Plain (l.0 ∷ l.1); table = t; cond = cond_of w; keys = []; order = all_of order_of o; limit = Some n }
+    record {
+      items = map Plain (l.0 ∷ l.1);
+      table = t;
+      cond = cond_of w;
+      keys = [];
+      order = all_of order_of o;
+      limit = Some n;
+    }
 
 -- The tokens are this query.
 abbrev pub Reads : List Token → QueryTree → Type 0
@@ -240,4 +249,5 @@ is_past most (Some n) = nat_lt most n
 
 -- more than 32 items, key columns or orders, or a limit past 4096
 abbrev pub has_too_many : QueryTree → Bool
-has_too_many q = nat_lt 32 (length q.items) || (nat_lt 32 (length q.keys) || (nat_lt 32 (length q.order) || is_past 4096 q.limit))
+has_too_many q = nat_lt 32 (length q.items)
+    || (nat_lt 32 (length q.keys) || (nat_lt 32 (length q.order) || is_past 4096 q.limit))

@@ -1,6 +1,7 @@
--- Reading from left to right: what each function of the reader gives. It reads just what the grammar has, as the clauses
--- of `read_query` say.
-use Rattle.std.specs.Prelude.{◌≡◌, ◌<◌, ℕ, zero, suc, ◌^◌, Bool, true, false, if◌then◌else◌, ◌&&◌, nat_le, nat_lt, List, [], ◌∷◌, length, Option, Some, None, Result, Ok, Err, ℤ, pos, neg_ℤ, option_and_then}
+-- Reading from left to right: what each function of the reader gives. It reads just what the grammar has, as the
+-- clauses of `read_query` say.
+use Rattle.std.specs.Prelude.{◌≡◌, ◌<◌, ℕ, zero, suc, ◌^◌, Bool, true, false, if◌then◌else◌, ◌&&◌, nat_le, nat_lt, List}
+use Rattle.std.specs.Prelude.{[], ◌∷◌, length, Option, Some, None, Result, Ok, Err, ℤ, pos, neg_ℤ, option_and_then}
 use Rattle.std.specs.List.{list_all}
 use Rattle.std.specs.Borrow.{Bor}
 use denote.Enum.Bare.{sameb}
@@ -23,7 +24,8 @@ use Rattle.sql_text.specs.declared.query.QOrder.{QOrder}
 use Rattle.sql_text.specs.declared.query.Query.{Query}
 use Rattle.sql_text.specs.declared.reading.Parsed.{Parsed}
 use Rattle.sql_text.specs.declared.tail.Tail.{Tail}
-use Rattle.sql_text.specs.Grammar.{Token, Key, Symbol, Compares, Column, Number, Decimal, Text, Tree, Compare, NullTest, Both, Either, Negated, QueryTree}
+use Rattle.sql_text.specs.Grammar.{Token, Key, Symbol, Compares, Column, Number, Decimal, Text}
+use Rattle.sql_text.specs.Grammar.{Tree, Compare, NullTest, Both, Either, Negated, QueryTree}
 use Rattle.sql_text.specs.Words.{name_of, tokens_of, value_of}
 
 -- ---- what the code holds, wherever it lies in memory
@@ -41,7 +43,14 @@ cond_seen (Some c) = Some (tree_of c)
 
 abbrev pub query_of : Query → QueryTree
 query_of q =
-    record { items = q.items.items; table = q.table; cond = cond_seen q.cond; keys = q.keys.items; order = q.order.items; limit = q.limit }
+    record {
+      items = q.items.items;
+      table = q.table;
+      cond = cond_seen q.cond;
+      keys = q.keys.items;
+      order = q.order.items;
+      limit = q.limit;
+    }
 
 -- ---- what a function answers
 
@@ -108,7 +117,8 @@ signed false n = if nat_lt n (2 ^ 63) then Some (pos n) else None
 signed true n = if nat_le n (2 ^ 63) then Some (neg_ℤ (pos n)) else None
 
 abbrev pub decimal_value : Bool → ℕ → ℕ → Option Literal
-decimal_value is_negative n places = if nat_le places 9 then (signed is_negative n >>= λ v. Some (literal.Dec v places)) else None
+decimal_value is_negative n places = if nat_le places 9 then (signed is_negative n >>= λ v. Some (literal.Dec v places))
+    else None
 
 abbrev pub number_at : Bool → List Token → Read Literal
 number_at is_negative (Number n ∷ ts) = signed is_negative n >>= λ v. Some (literal.Int v, ts)
@@ -144,7 +154,8 @@ unfoldable mutual
 
   pub or_tail_at : ℕ → Tree → List Token → Read Tree
   or_tail_at zero left ts = None
-  or_tail_at (suc n) left ts = choose (after_key key.Or ts) (Some (left, ts)) (λ us. and_at n us >>= λ a. or_tail_at n (Either left a.0) a.1)
+  or_tail_at (suc n) left ts = choose (after_key key.Or ts) (Some (left, ts))
+      (λ us. and_at n us >>= λ a. or_tail_at n (Either left a.0) a.1)
 
   pub and_at : ℕ → List Token → Read Tree
   and_at zero ts = None
@@ -152,7 +163,8 @@ unfoldable mutual
 
   pub and_tail_at : ℕ → Tree → List Token → Read Tree
   and_tail_at zero left ts = None
-  and_tail_at (suc n) left ts = choose (after_key key.And ts) (Some (left, ts)) (λ us. not_at n us >>= λ a. and_tail_at n (Both left a.0) a.1)
+  and_tail_at (suc n) left ts = choose (after_key key.And ts) (Some (left, ts))
+      (λ us. not_at n us >>= λ a. and_tail_at n (Both left a.0) a.1)
 
   pub not_at : ℕ → List Token → Read Tree
   not_at zero ts = None
@@ -173,7 +185,8 @@ where_at ts = choose (after_key key.Where ts) (Some (None, ts)) (λ us. or_at 10
 abbrev pub list_at : {A : Type 0} → (List Token → Read A) → ℕ → List Token → Read (List A)
 list_at thing zero ts = None
 list_at thing (suc n) ts =
-    thing ts >>= λ a. choose (after_sign Comma a.1) (Some (a.0 ∷ [], a.1)) (λ us. list_at thing n us >>= λ r. Some (a.0 ∷ r.0, r.1))
+    thing ts >>= λ a. choose (after_sign Comma a.1) (Some (a.0 ∷ [], a.1))
+    (λ us. list_at thing n us >>= λ r. Some (a.0 ∷ r.0, r.1))
 
 abbrev pub all_at : {A : Type 0} → (List Token → Read A) → List Token → Read (List A)
 all_at thing ts = list_at thing (length ts) ts
@@ -199,10 +212,12 @@ item_at (Key k ∷ ts) = keyed_item k ts
 item_at ts = column_at ts >>= λ c. Some (item.Plain c.0, c.1)
 
 abbrev pub direction_at : List Token → Bool × List Token
-direction_at ts = choose (after_key key.Desc ts) (choose (after_key key.Asc ts) (false, ts) (λ us. (false, us))) (λ us. (true, us))
+direction_at ts = choose (after_key key.Desc ts) (choose (after_key key.Asc ts) (false, ts) (λ us. (false, us)))
+    (λ us. (true, us))
 
 abbrev pub order_at : List Token → Read QOrder
-order_at ts = column_at ts >>= λ c. Some (record { column = c.0; descending = (direction_at c.1).0 }, (direction_at c.1).1)
+order_at ts = column_at ts >>= λ c. Some
+    (record { column = c.0; descending = (direction_at c.1).0 }, (direction_at c.1).1)
 
 -- ---- what stands behind the condition
 
@@ -234,7 +249,8 @@ limited_at order (Number n ∷ ts) = limited order n ts
 limited_at order _ = None
 
 abbrev pub ordered_at : List Token → Option TailTree
-ordered_at ts = after_key key.By ts >>= λ us. all_at order_at us >>= λ o. after_key key.Limit o.1 >>= λ vs. limited_at o.0 vs
+ordered_at ts = after_key key.By ts >>= λ us. all_at order_at us >>= λ o. after_key key.Limit o.1 >>= λ vs. limited_at
+    o.0 vs
 
 abbrev pub keyed_tail : Keyword → List Token → Option TailTree
 keyed_tail key.Group ts = grouped_at ts
@@ -257,7 +273,14 @@ abbrev pub all_plain : List QItem → Bool
 all_plain items = list_all is_plain items
 
 abbrev pub joined : List QItem → List ℕ → Option Tree → TailTree → QueryTree
-joined items table c tail = record { items = items; table = table; cond = c; keys = tail.keys; order = tail.order; limit = tail.limit }
+joined items table c tail = record {
+  items = items;
+  table = table;
+  cond = c;
+  keys = tail.keys;
+  order = tail.order;
+  limit = tail.limit;
+}
 
 -- A query with a limit has plain items alone.
 abbrev pub fits : List QItem → Option ℕ → Bool
@@ -266,7 +289,8 @@ fits items (Some n) = all_plain items
 
 abbrev pub head_at : List Token → Read (List QItem × List ℕ)
 head_at ts =
-    after_key key.Select ts >>= λ us. all_at item_at us >>= λ i. after_key key.From i.1 >>= λ vs. column_at vs >>= λ t. Some ((i.0, t.0), t.1)
+    after_key key.Select ts >>= λ us. all_at item_at us >>= λ i. after_key key.From i.1 >>= λ vs. column_at vs >>= λ t.
+    Some ((i.0, t.0), t.1)
 
 abbrev pub checked : List QItem → List ℕ → Option Tree → TailTree → Option QueryTree
 checked items table c tail = if fits items tail.limit then Some (joined items table c tail) else None

@@ -1,5 +1,6 @@
 -- What a token of a text means, by its kind and its spelling.
-use Rattle.std.specs.Prelude.{◌≡◌, ◌≤◌, ℕ, ◌+◌, ◌*◌, ◌-◌, Bool, true, false, not, ◌==◌, ◌||◌, if◌then◌else◌, List, ◌∷◌, [], length, map, take, drop, Option, Some, None, Result, Ok, Err}
+use Rattle.std.specs.Prelude.{◌≡◌, ◌≤◌, ℕ, ◌+◌, ◌*◌, ◌-◌, Bool, true, false, not, ◌==◌, ◌||◌, if◌then◌else◌}
+use Rattle.std.specs.Prelude.{List, ◌∷◌, [], length, map, take, drop, Option, Some, None, Result, Ok, Err}
 use Rattle.sql_tokens.specs.Keywords.{keyword_of}
 use Rattle.sql_tokens.specs.declared.keyword.Keyword.{Keyword}
 use Rattle.sql_tokens.specs.declared.refusal.TextRefusal.{TextRefusal}

@@ -1,5 +1,6 @@
 -- What the pieces of a text are, and which piece is the longest at a place.
-use Rattle.std.specs.Prelude.{◌≡◌, ◌<◌, ◌≤◌, ℕ, ◌+◌, Bool, true, false, not, ◌&&◌, ◌||◌, if◌then◌else◌, ◌==◌, nat_lt, List, [], ◌∷◌, length, take, drop, Option, Some, None}
+use Rattle.std.specs.Prelude.{◌≡◌, ◌<◌, ◌≤◌, ℕ, ◌+◌, Bool, true, false, not, ◌&&◌, ◌||◌, if◌then◌else◌}
+use Rattle.std.specs.Prelude.{◌==◌, nat_lt, List, [], ◌∷◌, length, take, drop, Option, Some, None}
 use Rattle.std.specs.List.{list_all, prefix_len}
 use Rattle.sql_tokens.specs.Classes.{is_in}
 use Rattle.sql_tokens.specs.Keywords.{keyword_of}
@@ -107,12 +108,14 @@ piece_of (b ∷ bs) = piece_by b (b ∷ bs)
 
 abbrev pub Longest : (List ℕ → Option Piece) → List ℕ → Option (Piece × ℕ) → Type 0
 Longest f bs None = (m : ℕ) → 0 < m → m ≤ length bs → f (take m bs) ≡ None
-Longest f bs (Some p) = (0 < p.1) × (p.1 ≤ length bs) × (f (take p.1 bs) ≡ Some p.0) × ((m : ℕ) → p.1 < m → m ≤ length bs → f (take m bs) ≡ None)
+Longest f bs (Some p) = (0 < p.1) × (p.1 ≤ length bs) × (f (take p.1 bs) ≡ Some p.0)
+    × ((m : ℕ) → p.1 < m → m ≤ length bs → f (take m bs) ≡ None)
 
 -- the longest front of the bytes that closes the quote
 abbrev pub ClosesLast : ℕ → Bool → List ℕ → Option ℕ → Type 0
 ClosesLast quote is_open bs None = (m : ℕ) → m ≤ length bs → closes quote is_open (take m bs) ≡ false
-ClosesLast quote is_open bs (Some n) = (n ≤ length bs) × (closes quote is_open (take n bs) ≡ true) × ((m : ℕ) → n < m → m ≤ length bs → closes quote is_open (take m bs) ≡ false)
+ClosesLast quote is_open bs (Some n) = (n ≤ length bs) × (closes quote is_open (take n bs) ≡ true)
+    × ((m : ℕ) → n < m → m ≤ length bs → closes quote is_open (take m bs) ≡ false)
 
 -- how many digits stand behind a point
 abbrev pub fraction_len : List ℕ → ℕ

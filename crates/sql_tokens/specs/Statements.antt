@@ -1,5 +1,6 @@
 -- Where the statements of a batch stand: they are the parts between the ending semicolons that aren't empty.
-use Rattle.std.specs.Prelude.{◌≡◌, ℕ, ◌+◌, Bool, true, false, ◌&&◌, if◌then◌else◌, ◌==◌, List, [], ◌∷◌, ◌++◌, length, drop}
+use Rattle.std.specs.Prelude.{◌≡◌, ℕ, ◌+◌, Bool, true, false, ◌&&◌, if◌then◌else◌}
+use Rattle.std.specs.Prelude.{◌==◌, List, [], ◌∷◌, ◌++◌, length, drop}
 use Rattle.sql_tokens.specs.Classes.{is_in}
 use Rattle.sql_tokens.specs.declared.class.Class.TheVariants as class
 use Rattle.sql_tokens.specs.declared.span.Span.{Span}
@@ -17,14 +18,16 @@ begins_dash (b ∷ bs) = b == 45
 -- The mode behind the byte b, before which it is `mode` and behind which stand bs: ' begins and ends a text, " a quoted
 -- name, -- begins a comment and LF ends it.
 abbrev pub mode_after : Mode → ℕ → List ℕ → Mode
-mode_after Plain b bs = if b == 39 then InText else (if b == 34 then InName else (if b == 45 && begins_dash bs then InComment else Plain))
+mode_after Plain b bs = if b == 39 then InText
+    else (if b == 34 then InName else (if b == 45 && begins_dash bs then InComment else Plain))
 mode_after InText b bs = if b == 39 then Plain else InText
 mode_after InName b bs = if b == 34 then Plain else InName
 mode_after InComment b bs = if b == 10 then Plain else InComment
 
 -- A semicolon in plain mode ends a statement. White space in plain mode and comments leave it empty.
 abbrev pub mark_of : Mode → ℕ → List ℕ → Mark
-mark_of Plain b bs = if b == 59 then End else (if is_in class.White b then Gap else (if b == 45 && begins_dash bs then Gap else Inside))
+mark_of Plain b bs = if b == 59 then End
+    else (if is_in class.White b then Gap else (if b == 45 && begins_dash bs then Gap else Inside))
 mark_of InText b bs = Inside
 mark_of InName b bs = Inside
 mark_of InComment b bs = Gap

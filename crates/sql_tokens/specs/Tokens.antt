@@ -16,7 +16,8 @@ tokens_of (Lexeme k) from to = record { kind = k; span = record { from = from; t
 -- The text from `at` on has these tokens: it is pieces one behind the other, each the longest at its place.
 pub data HasTokens : ℕ → List ℕ → List Token → Type 0 where
   at_end : {at : ℕ} → HasTokens at [] []
-  piece : {at : ℕ} {bs : List ℕ} {ts all : List Token} (n : ℕ) (p : Piece) → Longest piece_of bs (Some (p, n)) → HasTokens (at + n) (drop n bs) ts → all ≡ tokens_of p at (at + n) ++ ts → HasTokens at bs all
+  piece : {at : ℕ} {bs : List ℕ} {ts all : List Token} (n : ℕ) (p : Piece) → Longest piece_of bs (Some (p, n))
+      → HasTokens (at + n) (drop n bs) ts → all ≡ tokens_of p at (at + n) ++ ts → HasTokens at bs all
 
 -- From `at` on each token has a byte, ends before the next one begins, and ends at `end` or before.
 abbrev pub AreInOrder : ℕ → ℕ → List Token → Type 0

@@ -1,6 +1,7 @@
 -- The text that a query is written as: keywords in capital letters, one space between tokens, each name in double
 -- quotes, and parentheses only where the grammar needs them.
-use Rattle.std.specs.Prelude.{ℕ, ◌≤◌, Bool, true, false, List, [], ◌∷◌, ◌++◌, if◌then◌else◌, ◌==◌, Option, Some, None, codes, flat_map, pos}
+use Rattle.std.specs.Prelude.{ℕ, ◌≤◌, Bool, true, false, List, [], ◌∷◌, ◌++◌, if◌then◌else◌}
+use Rattle.std.specs.Prelude.{◌==◌, Option, Some, None, codes, flat_map, pos}
 use Rattle.table_core.specs.Value.{number_text, quoted}
 use Rattle.table_core.specs.declared.op.Op.{Op}
 use Rattle.table_core.specs.declared.op.Op.TheVariants.{Eq, Ne, Lt, Le, Gt, Ge}
@@ -94,7 +95,8 @@ limit_text (Some n) = codes " LIMIT " ++ number_text 0 (pos n)
 abbrev pub query_text : QueryTree → List ℕ
 query_text q =
     list_text item_text (codes "SELECT ") q.items ++ (codes " FROM " ++ (name_text q.table ++ (where_text q.cond
-    ++ (list_text name_text (codes " GROUP BY ") q.keys ++ (list_text order_text (codes " ORDER BY ") q.order ++ limit_text q.limit)))))
+    ++ (list_text name_text (codes " GROUP BY ") q.keys
+    ++ (list_text order_text (codes " ORDER BY ") q.order ++ limit_text q.limit)))))
 
 -- ---- what can be written
 

@@ -1,5 +1,6 @@
 -- Workers with their frames, step by step: what each does to frames between the entries of the story.
-use Rattle.std.specs.Prelude.{◌≡◌, ◌==◌, ◌<◌, ◌&&◌, ◌||◌, ◌⊎◌, ◌++◌, not, true, false, ℕ, Bool, List, [], ◌∷◌, Some, if◌then◌else◌}
+use Rattle.std.specs.Prelude.{◌≡◌, ◌==◌, ◌<◌, ◌&&◌, ◌||◌, ◌⊎◌, ◌++◌, not, true}
+use Rattle.std.specs.Prelude.{false, ℕ, Bool, List, [], ◌∷◌, Some, if◌then◌else◌}
 use Rattle.std.specs.List.{list_any}
 use Rattle.frame_core.specs.declared.phase.FramePhase.{FramePhase}
 use Rattle.frame_core.specs.declared.phase.FramePhase.TheVariants.{Free, Marked, Ready}

@@ -34,11 +34,13 @@ LoadsArePaid s h = loads s h ≤ paid_by s h
 
 -- a load underway is paid ahead where its trigger isn't active any more
 abbrev pub LostTriggersPayAhead : Setting → History → Type 0
-LostTriggersPayAhead s h = (l : Load) → underway s h ≡ Some l → is_active h l.query ≡ false → loads s h + 1 ≤ paid_by s h
+LostTriggersPayAhead s h = (l : Load) → underway s h ≡ Some l → is_active h l.query ≡ false
+    → loads s h + 1 ≤ paid_by s h
 
 -- as long as a load is underway, its trigger is starved where it is active
 abbrev pub TriggersStayStarved : Setting → History → Type 0
-TriggersStayStarved s h = (l : Load) → underway s h ≡ Some l → is_active h l.query ≡ true → is_starved s h l.query ≡ true
+TriggersStayStarved s h = (l : Load) → underway s h ≡ Some l → is_active h l.query ≡ true
+    → is_starved s h l.query ≡ true
 
 -- a whole history without stopped queries loads at most what separate scans would
 abbrev pub WholeLoadLittle : Setting → History → Type 0
@@ -60,7 +62,8 @@ HasAllRoom s k = capacity_for s ≤ length k.entries + k.spare
 -- wherever an entry may come, a story that was given all room has room for it
 abbrev pub NextHasRoom : Type 0
 NextHasRoom =
-    (s : Setting) (k : Kept) (e : Entry) → IsSetting s → HasRoom s → Legal s (past k.entries) → MayCome s (past k.entries) e → HasAllRoom s k → 0 < k.spare
+    (s : Setting) (k : Kept) (e : Entry) → IsSetting s → HasRoom s → Legal s (past k.entries)
+    → MayCome s (past k.entries) e → HasAllRoom s k → 0 < k.spare
 
 -- the numbers of a setting are within what capacity takes
 pub record FitsCapacity (s : Setting) : Type 0 where

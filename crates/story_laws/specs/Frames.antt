@@ -27,7 +27,8 @@ FramesHavePieces s h = (f p : ℕ) → f < s.frames → piece_in s h f ≡ Some 
 -- what the load underway misses and hasn't filled is in no frame
 abbrev pub MissingAreInNoFrame : Setting → History → Type 0
 MissingAreInNoFrame s h =
-    (l : Load) → underway s h ≡ Some l → (p : ℕ) → has l.missing p ≡ true → has l.filled p ≡ false → is_framed s h p ≡ false
+    (l : Load) → underway s h ≡ Some l → (p : ℕ) → has l.missing p ≡ true → has l.filled p ≡ false
+    → is_framed s h p ≡ false
 
 -- what a load may miss: pieces of its chunk that its trigger reads, none twice, and at least one that isn't filled
 pub record IsMissing (s : Setting) (l : Load) : Type 0 where
@@ -38,7 +39,8 @@ pub record IsMissing (s : Setting) (l : Load) : Type 0 where
   pub read : (p : ℕ) → has l.missing p ≡ true → has (pieces_read s l.query l.chunk) p ≡ true
   pub of_chunk : (p : ℕ) → has l.missing p ≡ true → chunk_of s p ≡ l.chunk
 
--- what a load has begun: missing pieces, each in one frame and no two in the same; the frame is empty until the piece is filled
+-- what a load has begun: missing pieces, each in one frame and no two in the same; the frame is empty until the piece
+-- is filled
 pub record IsBegun (s : Setting) (h : History) (l : Load) : Type 0 where
   pub missing : (p : ℕ) → begins l p ≡ true → has l.missing p ≡ true
   pub frame : (f p : ℕ) → begins_in l f p ≡ true → f < s.frames
@@ -46,8 +48,8 @@ pub record IsBegun (s : Setting) (h : History) (l : Load) : Type 0 where
   pub one_frame : (f g p : ℕ) → begins_in l f p ≡ true → begins_in l g p ≡ true → f ≡ g
   pub empty : (f p : ℕ) → begins_in l f p ≡ true → has l.filled p ≡ false → piece_in s h f ≡ None
 
--- the load underway is a worker's, of a chunk of the table; what it filled is in frames, and so is what its trigger reads and it
--- didn't miss; what it misses and hasn't filled is in no frame
+-- the load underway is a worker's, of a chunk of the table; what it filled is in frames, and so is what its trigger
+-- reads and it didn't miss; what it misses and hasn't filled is in no frame
 pub record IsProper (s : Setting) (h : History) (l : Load) : Type 0 where
   pub worker : l.worker < s.workers
   pub chunk : l.chunk < s.chunks
@@ -91,7 +93,8 @@ abbrev pub releases_by : ℕ → Entry → Bool
 releases_by w (Release v q c) = v == w
 releases_by w _ = false
 
--- a piece of the chunk that stood in a frame as the chunk was delivered stands there as long as the worker hasn't released
+-- a piece of the chunk that stood in a frame as the chunk was delivered stands there as long as the worker hasn't
+-- released
 abbrev pub HeldPiecesStay : Setting → History → Type 0
 HeldPiecesStay s h =
     (w q c : ℕ) (later before : History) → h ≡ later ++ Deliver w q c ∷ before → list_any (releases_by w) later ≡ false

@@ -16,7 +16,8 @@ pub record HasFarVictim (s : Setting) (h : History) : Type 0 where
   pub victim : is_victim s h chunk ≡ true
   pub far : close s h chunk ≡ 0
 
--- where fewer frames are free than pieces are missing and no fill has begun, some chunk may be evicted that is close to no query
+-- where fewer frames are free than pieces are missing and no fill has begun, some chunk may be evicted that is close to
+-- no query
 abbrev pub AlwaysAFarVictim : Setting → History → Type 0
 AlwaysAFarVictim s h =
     (l : Load) → underway s h ≡ Some l → l.begun ≡ [] → free_frames s h < length l.missing → HasFarVictim s h

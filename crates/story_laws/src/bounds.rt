@@ -1,7 +1,8 @@
 ghost use Rattle.scan_story.specs.declared.setting.Setting.{Setting};
 ghost use Rattle.scan_story.specs.Setting.{IsSetting};
 ghost use Rattle.story_laws.specs.Every.{OfEveryLegal};
-ghost use Rattle.story_laws.specs.Bounds.{LoadsArePaid, LostTriggersPayAhead, TriggersStayStarved, WholeLoadLittle, IsShort, NextHasRoom, FitsCapacity};
+ghost use Rattle.story_laws.specs.Bounds.{LoadsArePaid, LostTriggersPayAhead, TriggersStayStarved};
+ghost use Rattle.story_laws.specs.Bounds.{WholeLoadLittle, IsShort, NextHasRoom, FitsCapacity};
 
 /// Loads are at most the deliveries, and twice the stopped queries, and for each active query the chunks that are
 /// available to it, two at most.

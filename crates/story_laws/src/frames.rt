@@ -1,6 +1,8 @@
 ghost use Rattle.scan_story.specs.Whole.{Undisturbed};
 ghost use Rattle.story_laws.specs.Every.{OfEveryLegal};
-ghost use Rattle.story_laws.specs.Frames.{NoPieceTwice, FramesHavePieces, LoadsAreProper, MissingAreInNoFrame, TargetsAreNotWhole, EvictionFrees, FillTakesOne, HoldersAreWorkers, HeldAreFramed, HeldPiecesStay};
+ghost use Rattle.story_laws.specs.Frames.{NoPieceTwice, FramesHavePieces, LoadsAreProper};
+ghost use Rattle.story_laws.specs.Frames.{MissingAreInNoFrame, TargetsAreNotWhole, EvictionFrees};
+ghost use Rattle.story_laws.specs.Frames.{FillTakesOne, HoldersAreWorkers, HeldAreFramed, HeldPiecesStay};
 
 /// No piece stands in two frames.
 pub fn no_piece_stands_twice()
@@ -54,8 +56,8 @@ pub fn held_pieces_stay()
     ensures { OfEveryLegal HeldPiecesStay }
 {}
 
-/// Between a Deliver of a chunk to a worker and the worker's next Release the chunk isn't evicted, and no frame that had
-/// a piece of it at the Deliver is filled.
+/// Between a Deliver of a chunk to a worker and the worker's next Release the chunk isn't evicted, and no frame that
+/// had a piece of it at the Deliver is filled.
 pub fn legal_stories_are_undisturbed()
     ensures { OfEveryLegal Undisturbed }
 {}

@@ -1,5 +1,6 @@
 ghost use Rattle.story_laws.specs.Every.{OfEveryLegal};
-ghost use Rattle.story_laws.specs.Queries.{OneActiveAWorker, FewAreActive, DeliveredOnceEach, EndedTookAll, EndedAreNotStopped};
+ghost use Rattle.story_laws.specs.Queries.{OneActiveAWorker, FewAreActive, DeliveredOnceEach};
+ghost use Rattle.story_laws.specs.Queries.{EndedTookAll, EndedAreNotStopped};
 
 /// No two queries of one worker are active at the same time.
 pub fn one_active_a_worker()

@@ -1,8 +1,8 @@
 ghost use Rattle.story_laws.specs.Every.{OfEveryLegal};
 ghost use Rattle.story_laws.specs.Victims.{AlwaysAFarVictim, ChosenIsFar, VictimsWereFar, EvictionStarvesNobody};
 
-/// Where fewer frames are free than pieces are missing and no fill has begun, some chunk may be evicted that is close to
-/// no query: `close` of it is 0.
+/// Where fewer frames are free than pieces are missing and no fill has begun, some chunk may be evicted that is close
+/// to no query: `close` of it is 0.
 pub fn always_a_far_victim()
     ensures { OfEveryLegal AlwaysAFarVictim }
 {}

@@ -4,7 +4,8 @@ use Rattle.std.specs.List.{flat_map}
 use Rattle.scan_story.specs.declared.entry.Why.{Why}
 use Rattle.scan_story.specs.declared.entry.Why.TheVariants.{Fault, Damage}
 use Rattle.scan_story.specs.declared.entry.Entry.{Entry}
-use Rattle.scan_story.specs.declared.entry.Entry.TheVariants.{Register, Plan, Evict, Fill, Filled, Failed, Deliver, Release, Stop, End}
+use Rattle.scan_story.specs.declared.entry.Entry.TheVariants.{Register, Plan, Evict, Fill, Filled}
+use Rattle.scan_story.specs.declared.entry.Entry.TheVariants.{Failed, Deliver, Release, Stop, End}
 
 -- a word and two numbers, with one space between
 abbrev pub with_two : List ℕ → ℕ → ℕ → List ℕ
@@ -23,7 +24,8 @@ entry_text (Plan w q c) = with_three (codes "plan ") w q c
 entry_text (Evict w c) = with_two (codes "evict ") w c
 entry_text (Fill w f p) = with_three (codes "fill ") w f p
 entry_text (Filled w f p) = with_three (codes "filled ") w f p
-entry_text (Failed w q p why) = with_two (codes "failed ") w q ++ (codes " " ++ (decimal p ++ (codes " " ++ why_text why)))
+entry_text (Failed w q p why) = with_two (codes "failed ") w q
+    ++ (codes " " ++ (decimal p ++ (codes " " ++ why_text why)))
 entry_text (Deliver w q c) = with_three (codes "deliver ") w q c
 entry_text (Release w q c) = with_three (codes "release ") w q c
 entry_text (Stop w q) = with_two (codes "stop ") w q

@@ -1,4 +1,5 @@
-ghost use Rattle.std.specs.Prelude.{◌≡◌, [], ◌≢◌, ◌==◌, ◌∷◌, ◌++◌, ◌+◌, ◌-◌, ◌*◌, ◌^◌, ◌<◌, ◌≤◌, ℕ, List, IfOk, IfErr, Err, IfSome, IsNone, true, false, Some, length, codes, decimal};
+ghost use Rattle.std.specs.Prelude.{◌≡◌, [], ◌≢◌, ◌==◌, ◌∷◌, ◌++◌, ◌+◌, ◌-◌, ◌*◌, ◌^◌, ◌<◌, ◌≤◌, ℕ, List, IfOk};
+ghost use Rattle.std.specs.Prelude.{IfErr, Err, IfSome, IsNone, true, false, Some, length, codes, decimal};
 ghost use Rattle.std.specs.List.{position, AllByRecursion};
 ghost use Rattle.story_text.specs.declared.read.StoryRefusal.TheVariants as StoryRefusal;
 ghost use Rattle.std.specs.Option.{option_map};
@@ -6,7 +7,8 @@ ghost use Rattle.std.specs.Str.{bytes_eq};
 ghost use Rattle.story_text.specs.Text.{entry_text, why_text, story_text};
 ghost use Rattle.scan_story.specs.declared.entry.Entry.{Entry};
 ghost use Rattle.scan_story.specs.declared.entry.Why.{Why};
-ghost use Rattle.story_text.specs.Reading.{Fits, FitsWhy, number_of, lacks, failed_entry, why_read, IsCut, IsEntryOf, BeginsBadly, IsFirstBad, IsRefusal, pair_entry, triple_entry};
+ghost use Rattle.story_text.specs.Reading.{Fits, FitsWhy, number_of, lacks, failed_entry, why_read, IsCut};
+ghost use Rattle.story_text.specs.Reading.{IsEntryOf, BeginsBadly, IsFirstBad, IsRefusal, pair_entry, triple_entry};
 
 use crate::line::Line;
 use scan_story::{Entry, Memory, Why};

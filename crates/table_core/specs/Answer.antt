@@ -1,5 +1,7 @@
--- The text of an answer: the line `query i`, then for each row a line with its values' texts, joined by a comma and a space.
-use Rattle.std.specs.Prelude.{◌<◌, ◌≡◌, ℕ, List, [], ◌∷◌, ◌++◌, length, map, Option, Some, None, codes, decimal, slice_index_or}
+-- The text of an answer: the line `query i`, then for each row a line with its values' texts, joined by a comma and a
+-- space.
+use Rattle.std.specs.Prelude.{◌<◌, ◌≡◌, ℕ, List, [], ◌∷◌, ◌++◌, length, map}
+use Rattle.std.specs.Prelude.{Option, Some, None, codes, decimal, slice_index_or}
 use Rattle.std.specs.List.{flat_map}
 use Rattle.table_core.specs.declared.cell.Cell.{Cell}
 use Rattle.table_core.specs.declared.cell.Cell.TheVariants.{Null}
@@ -39,7 +41,8 @@ dict_at dicts (Some x) = slice_index_or dicts x []
 -- the row has a cell for each of the columns, which can be read in its dictionary
 pub record AreCellsOf (columns : List (Option ℕ)) (dicts : List (List (List ℕ))) (row : List Cell) : Type 0 where
   pub same : length row ≡ length columns
-  pub cells : (k : ℕ) → k < length row → IsCellOf (dict_at dicts (slice_index_or columns k None)) (slice_index_or row k Null)
+  pub cells : (k : ℕ) → k < length row
+      → IsCellOf (dict_at dicts (slice_index_or columns k None)) (slice_index_or row k Null)
 
 -- the kinds and the values of rows of cells, whose columns in the schema these are
 abbrev pub kinds_of : List Column → List (Option ℕ) → List Kind

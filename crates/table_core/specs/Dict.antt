@@ -11,7 +11,8 @@ text_cmp = slice_cmp nat_cmp
 
 -- each text is below each later one
 abbrev pub Rises : List (List ℕ) → Type 0
-Rises texts = (i j : ℕ) → i < j → j < length texts → text_cmp (slice_index_or texts i []) (slice_index_or texts j []) ≡ Less
+Rises texts = (i j : ℕ) → i < j → j < length texts
+    → text_cmp (slice_index_or texts i []) (slice_index_or texts j []) ≡ Less
 
 -- the texts rise, and each has a code of 32 bits
 pub record IsDict (texts : List (List ℕ)) : Type 0 where
@@ -31,7 +32,8 @@ IsBelow texts text place = (k : ℕ) → k < place → text_cmp (slice_index_or 
 abbrev pub IsAbove : List (List ℕ) → List ℕ → ℕ → Type 0
 IsAbove texts text place = (k : ℕ) → place ≤ k → k < length texts → text_cmp (slice_index_or texts k []) text ≡ Greater
 
--- just the texts before the place are smaller, and all others are greater: so many are smaller, and the text isn't there
+-- just the texts before the place are smaller, and all others are greater: so many are smaller, and the text isn't
+-- there
 pub record IsGap (texts : List (List ℕ)) (text : List ℕ) (place : ℕ) : Type 0 where
   pub within : place ≤ length texts
   pub below : IsBelow texts text place

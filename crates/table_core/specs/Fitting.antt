@@ -18,4 +18,5 @@ dict_at dicts x = slice_index_or dicts x []
 -- a row has a cell for each column, and each is one that its column may have
 pub record FitsRow (columns : List Column) (dicts : List (List (List ℕ))) (row : List Cell) : Type 0 where
   pub width : length row ≡ length columns
-  pub cells : (x : ℕ) → x < length columns → FitsColumn (kind_at columns x) (dict_at dicts x) (slice_index_or row x Null)
+  pub cells : (x : ℕ) → x < length columns
+      → FitsColumn (kind_at columns x) (dict_at dicts x) (slice_index_or row x Null)

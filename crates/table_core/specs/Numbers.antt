@@ -1,5 +1,6 @@
 -- Numbers or none: values beside null bits.
-use Rattle.std.specs.Prelude.{◌≡◌, ◌≤◌, ◌*◌, ℕ, ℤ, pos, true, false, Option, Some, None, List, length, map, slice_index_or, if◌then◌else◌}
+use Rattle.std.specs.Prelude.{◌≡◌, ◌≤◌, ◌*◌, ℕ, ℤ, pos, true, false, Option, Some}
+use Rattle.std.specs.Prelude.{None, List, length, map, slice_index_or, if◌then◌else◌}
 use Rattle.std.specs.List.{range_with_len}
 use Rattle.table_sets.specs.Sets.{bit_of}
 

@@ -1,5 +1,6 @@
 -- The values of a table, which cells stand for, and the text of one value in an answer.
-use Rattle.std.specs.Prelude.{◌≡◌, ◌≢◌, ◌+◌, ◌<◌, ◌/◌, ◌%◌, ◌^◌, ◌==◌, ◌++◌, ℕ, zero, suc, ℤ, pos, negsuc, List, [], ◌∷◌, length, slice_index_or, if◌then◌else◌, codes, decimal}
+use Rattle.std.specs.Prelude.{◌≡◌, ◌≢◌, ◌+◌, ◌<◌, ◌/◌, ◌%◌, ◌^◌, ◌==◌, ◌++◌, ℕ, zero, suc, ℤ, pos, negsuc}
+use Rattle.std.specs.Prelude.{List, [], ◌∷◌, length, slice_index_or, if◌then◌else◌, codes, decimal}
 use Rattle.std.specs.List.{flat_map}
 use Rattle.std.specs.Ordering.{int_cmp}
 use Rattle.std.specs.declared.cmp.Ordering.{Ordering}
@@ -51,7 +52,8 @@ abbrev pub last_digits : ℕ → ℕ → List ℕ
 last_digits zero n = []
 last_digits (suc count) n = last_digits count (n / 10) ++ (48 + n % 10) ∷ []
 
--- a number of so many places without its sign: the whole part, and where there are places a point and just so many digits
+-- a number of so many places without its sign: the whole part, and where there are places a point and just so many
+-- digits
 abbrev pub unsigned_text : ℕ → ℕ → List ℕ
 unsigned_text zero n = decimal n
 unsigned_text (suc places) n = decimal (n / 10 ^ suc places) ++ (46 ∷ last_digits (suc places) n)

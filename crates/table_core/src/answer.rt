@@ -1,12 +1,14 @@
 // The text of an answer.
-ghost use Rattle.std.specs.Prelude.{◌≡◌, ◌≤◌, ◌<◌, ◌++◌, ◌∷◌, ℕ, List, [], length, map, drop, All, Some, None, IfOk, OnOk, codes, decimal};
+ghost use Rattle.std.specs.Prelude.{◌≡◌, ◌≤◌, ◌<◌, ◌++◌, ◌∷◌, ℕ, List, [], length, map};
+ghost use Rattle.std.specs.Prelude.{drop, All, Some, None, IfOk, OnOk, codes, decimal};
 ghost use Rattle.std.specs.List.{flat_map};
 ghost use Rattle.table_core.specs.declared.cell.Cell.{Cell};
 ghost use Rattle.table_core.specs.declared.schema.Column.{Column};
 ghost use Rattle.table_core.specs.declared.schema.Kind.TheVariants.{Int};
 ghost use Rattle.table_core.specs.Value.{IsCellOf, places_of, value_text, value_in, zip_with};
 ghost use Rattle.table_core.specs.Lists.{lists};
-ghost use Rattle.table_core.specs.Answer.{AreCellsOf, IsColumn, answer, dict_at, joined, kind_at, kinds_of, more_joined, row_line, values_of};
+ghost use Rattle.table_core.specs.Answer.{AreCellsOf, IsColumn, answer, dict_at, joined};
+ghost use Rattle.table_core.specs.Answer.{kind_at, kinds_of, more_joined, row_line, values_of};
 
 use crate::bytes::Bytes;
 use crate::cell::Cell;

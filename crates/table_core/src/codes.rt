@@ -1,5 +1,6 @@
 // Codes of texts or none, by place.
-ghost use Rattle.std.specs.Prelude.{◌≡◌, ◌<◌, ◌++◌, ◌∷◌, [], ℕ, List, Option, None, IfOk, OnOk, OnErr, length, set, slice_index_or};
+ghost use Rattle.std.specs.Prelude.{◌≡◌, ◌<◌, ◌++◌, ◌∷◌, [], ℕ, List, Option, None};
+ghost use Rattle.std.specs.Prelude.{IfOk, OnOk, OnErr, length, set, slice_index_or};
 ghost use Rattle.table_core.specs.Codes.{IsCode, code_of, codes_of};
 
 use std::alloc::{AllocError, Global};
@@ -66,7 +67,8 @@ impl Codes {
         Some(code)
     }
 
-    /// Puts a code below 4294967295, or none, at the end. The error means out of memory, and the codes are then as before.
+    /// Puts a code below 4294967295, or none, at the end. The error means out of memory, and the codes are then as
+    /// before.
     pub fn push(&mut self, code: Option<u32>) -> Result<(), AllocError>
         requires { IsCode code }
         ensures ok { OnOk result (self.new ≡ self.old ++ code ∷ []) }

@@ -1,5 +1,6 @@
 // A rising list of distinct texts, and the place of a text in it.
-ghost use Rattle.std.specs.Prelude.{◌≡◌, ◌<◌, ◌-◌, [], List, ℕ, IfErr, IfOk, OnErr, length, slice_index_or, Contains, false};
+ghost use Rattle.std.specs.Prelude.{◌≡◌, ◌<◌, ◌-◌, [], List, ℕ, IfErr, IfOk, OnErr};
+ghost use Rattle.std.specs.Prelude.{length, slice_index_or, Contains, false};
 ghost use Rattle.std.specs.Ordering.{is_gt};
 ghost use Rattle.std.specs.declared.cmp.Ordering.TheVariants.{Less};
 ghost use Rattle.table_core.specs.Dict.{Added, IsCode, IsDict, IsGap, text_cmp};

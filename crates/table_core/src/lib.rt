@@ -1,4 +1,5 @@
-//! What a table is: typed cells, the columns they stand in, dictionaries of texts, the text of a value and of an answer.
+//! What a table is: typed cells, the columns they stand in, dictionaries of texts, the text of a value and of an
+//! answer.
 //! The sets and limits of table_sets are handed on.
 //!
 //!     let (kind, dict) = (Kind::Dec { places: 2 }, Dict::new(alloc));

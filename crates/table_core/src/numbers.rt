@@ -1,5 +1,6 @@
 // Whole numbers or none, by place.
-ghost use Rattle.std.specs.Prelude.{◌≡◌, ◌<◌, ◌≤◌, ◌*◌, ◌++◌, ◌∷◌, [], ℕ, ℤ, List, Option, None, is_none, IfOk, OnOk, OnErr, length, slice_index_or};
+ghost use Rattle.std.specs.Prelude.{◌≡◌, ◌<◌, ◌≤◌, ◌*◌, ◌++◌, ◌∷◌, [], ℕ, ℤ, List, Option};
+ghost use Rattle.std.specs.Prelude.{None, is_none, IfOk, OnOk, OnErr, length, slice_index_or};
 ghost use Rattle.table_core.specs.Numbers.{AreNullBits, number_or_zero, numbers_of};
 ghost use Rattle.table_sets.specs.Sets.{bit_of};
 

@@ -1,5 +1,6 @@
 // A list of texts, kept as one run of bytes and the place where each text ends.
-ghost use Rattle.std.specs.Prelude.{◌≡◌, ◌<◌, ◌^◌, [], ◌∷◌, ◌++◌, List, ℕ, OnOk, OnErr, ◌≤◌, length, slice_index, slice_index_or};
+ghost use Rattle.std.specs.Prelude.{◌≡◌, ◌<◌, ◌^◌, [], ◌∷◌, ◌++◌, List, ℕ, OnOk};
+ghost use Rattle.std.specs.Prelude.{OnErr, ◌≤◌, length, slice_index, slice_index_or};
 ghost use Rattle.table_core.specs.Texts.{CutsAll, cut};
 
 use std::alloc::{AllocError, Global};

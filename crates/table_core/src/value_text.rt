@@ -1,6 +1,7 @@
 // The text of one value in an answer.
 ghost use Rattle.std.specs.Prelude.{◌≡◌, ◌≤◌, ◌<◌, ◌^◌, ◌++◌, ◌/◌, ◌∷◌, [], IfOk, OnErr, OnOk, length};
-ghost use Rattle.table_core.specs.Value.{IsCellOf, last_digits, number_text, places_of, quoted, unsigned_text, value_in, value_text};
+ghost use Rattle.table_core.specs.Value.{IsCellOf, last_digits, number_text, places_of};
+ghost use Rattle.table_core.specs.Value.{quoted, unsigned_text, value_in, value_text};
 ghost use Rattle.table_core.specs.Writing.{GrewByPrefix};
 
 use crate::bytes::Bytes;

@@ -26,4 +26,5 @@ IsFilled s rows p parcel = OnOk parcel.made (IsMade s rows p parcel.bytes.items)
 
 -- parcels that were filled with the pieces from this one on
 abbrev pub AreFilled : TableShape → List (List Cell) → ℕ → List Parcel → Type 0
-AreFilled s rows first parcels = (i : ℕ) (d : Parcel) → i < length parcels → IsFilled s rows (first + i) (slice_index_or parcels i d)
+AreFilled s rows first parcels = (i : ℕ) (d : Parcel) → i < length parcels
+    → IsFilled s rows (first + i) (slice_index_or parcels i d)

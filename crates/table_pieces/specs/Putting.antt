@@ -34,7 +34,8 @@ AreLong s rows count = (p : ℕ) → p < count → length (piece_bytes s rows p)
 
 -- each word of a piece reads back from its bytes
 abbrev pub ReadsBack : TableShape → List (List Cell) → ℕ → Type 0
-ReadsBack s rows p = (i : ℕ) → i < words_in (piece_at s p) → word_of (piece_bytes s rows p) i ≡ slice_index (piece_words s rows p) i
+ReadsBack s rows p = (i : ℕ) → i < words_in (piece_at s p)
+    → word_of (piece_bytes s rows p) i ≡ slice_index (piece_words s rows p) i
 
 -- each word of each piece below a number
 abbrev pub ReadBack : TableShape → List (List Cell) → ℕ → Type 0
@@ -46,10 +47,12 @@ GiveBack s rows count = (p : ℕ) → p < count → GivesBack s rows p (word_of 
 
 -- no word of a piece below a number breaks the rules
 abbrev pub AreSound : TableShape → List (List Cell) → ℕ → Type 0
-AreSound s rows count = (p : ℕ) → p < count → let q = piece_at s p in NoneBroken s q (word_of (piece_bytes s rows p)) (words_in q)
+AreSound s rows count = (p : ℕ) → p < count
+    → let q = piece_at s p in NoneBroken s q (word_of (piece_bytes s rows p)) (words_in q)
 
 -- a piece wasn't taken, and a fault counted: the pieces below it are put, and those above it are as they were
-pub record FailsAt (s : TableShape) (rows : List (List Cell)) (piece : ℕ) (old new : Stored) (before now : ℕ) : Type 0 where
+pub record FailsAt (s : TableShape) (rows : List (List Cell)) (piece : ℕ) (old new : Stored)
+    (before now : ℕ) : Type 0 where
   pub there : piece < pieces s
   pub rose : Rose before now
   pub left : ArePut s rows piece (piece + 1) old new

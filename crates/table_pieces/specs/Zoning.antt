@@ -26,7 +26,8 @@ CoverChunks s rows zones = (c : ℕ) → c < chunks s → All (CoversRow (chunk_
 
 -- no row of a chunk outside the set makes the condition true
 abbrev pub NoMatchOutside : TableShape → List (List Cell) → Cond → List ℕ → Type 0
-NoMatchOutside s rows cond members = (c : ℕ) → c < chunks s → has members c ≡ false → All (λ row. truth_of cond row ≢ True) (chunk rows s.per c)
+NoMatchOutside s rows cond members = (c : ℕ) → c < chunks s → has members c ≡ false
+    → All (λ row. truth_of cond row ≢ True) (chunk rows s.per c)
 
 -- a row passes only where the condition is true of it; without a condition any row may pass
 abbrev pub PassesOnly : (List Cell → Bool) → Option Cond → Type 0

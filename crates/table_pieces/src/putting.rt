@@ -110,12 +110,12 @@ fn put_block<R: Threads + Sync, D: Depot>(
 
 /// Puts each piece of a table into a depot, by rising piece.
 ///
-/// The table has the kinds and rows of the shape, and each cell is one that its column may have. Pieces are made side by
-/// side, by at most `most_threads` threads beside the caller's, and put by the caller's alone: unless memory runs out, the
-/// answer is the same for every number of threads. About 4 MiB of words and their bytes are kept at a time, at least one
-/// piece's; with 0 threads just one piece's. After `Put` the pieces below the one that it names are put, that one may be
-/// anything, and those above it are as they were; after `Memory` the pieces below some number are put and all others are as
-/// they were.
+/// The table has the kinds and rows of the shape, and each cell is one that its column may have. Pieces are made side
+/// by side, by at most `most_threads` threads beside the caller's, and put by the caller's alone: unless memory runs
+/// out, the answer is the same for every number of threads. About 4 MiB of words and their bytes are kept at a time, at
+/// least one piece's; with 0 threads just one piece's. After `Put` the pieces below the one that it names are put, that
+/// one may be anything, and those above it are as they were; after `Memory` the pieces below some number are put and
+/// all others are as they were.
 pub fn put_pieces<R: Threads + Sync, D: Depot>(
     rt: &R,
     alloc: Global,

@@ -34,8 +34,8 @@ fn lens_of(alloc: Global, dicts: &[Dict]) -> Result<Vec<u32>, Memory>
 /// How a table is cut into pieces of a layout, with so many rows in each chunk but the last.
 ///
 /// There is a dictionary for each column, without texts where the column has none. The limits are those of shapes: 1 to
-/// `MOST_COLUMNS` columns, 1 to `MOST_CHUNK_ROWS` rows in a chunk, at most `MOST_ROWS` rows and `MOST_CHUNKS` chunks. Where each cell of the table is one
-/// that its column may have, the table is one of this shape.
+/// `MOST_COLUMNS` columns, 1 to `MOST_CHUNK_ROWS` rows in a chunk, at most `MOST_ROWS` rows and `MOST_CHUNKS` chunks.
+/// Where each cell of the table is one that its column may have, the table is one of this shape.
 pub fn shape_of(
     alloc: Global,
     table: &Table,

@@ -8,7 +8,8 @@ ghost use Rattle.piece_format.specs.Cells.{IsTableOf};
 ghost use Rattle.piece_format.specs.Shape.{IsShape, chunks};
 ghost use Rattle.table_core.specs.Chunk.{chunk as chunk_of};
 ghost use Rattle.table_core.specs.declared.cell.Cell.{Cell};
-ghost use Rattle.table_pieces.specs.Zoning.{CoverChunks, HaveAllThatPass, NoMatchOutside, PassesOnly, chunk_zones, zones_in};
+ghost use Rattle.table_pieces.specs.Zoning.{CoverChunks, HaveAllThatPass, NoMatchOutside};
+ghost use Rattle.table_pieces.specs.Zoning.{PassesOnly, chunk_zones, zones_in};
 
 use crate::shaping::chunks_of;
 use filter_zones::{ChunkZones, zones_of};
@@ -32,7 +33,8 @@ fn zones_of_chunk(shape: &Shape, table: &Table, chunk: u32) -> ChunkZones
 
 /// The zones of each chunk of a table, from the first chunk to the last.
 ///
-/// The table has the kinds and rows of the shape. The zones are what `filter_zones::needed` wants to know of the chunks:
+/// The table has the kinds and rows of the shape. The zones are what `filter_zones::needed` wants to know of the
+/// chunks:
 /// a condition that fits each row fits the zones of each chunk, and no row of a chunk that isn't needed makes it true.
 /// So the matching rows of the needed chunks, one chunk after another, are those of the table in their order.
 pub fn zones_of_chunks(

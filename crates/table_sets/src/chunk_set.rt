@@ -1,5 +1,6 @@
 // A set of chunks.
-ghost use Rattle.std.specs.Prelude.{◌≡◌, ◌<◌, ◌≤◌, ◌*◌, ◌&&◌, ◌||◌, ◌==◌, ℕ, [], List, IfNone, IfSome, length, not, false};
+ghost use Rattle.std.specs.Prelude.{◌≡◌, ◌<◌, ◌≤◌, ◌*◌, ◌&&◌, ◌||◌, ◌==◌, ℕ, []};
+ghost use Rattle.std.specs.Prelude.{List, IfNone, IfSome, length, not, false};
 ghost use Rattle.table_sets.specs.Sets.{AreMembers, IsLeastFrom, bit_of, has, numbers_below};
 ghost use Rattle.table_sets.specs.declared.limits.TheConstants.{MOST_CHUNKS};
 

@@ -1,5 +1,5 @@
-//! Sets of chunks and of columns as bits, frames with their pieces, the limits of a table, and out of memory: what the crates
-//! that know nothing of a table's cells share with those that do. No set and no list here takes memory.
+//! Sets of chunks and of columns as bits, frames with their pieces, the limits of a table, and out of memory: what the
+//! crates that know nothing of a table's cells share with those that do. No set and no list here takes memory.
 //!
 //!     let mut chunks = ChunkSet::empty();
 //!     chunks.insert(7);

@@ -16,7 +16,8 @@ fn columns_of(alloc: Global, columns: &[u32]) -> Result<Vec<Option<u32>>, AllocE
 
 /// The text of an answer: the line `query` with its number, then a line for each picked row.
 ///
-/// `columns` has for each cell of a row its column in the schema. Numbers of a DEC column are written with their places, texts in quotes.
+/// `columns` has for each cell of a row its column in the schema. Numbers of a DEC column are written with their
+/// places, texts in quotes.
 pub fn picked_text(
     alloc: Global,
     query: u32,

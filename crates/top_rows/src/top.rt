@@ -1,5 +1,6 @@
 // The first rows in the order that a rows query asks for.
-ghost use Rattle.std.specs.Prelude.{◌≡◌, ◌<◌, ◌≤◌, ◌+◌, ◌++◌, ◌∷◌, ℕ, List, [], length, map, take, false, All, OnOk, OnErr, IfOk, IfErr, IsOk};
+ghost use Rattle.std.specs.Prelude.{◌≡◌, ◌<◌, ◌≤◌, ◌+◌, ◌++◌, ◌∷◌, ℕ, List, [], length};
+ghost use Rattle.std.specs.Prelude.{map, take, false, All, OnOk, OnErr, IfOk, IfErr, IsOk};
 ghost use Rattle.std.specs.Bool.{OnTrue, OnFalse};
 ghost use Rattle.table_core.specs.declared.cell.Cell.{Cell};
 ghost use Rattle.query_meaning.specs.Cells.{codes};
@@ -23,7 +24,8 @@ use table_core::{Cell, Memory};
 
 type Ranked = BTreeMap<Standing, Vec<Cell>>;
 
-/// The first rows of those that were added, in the order of a plan: seen as the plan, and the rows in order with their numbers.
+/// The first rows of those that were added, in the order of a plan: seen as the plan, and the rows in order with their
+/// numbers.
 ///
 /// It stands for a list of rows with distinct numbers where the rows that it keeps are the first ones of that list.
 /// A row's number is its place in the table, counted from 0.
@@ -38,7 +40,12 @@ pub struct TopRows {
 impl Model for TopRows {
     ghost Value = { Kept };
 
-    ghost view = { λ t. record { plan = record { columns = t.columns.items; order = t.order.items; limit = t.limit }; rows = numbered t.rows.entries } };
+    ghost view = { λ t.
+        record {
+          plan = record { columns = t.columns.items; order = t.order.items; limit = t.limit };
+          rows = numbered
+              t.rows.entries;
+        } };
 
     ghost invariant = { λ t. AreKeyed t.order.items t.rows.entries × (length t.rows.entries ≤ t.limit) };
 }

@@ -52,7 +52,8 @@ impl Told {
         }
     }
 
-    // Notes a call, and answers how many there are now. A call that isn't noted when out of memory is missed by the test.
+    // Notes a call, and answers how many there are now. A call that isn't noted when out of memory is missed by the
+    // test.
     fn note<R: Wait>(&self, rt: &R, call: Call) -> u64 {
         let _ = self.calls.lock(rt).push(call);
         self.count.fetch_add(1, Ordering::SeqCst).saturating_add(1)

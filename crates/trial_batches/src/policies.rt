@@ -1,5 +1,5 @@
-// The stories of each policy over small batches that seeds draw: each is legal by its own policy's definition, and by each other one's
-// some are not.
+// The stories of each policy over small batches that seeds draw: each is legal by its own policy's definition, and by
+// each other one's some are not.
 use crate::batches::{next, run_under};
 use crate::judged::{is_legal, is_sound};
 use batch_run::{Answer, BatchEnd, Options};
@@ -229,7 +229,8 @@ fn end_of<R: Abort + RandomSource + Threads + Wait + Sync>(
     run_by(rt, alloc, name, text.as_bytes(), &statements, batch.options)
 }
 
-// Whether the answers are those over the table, and the story is legal under its own policy, whole, undisturbed and licensed.
+// Whether the answers are those over the table, and the story is legal under its own policy, whole, undisturbed and
+// licensed.
 fn is_own(
     rt: &impl Abort,
     alloc: Global,
@@ -279,8 +280,8 @@ fn refused_by(
     Ok(refused)
 }
 
-// One batch under the policy of this name. By which policies its story isn't legal, where one worker makes it, so that it is always
-// the same; else by none.
+// One batch under the policy of this name. By which policies its story isn't legal, where one worker makes it, so that
+// it is always the same; else by none.
 fn expect_batch<R: Abort + RandomSource + Threads + Wait + Sync>(
     rt: &R,
     alloc: Global,

@@ -1,4 +1,5 @@
-// Eight workers, sixteen queries and few frames, while reads fail: each story is judged, and each answer counted over the table.
+// Eight workers, sixteen queries and few frames, while reads fail: each story is judged, and each answer counted over
+// the table.
 use crate::batches::{Trial, ended_in_memory, next};
 use crate::judged::is_sound;
 use batch_run::{Answer, BatchEnd, Cause, Options};
@@ -19,7 +20,8 @@ use table_core::Cell;
 const ROWS: u32 = 28;
 
 pub(crate) const TABLE: &str =
-    "n,k\n1,0\n2,1\n3,2\n4,0\n5,1\n6,2\n7,0\n8,1\n9,2\n10,0\n11,1\n12,2\n13,0\n14,1\n15,2\n16,0\n17,1\n18,2\n19,0\n20,1\n21,2\n22,0\n23,1\n24,2\n25,0\n26,1\n27,2\n28,0\n";
+    "n,k\n1,0\n2,1\n3,2\n4,0\n5,1\n6,2\n7,0\n8,1\n9,2\n10,0\n11,1\n12,2\n13,0\n14,1\n15,2\n16,0\n17,1\n18,2\n19,0\n\
+20,1\n21,2\n22,0\n23,1\n24,2\n25,0\n26,1\n27,2\n28,0\n";
 
 // A statement, and the first and the last row that it counts, from 1.
 type Query<'a> = (&'a [u8], u32, u32);

@@ -1,5 +1,6 @@
 -- What a desk on trial remembers.
-use Rattle.std.specs.Prelude.{◌≡◌, ◌==◌, ◌&&◌, false, ◌+◌, ◌-◌, ◌^◌, ◌<◌, ◌≤◌, ⊤, ℕ, [], List, Option, None, Some, IfSome, length, slice_index_or}
+use Rattle.std.specs.Prelude.{◌≡◌, ◌==◌, ◌&&◌, false, ◌+◌, ◌-◌, ◌^◌, ◌<◌, ◌≤◌, ⊤, ℕ, []}
+use Rattle.std.specs.Prelude.{List, Option, None, Some, IfSome, length, slice_index_or}
 use Rattle.scan_story.specs.declared.entry.Entry.{Entry}
 use Rattle.scan_story.specs.declared.entry.Why.{Why}
 use Rattle.scan_story.specs.declared.entry.Why.TheVariants.{Fault, Damage}

@@ -1,5 +1,5 @@
-//! Trials of the loader: texts whose tables and refusals are written down, by any number of threads, and drawn texts, of
-//! which it and a plain loader make the same.
+//! Trials of the loader: texts whose tables and refusals are written down, by any number of threads, and drawn texts,
+//! of which it and a plain loader make the same.
 //!
 //! All of it is tests. The plain loader is written from docs/TABLES.md alone.
 #![tactic(auto)]

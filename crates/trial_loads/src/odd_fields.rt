@@ -133,9 +133,11 @@ pub(crate) fn name_of(column: u32, draw: u32) -> &'static [u8] {
         1 => b"id",
         2 => b"day",
         3 =>
-            b"a name of 128 bytes, which is the longest that a column may have, and so this one goes on until it has all of them and no more..",
+            b"a name of 128 bytes, which is the longest that a column may have, and so this one goes on until it has \
+all of them and no more..",
         4 =>
-            b"a name of 129 bytes, which is one more than the longest that a column may have, and so this one goes on until it has all of them.",
+            b"a name of 129 bytes, which is one more than the longest that a column may have, and so this one goes on \
+until it has all of them.",
         5 => b"say \"x\",\r\ny",
         6 => b"\xff id",
         _ => HEADER[column as usize % 17],

@@ -102,7 +102,8 @@ const CELLS: &[Read<'static>] = &[
     ),
     // 32 bytes that are the same, and 31
     (
-        b"v\nabcdefghijklmnopqrstuvwxyzABCDEFb\nabcdefghijklmnopqrstuvwxyzABCDEF\nabcdefghijklmnopqrstuvwxyzABCDEFa\nabcdefghijklmnopqrstuvwxyzABCDEG\nabcdefghijklmnopqrstuvwxyzABCDEF\0\n",
+        b"v\nabcdefghijklmnopqrstuvwxyzABCDEFb\nabcdefghijklmnopqrstuvwxyzABCDEF\nabcdefghijklmnopqrstuvwxyzABCDEFa\n\
+abcdefghijklmnopqrstuvwxyzABCDEG\nabcdefghijklmnopqrstuvwxyzABCDEF\0\n",
         &[
             Cell::Code(3),
             Cell::Code(0),

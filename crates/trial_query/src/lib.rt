@@ -1,5 +1,5 @@
-//! Trials of a query's way behind its text: its plan, its groups or first rows, and what it gathers; and of blocks: what a
-//! call says of a block is what another says of each of its rows.
+//! Trials of a query's way behind its text: its plan, its groups or first rows, and what it gathers; and of blocks:
+//! what a call says of a block is what another says of each of its rows.
 //!
 //! All of it is tests. `docs/SQL.md`, `docs/ANSWERS.md`, `docs/ZONES.md` and `docs/TABLES.md` tell the rules.
 #![tactic(auto)]

@@ -260,7 +260,8 @@ const OUTDONE: &[Refused] = &[
     (
         Scene::Shorter,
         PolicyName::Relevance,
-        "register 0 1\nplan 0 1 0\nfill 0 0 0\nfilled 0 0 0\nregister 1 2\nplan 0 2 2\nfill 0 1 2\nfilled 0 1 2\ndeliver 0 1 2\n",
+        "register 0 1\nplan 0 1 0\nfill 0 0 0\nfilled 0 0 0\nregister 1 2\nplan 0 2 2\nfill 0 1 2\nfilled 0 1 2\n\
+deliver 0 1 2\n",
         Reason::Outdone(Better {
             choice: Choice::Delivery,
             number: 0,

@@ -181,7 +181,8 @@ fn by_turns_in<S: Origin, C: Content, P: Policy, R: Wait>(
 }
 
 /// The scans of query 1 on worker 0 and of query 2 on worker 1, by turns on one thread: each turn names a worker, 0 or
-/// another, and its scan takes a chunk, or reads and releases it. What is still under way is then stopped, query 1 first.
+/// another, and its scan takes a chunk, or reads and releases it. What is still under way is then stopped, query 1
+/// first.
 ///
 /// `None` where there can be no desk for the setting, or shape and setting don't fit each other. The error is out of
 /// memory.

@@ -14,8 +14,8 @@ use relevance::Policy;
 use scan_story::Origin;
 use std::alloc::Global;
 
-/// The station of the last pass and the last berth, whose buffer has room for a frame of so many words. Where there is no
-/// memory for the buffer the berth is put back.
+/// The station of the last pass and the last berth, whose buffer has room for a frame of so many words. Where there is
+/// no memory for the buffer the berth is put back.
 pub(crate) fn seated<S: Origin, C: Content, P: Policy, D: Depot>(
     alloc: Global,
     baton: &Baton<Desk<S, P, D>>,

@@ -148,8 +148,8 @@ fn alone_in<S: Origin, C: Content, P: Policy, R: Wait>(
     Ok(ended(rt, baton, passes, notes))
 }
 
-/// The scan of query 1 alone, on worker 0, with a pool of one berth and a baton of one pass: so many steps, of which each
-/// takes a chunk, or reads and releases it. What is still under way is then stopped.
+/// The scan of query 1 alone, on worker 0, with a pool of one berth and a baton of one pass: so many steps, of which
+/// each takes a chunk, or reads and releases it. What is still under way is then stopped.
 ///
 /// `None` where there can be no desk for the setting, or shape and setting don't fit each other. The error is out of
 /// memory.

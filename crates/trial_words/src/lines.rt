@@ -203,8 +203,9 @@ fn totals_have_their_places(rt: HostRuntime) -> Result<(), Fail> {
     write_overflow(&mut out, 1, 1, 9223372036854775808, 0)?;
     write_overflow(&mut out, 1, 1, 9223372036854775808, 2)?;
     write_overflow(&mut out, 256, 32, -9223372036854775809, 9)?;
-    let lines =
-        b"refused 1: sum overflow item 1 total 9223372036854775808\nrefused 1: sum overflow item 1 total 92233720368547758.08\nrefused 256: sum overflow item 32 total -9223372036.854775809\n";
+    let lines = b"refused 1: sum overflow item 1 total 9223372036854775808\n\
+refused 1: sum overflow item 1 total 92233720368547758.08\n\
+refused 256: sum overflow item 32 total -9223372036.854775809\n";
     assert_eq!(rt; out.as_slice(), lines.as_slice());
     Ok(())
 }
@@ -214,8 +215,8 @@ fn the_summary_and_the_line_of_a_policy(rt: HostRuntime) -> Result<(), Fail> {
     let mut out = Bytes::new(Vec::new(rt.alloc()));
     write_summary(&mut out, 8, 7, 18446744073709551615, 200000)?;
     write_policy_line(&mut out, "relevance", 9, 5, 13, 0)?;
-    let lines =
-        b"summary: 8 queries, 7 answered, 18446744073709551615 deliveries, 200000 rows\nrelevance: 9 reads, 5 evictions, 13 deliveries, 0 stops\n";
+    let lines = b"summary: 8 queries, 7 answered, 18446744073709551615 deliveries, 200000 rows\n\
+relevance: 9 reads, 5 evictions, 13 deliveries, 0 stops\n";
     assert_eq!(rt; out.as_slice(), lines.as_slice());
     Ok(())
 }

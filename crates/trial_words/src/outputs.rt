@@ -272,7 +272,9 @@ fn statements_are_printed_in_order(rt: HostRuntime) -> Result<(), Fail> {
         rows: 5,
     };
     let text =
-        b"query 1\nNULL, 10.25, 1\n'it''s', -0.05, 2\nrefused 2: wrong kind 'dept'\nquery 3\n1, 'it''s', 40.00\n2, NULL, NULL\nrefused 4: syntax\nrefused 5: read fault\nquery 6\n5\nsummary: 6 queries, 3 answered, 12 deliveries, 5 rows\nregister 0 1\ndeliver 0 1 2\n";
+        b"query 1\nNULL, 10.25, 1\n'it''s', -0.05, 2\nrefused 2: wrong kind 'dept'\nquery 3\n1, 'it''s', 40.00\n\
+2, NULL, NULL\nrefused 4: syntax\nrefused 5: read fault\nquery 6\n5\n\
+summary: 6 queries, 3 answered, 12 deliveries, 5 rows\nregister 0 1\ndeliver 0 1 2\n";
     let story = [
         Entry::Register {
             worker: 0,

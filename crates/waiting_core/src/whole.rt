@@ -5,7 +5,8 @@ pub fn never_do_all_sleep()
     ensures { NeverDoAllSleep }
 {}
 
-/// At each time of a run no worker has a query, or some worker may take a step, and not only out of its sleep by itself.
+/// At each time of a run no worker has a query, or some worker may take a step, and not only out of its sleep by
+/// itself.
 pub fn never_stands_still()
     ensures { NeverStandsStill }
 {}

@@ -63,7 +63,8 @@ const OVER_OTHER_TABLES: &[Case<'static>] = &[
     (
         "a.csv b.sql",
         ORDERS,
-        "SELECT l_returnflag, l_linestatus, COUNT(*), SUM(l_quantity) FROM t WHERE l_shipdate <= '1998-09-02' GROUP BY l_returnflag, l_linestatus;",
+        "SELECT l_returnflag, l_linestatus, COUNT(*), SUM(l_quantity) FROM t WHERE l_shipdate <= '1998-09-02' GROUP BY \
+l_returnflag, l_linestatus;",
         0,
         "query 1\n'N', 'O', 2, 53\n",
     ),
@@ -166,10 +167,13 @@ SELECT SUM(region) FROM t;
 
 const OF_THE_MANUAL: &[Case<'static>] = &[(
     "--summary a.csv b.sql",
-    "day,region,amount\n2026-01-05,north,120.50\n2026-01-05,south,80.00\n2026-01-06,north,\n2026-01-07,west,42.25\n2026-01-07,south,19.75\n",
+    "day,region,amount\n2026-01-05,north,120.50\n2026-01-05,south,80.00\n2026-01-06,north,\n2026-01-07,west,42.25\n\
+2026-01-07,south,19.75\n",
     REPORT,
     1,
-    "query 1\n'north', 2, 120.50\n'south', 2, 99.75\n'west', 1, 42.25\nquery 2\n'2026-01-05', 'north', 120.50\n'2026-01-05', 'south', 80.00\nquery 3\n'2026-01-05', '2026-01-07'\nrefused 4: wrong kind 'region'\nsummary: 4 queries, 3 answered, 3 deliveries, 5 rows\n",
+    "query 1\n'north', 2, 120.50\n'south', 2, 99.75\n'west', 1, 42.25\nquery 2\n'2026-01-05', 'north', 120.50\n\
+'2026-01-05', 'south', 80.00\nquery 3\n'2026-01-05', '2026-01-07'\nrefused 4: wrong kind 'region'\n\
+summary: 4 queries, 3 answered, 3 deliveries, 5 rows\n",
 )];
 
 #[test]

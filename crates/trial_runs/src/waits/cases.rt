@@ -1,7 +1,7 @@
 // What makes scans wait, in small.
 
-/// One run: its words, a statement and how often it stands in the batch, how many microseconds a get takes, and how many
-/// one query works on each chunk.
+/// One run: its words, a statement and how often it stands in the batch, how many microseconds a get takes, and how
+/// many one query works on each chunk.
 #[derive(Clone, Copy)]
 pub(super) struct Case<'a> {
     pub(super) words: &'a str,

@@ -1,4 +1,5 @@
-// Two scans by turns, on one thread. No load is underway when a call of a scan returns, so no turn of another one waits.
+// Two scans by turns, on one thread. No load is underway when a call of a scan returns, so no turn of another one
+// waits.
 use crate::notes::Saw;
 use crate::outcome::Outcome;
 use crate::pair::by_turns;
