@@ -21,12 +21,13 @@ use Rattle.interest_book.proofs.Inside.{ready_inside}
 use Rattle.scan_story.specs.declared.setting.Need as asked
 use Rattle.chunk_interest.specs.declared.need.Need.{Need}
 use Rattle.chunk_interest.specs.Fresh.{as_need}
+use Rattle.chunk_interest.specs.Follows.{AllMayFollow}
 use Rattle.chunk_interest.proofs.Needs.{need_small}
 use Rattle.chunk_interest.proofs.Kept.{keeps, active_registered, starved_active, target_inside, victim_inside}
 use Rattle.inspect_referee.proofs.Wholes.{over_registered}
 use Rattle.inspect_referee.specs.declared.rank.Choice.{Choice}
 use Rattle.inspect_referee.specs.declared.rank.Choice.TheVariants.{Trigger, Load, Delivery, Victim}
-use Rattle.inspect_referee.specs.Phases.{runs, is_over}
+use Rattle.inspect_referee.specs.Phases.{runs, is_over, has_begun}
 use Rattle.inspect_referee.specs.Ranks.{is_candidate}
 
 off : (x : Bool) → (x ≡ true → ⊥) → x ≡ false
@@ -72,17 +73,19 @@ phase_over h q = by (is_stopped h q) (is_ended h q) (is_registered h q)
     by false false true = refl
     by false false false = refl
 
-swapped : (a b : Bool) → (a || (b || false)) ≡ (b || a)
-swapped true true = refl
-swapped true false = refl
-swapped false true = refl
-swapped false false = refl
+-- who has ended or stopped was registered
+pub phase_begun : (s : Setting) (h : History) (q : ℕ) → AllMayFollow s h → has_begun (phase_of h q) ≡ is_registered h q
+phase_begun s h q followed = by (is_stopped h q) (is_ended h q) (is_registered h q) (over_registered s h q followed)
+  where
+    by : (t e r : Bool) → ((e || t) ≡ true → r ≡ true) → has_begun (if t then Stopped else (if e then Ended else (if r then Active else Waiting))) ≡ r
+    by true true r over = sym (over refl)
+    by true false r over = sym (over refl)
+    by false true r over = sym (over refl)
+    by false false true over = refl
+    by false false false over = refl
 
--- what some entry of a story does, some entry of its history does
-pub any_past : (p : Entry → Bool) (es : List Entry) → list_any p es ≡ list_any p (past es)
-any_past p [] = refl
-any_past p (e ∷ es) =
-    sym (ap (list_any p) (reverse-append (e ∷ []) es) ∙ (list_any-append p (past es) (e ∷ []) ∙ (ap (λ (b : Bool). b || (p e || false)) (sym (any_past p es)) ∙ swapped (list_any p es) (p e))))
+pub not_registered : (b : Book) (s : Setting) (h : History) (q : ℕ) → Stands b s h → 257 ≤ q → is_registered h q ≡ false
+not_registered b s h q st big = off (is_registered h q) (λ e. let le = registered_small b s h q st e in omega (arith, le, big))
 
 -- what is held is held by a worker of the list
 pub hold_is : (b : Book) (s : Setting) (h : History) (holds : List (Option Hold)) (w : ℕ) → Stands b s h → length holds ≡ 32 → AreHolds h holds → get_or holds w None ≡ held_by h w

@@ -8,3 +8,6 @@ pub mod Choosing
 pub mod Barring
 pub mod Judged
 pub mod Reading
+pub mod Nearing
+pub mod Settling
+pub mod Placing

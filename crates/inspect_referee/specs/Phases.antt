@@ -22,6 +22,13 @@ is_over Active = false
 is_over Ended = true
 is_over Stopped = true
 
+-- the query was registered
+abbrev pub has_begun : Phase → Bool
+has_begun Waiting = false
+has_begun Active = true
+has_begun Ended = true
+has_begun Stopped = true
+
 -- each query has ended or stopped, no load is underway, and no worker holds a chunk
 abbrev pub is_complete : Setting → History → Bool
 is_complete s h =

@@ -153,23 +153,6 @@ pub fn cursor_after(
     }
 }
 
-/// The chunk's place in the list, from 1; 0 where it isn't there.
-pub fn place_in(cursor: &[u64], c: u32) -> u64
-    ensures value { result ≡ place_in cursor.now c }
-    ensures bound { result ≤ length cursor.now }
-{
-    match cursor {
-        [] => 0,
-        [first, rest @ ..] => {
-            if *first == c as u64 {
-                return 1;
-            }
-            let place = place_in(rest, c);
-            if place == 0 { 0 } else { place + 1 }
-        }
-    }
-}
-
 /// Where the query's scan starts, under attach.
 pub fn start_of(cursor: &[u64], q: u32) -> u64
     ensures { result ≡ start_of cursor.now q }
@@ -178,11 +161,28 @@ pub fn start_of(cursor: &[u64], q: u32) -> u64
     if place == 0 { at(cursor, 0) } else { place - 1 }
 }
 
-/// How far the chunk is from the start, going up so many chunks and around.
-pub fn dist_from(chunks: u32, start: u64, c: u32) -> u64
+/// The chunk at which a way around so many chunks starts.
+pub fn first_chunk(chunks: u32, start: u64) -> u32
     requires { 0 < chunks }
-    ensures { result ≡ (c + chunks - start % chunks) % chunks }
+    ensures value { result ≡ start % chunks }
+    ensures inside { result < chunks }
 {
     let chunks = chunks as u64;
-    (c as u64 + chunks - start % chunks) % chunks
+    // Starts are mostly chunks, and to divide takes long.
+    if start < chunks {
+        return start as u32;
+    }
+    (start % chunks) as u32
+}
+
+/// How far the chunk is from the start, going up so many chunks and around.
+pub fn dist_from(chunks: u32, start: u64, c: u32) -> u64
+    requires { c < chunks }
+    ensures { result ≡ (c + chunks - start % chunks) % chunks }
+{
+    let start = first_chunk(chunks, start);
+    if c < start {
+        return c as u64 + chunks as u64 - start as u64;
+    }
+    (c - start) as u64
 }

@@ -23,3 +23,13 @@ pub fn is_over(phase: Phase) -> bool
         Phase::Ended | Phase::Stopped => true,
     }
 }
+
+/// Whether the query was registered.
+pub fn has_begun(phase: Phase) -> bool
+    ensures { result ≡ spec.has_begun phase }
+{
+    match phase {
+        Phase::Waiting => false,
+        Phase::Active | Phase::Ended | Phase::Stopped => true,
+    }
+}

@@ -1,11 +1,16 @@
 //! The ranks of candidates under each policy.
-ghost use Rattle.std.specs.Prelude.{◌≡◌, ◌<◌, ◌≤◌, true};
+ghost use Rattle.std.specs.Prelude.{◌≡◌, ◌<◌, ◌≤◌, ℕ, get_or, true, IfSome};
+ghost use Rattle.scan_story.specs.declared.setting.PolicyName.TheVariants as names;
 ghost use Rattle.scan_story.specs.Legal.{cursor_at};
-ghost use Rattle.scan_story.specs.Policies.{dist, reach};
+ghost use Rattle.scan_story.specs.MayFollow.{is_ready, is_target};
+ghost use Rattle.scan_story.specs.Policies.{dist, dist_from, place_in, reach};
+ghost use Rattle.relevance.specs.Least.{PicksLeast};
 ghost use Rattle.inspect_referee.specs.Ranks as spec;
 ghost use Rattle.inspect_referee.specs.Seen.{setting, seen, IsReading};
 
-use crate::cursor::{at, dist_from, place_in, start_of};
+use crate::cursor::{at, dist_from, first_chunk, start_of};
+use crate::nearest::nearest;
+use crate::places::places_in;
 use crate::rank::{Choice, Rank};
 use crate::referee::Referee;
 use relevance::{keep_ratio, load_ratio, query_rank, use_ratio};
@@ -15,7 +20,7 @@ impl Referee<'_> {
     // How far the chunk is from the elevator.
     fn dist(&self, c: u32) -> u64
         requires reading { IsReading self.now }
-        requires some { 0 < self.now.terms.now.chunks }
+        requires chunk { c < self.now.terms.now.chunks }
         ensures { result ≡ dist (setting self.now) (cursor_at (setting self.now) (seen self.now)) c }
     {
         dist_from(self.terms.chunks, at(&self.cursor, 0), c)
@@ -24,26 +29,66 @@ impl Referee<'_> {
     // How far the chunk is from where the query's scan starts, under attach.
     fn dist_of(&self, q: u32, c: u32) -> u64
         requires reading { IsReading self.now }
-        requires some { 0 < self.now.terms.now.chunks }
+        requires chunk { c < self.now.terms.now.chunks }
         ensures { result ≡ spec.from_start (setting self.now) (seen self.now) q c }
     {
         dist_from(self.terms.chunks, start_of(&self.cursor, q), c)
     }
 
+    /// The chunk to load for the query that is nearest to the start, going up and around.
+    pub fn nearest_target(&self, q: u32, start: u64) -> Option<u32>
+        requires reading { IsReading self.now }
+        requires query { q ≤ 256 }
+        ensures { PicksLeast (is_target (setting self.now) (seen self.now) q) (dist_from (setting self.now) start)
+            result }
+    {
+        if self.terms.chunks == 0 {
+            return None;
+        }
+        nearest(&self.book.targets(q), first_chunk(self.terms.chunks, start))
+    }
+
+    /// The chunk available to the query that is nearest to the start, going up and around.
+    pub fn nearest_ready(&self, q: u32, start: u64) -> Option<u32>
+        requires reading { IsReading self.now }
+        requires query { q ≤ 256 }
+        ensures { PicksLeast (is_ready (setting self.now) (seen self.now) q) (dist_from (setting self.now) start)
+            result }
+    {
+        if self.terms.chunks == 0 {
+            return None;
+        }
+        nearest(
+            &self.book.deliverable(q),
+            first_chunk(self.terms.chunks, start),
+        )
+    }
+
+    /// From where the policy looks for the query's next chunk; none under relevance, which goes by ratios.
+    pub fn start_for(&self, q: u32) -> Option<u64>
+        requires { IsReading self.now }
+        ensures { IfSome result (λ start. (y : ℕ) → y < self.now.terms.now.chunks
+            → spec.rank_of (setting self.now) (seen self.now) Choice.Delivery q y
+            ≡ Rank.Steps (dist_from (setting self.now) start y)) }
+    {
+        match self.terms.policy {
+            PolicyName::Relevance => None,
+            PolicyName::Elevator => Some(at(&self.cursor, 0)),
+            PolicyName::Normal => Some(0),
+            PolicyName::Attach => Some(start_of(&self.cursor, q)),
+        }
+    }
+
     // How far the elevator's nearest chunk to load for the query is.
-    #[tactic(auto, using(crate::proofs::Steps::least_below_more))]
     fn reach(&self, q: u32) -> u64
         requires reading { IsReading self.now }
         requires query { q ≤ 256 }
         ensures { result ≡ reach (setting self.now) (seen self.now) (cursor_at (setting self.now) (seen self.now)) q }
     {
-        let mut least = self.terms.chunks as u64;
-        for c in 0..self.terms.chunks {
-            if self.is_target(q, c) {
-                least = self.dist(c).min(least);
-            }
+        match self.nearest_target(q, at(&self.cursor, 0)) {
+            Some(c) => self.dist(c),
+            None => self.terms.chunks as u64,
         }
-        least
     }
 
     fn trigger_rank(&self, q: u32) -> Rank
@@ -86,9 +131,25 @@ impl Referee<'_> {
         }
     }
 
-    fn victim_rank(&self, c: u32) -> Rank
+    /// Under normal the place of each chunk in the cursor; else nothing that is asked for.
+    pub fn places(&self) -> [u64; 1024]
+        requires reading { IsReading self.now }
+        ensures { self.now.terms.now.policy ≡ names.Normal → (c : ℕ) → c < 1024 → get_or result c 0
+            ≡ place_in (cursor_at (setting self.now) (seen self.now)) c }
+    {
+        if let PolicyName::Normal = self.terms.policy {
+            return places_in(&self.cursor);
+        }
+        [0; 1024]
+    }
+
+    /// The rank of a victim, by the places of chunks.
+    pub fn victim_rank(&self, places: &[u64; 1024], c: u32) -> Rank
         requires reading { IsReading self.now }
         requires chunk { c < self.now.terms.now.chunks }
+        requires small { c < 1024 }
+        requires places { self.now.terms.now.policy ≡ names.Normal → get_or places.now c 0
+            ≡ place_in (cursor_at (setting self.now) (seen self.now)) c }
         ensures { result ≡ spec.rank_of (setting self.now) (seen self.now) Choice.Victim 0 c }
     {
         let close = self.book.close(c);
@@ -100,7 +161,7 @@ impl Referee<'_> {
             },
             PolicyName::Normal => Rank::Fitness {
                 close,
-                key: place_in(&self.cursor, c),
+                key: places[c as usize],
             },
             PolicyName::Attach => Rank::Fitness {
                 close,
@@ -134,7 +195,7 @@ impl Referee<'_> {
             Choice::Trigger => self.trigger_rank(x),
             Choice::Load => self.load_rank(q, x),
             Choice::Delivery => self.delivery_rank(q, x),
-            Choice::Victim => self.victim_rank(x),
+            Choice::Victim => self.victim_rank(&self.places(), x),
         }
     }
 }

@@ -3,7 +3,7 @@ ghost use Rattle.std.specs.Prelude.{◌≡◌, ◌==◌, ◌&&◌, ◌<◌, ◌�
 ghost use Rattle.std.specs.List.{list_any};
 ghost use Rattle.scan_story.specs.Counting.{is_number};
 ghost use Rattle.scan_story.specs.Setting.{IsSetting, worker_of};
-ghost use Rattle.scan_story.specs.Views.{is_active, is_registered, held_by, registers};
+ghost use Rattle.scan_story.specs.Views.{is_active, is_registered, held_by};
 ghost use Rattle.scan_story.specs.Loads.{is_free, is_load_by, underway};
 ghost use Rattle.scan_story.specs.Numbers.{is_starved, needed};
 ghost use Rattle.scan_story.specs.MayFollow.{Allowed, is_ready, is_target, is_trigger};
@@ -18,28 +18,13 @@ use crate::cursor::{cursor_after, first_cursor};
 use crate::holds::{held_in, no_holds, note_hold};
 use crate::load::{fills_frame, is_load_by, load_after};
 use crate::needs::{copied, worker_of};
-use crate::phase::runs;
+use crate::phase::{has_begun, runs};
 use crate::terms::Terms;
 use chunk_interest::Need;
 use interest_book::Book;
 use scan_story::{Entry, Hold, Load};
 use std::alloc::Global;
 use table_sets::Memory;
-
-fn registers(q: u32, entry: &Entry) -> bool
-    ensures { result ≡ registers q entry.now }
-{
-    match *entry {
-        Entry::Register { query, .. } => query == q,
-        _ => false,
-    }
-}
-
-fn any_registers(entries: &[Entry], q: u32) -> bool
-    ensures { result ≡ list_any (registers q) entries.now }
-{
-    entries.iter().any(|e| registers(q, e))
-}
 
 /// Reads a story entry by entry. The manager's book has the numbers; beside it stands what a book doesn't tell: the
 /// load underway piece by piece, for which query a chunk is held, and the policy's cursor.
@@ -134,13 +119,15 @@ impl<'a> Referee<'a> {
         })
     }
 
-    /// Whether the query has a Register. It looks through all entries that were read, once for each Register.
-    #[tactic(auto, using(crate::proofs::Bounds::any_past))]
+    /// Whether the query has a Register.
     pub fn is_registered(&self, q: u32) -> bool
         requires { IsReading self.now }
         ensures { result ≡ is_registered (seen self.now) q }
     {
-        any_registers(&self.entries[..self.place], q)
+        if q > 256 {
+            return false;
+        }
+        has_begun(self.book.phase(q))
     }
 
     /// Whether the query's need names the worker.
