@@ -76,7 +76,7 @@ const boxOf = scan => {
 };
 const number = (mark, name) => +mark.getAttribute(name);
 const isIn = (box, mark) => !box.shared && number(mark, 'y') === box.y + 230 && number(mark, 'x') >= box.x
-  && number(mark, 'x') + number(mark, 'width') <= box.x + box.width + 30;
+  && number(mark, 'x') + number(mark, 'width') <= box.x + box.width + 40;
 
 // The scan that stands out: its marks, its row, and a frame round its time.
 const life = document.createElementNS(svg.namespaceURI, 'rect');

@@ -6,4 +6,5 @@ mod Stays
 mod Steps
 mod Drawn
 mod Rowed
+mod Short
 mod Windows

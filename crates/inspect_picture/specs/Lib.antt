@@ -7,6 +7,7 @@ pub mod Titles
 pub mod Scales
 pub mod Extents
 pub mod Stretches
+pub mod Rows
 pub mod Windows
 pub mod Svg
 pub mod Trace

@@ -1,6 +1,6 @@
 -- The text of a picture: what marks are drawn as, and what stands around them. Lengths are tenths of a pixel.
-use Rattle.std.specs.Prelude.{◌+◌, ◌-◌, ◌*◌, ◌/◌, ◌==◌, ◌&&◌, ◌++◌, ℕ, zero, suc, max, min, nat_le, nat_lt, Bool}
-use Rattle.std.specs.Prelude.{List, [], ◌∷◌, codes, decimal, length, if◌then◌else◌}
+use Rattle.std.specs.Prelude.{◌≤◌, ◌+◌, ◌-◌, ◌*◌, ◌/◌, ◌==◌, ◌&&◌, ◌++◌, ℕ, zero, suc, max, min, nat_le, nat_lt}
+use Rattle.std.specs.Prelude.{Bool, not, List, [], ◌∷◌, codes, decimal, length, if◌then◌else◌}
 use Rattle.std.specs.List.{flat_map}
 use Rattle.scan_story.specs.declared.entry.Entry.{Entry}
 use Rattle.scan_story.specs.Spent.{reads, deliveries}
@@ -16,6 +16,7 @@ use Rattle.inspect_picture.specs.declared.scale.Scale.{Scale}
 use Rattle.inspect_picture.specs.declared.shape.Label.{Label}
 use Rattle.inspect_picture.specs.declared.shape.Label.TheVariants as label
 use Rattle.inspect_picture.specs.declared.shape.Strip.{Strip}
+use Rattle.inspect_picture.specs.declared.rows.TheConstants.{MOST_TITLES}
 use Rattle.inspect_picture.specs.declared.stretch.Stretch.{Stretch}
 use Rattle.inspect_picture.specs.Extents.{shown_count}
 use Rattle.inspect_picture.specs.Marks.{marks}
@@ -69,23 +70,18 @@ ink_text Red = codes "#e00000"
 abbrev pub shown : Scale → ℕ
 shown z = z.last - z.first
 
--- the title of a mark shows up under the pointer; where more than 10000 entries are shown there is none
-abbrev pub is_titled : Scale → Bool
-is_titled z = nat_le (shown z) 10000
-
 abbrev pub told_text : Stretch → List ℕ
 told_text g = if g.count == 1 then title_text g.mark
     else decimal g.count
     ++ (codes " marks up to entry " ++ (decimal g.last ++ (codes ", first: " ++ title_text g.mark)))
 
--- what stands in the element of marks that are drawn as one
+-- how the element of marks that are drawn as one ends: with a title, or without
 abbrev pub inside : Bool → Stretch → List ℕ
-inside titled g = if titled then codes "<title>" ++ (told_text g ++ codes "</title>") else []
+inside titled g = if titled then codes "><title>" ++ (told_text g ++ codes "</title></rect>\n") else codes "/>\n"
 
 abbrev pub element_text : Rect → Ink → Bool → Stretch → List ℕ
 element_text r ink titled g =
-    codes "<rect " ++
-    (rect_text r ++ (codes " fill='" ++ (ink_text ink ++ (codes "'>" ++ (inside titled g ++ codes "</rect>\n")))))
+    codes "<rect " ++ (rect_text r ++ (codes " fill='" ++ (ink_text ink ++ (codes "'" ++ inside titled g))))
 
 -- THE ELEMENT of marks that are drawn as one
 abbrev pub shape_text : Scale → Bool → Stretch → List ℕ
@@ -113,23 +109,41 @@ label_of (Given d) r = label.Number r.x r.y d.chunk
 label_of (Alive l) r = label.Query r.x r.y l.query
 label_of _ r = label.Blank
 
+-- one mark has room for its number
+abbrev pub has_room : Scale → Stretch → Bool
+has_room z g = g.count == 1 && nat_le 500 (rect_of z g).width
+
 -- where it has room
 abbrev pub label_text : Scale → Stretch → List ℕ
-label_text z g =
-    label_in (if g.count == 1 && nat_le 500 (rect_of z g).width then label_of g.mark (rect_of z g) else label.Blank)
+label_text z g = label_in (if has_room z g then label_of g.mark (rect_of z g) else label.Blank)
 
 -- a row, and the first of the rows, the lower ones drawn first
 abbrev pub row_text : Scale → Bool → List Stretch → List ℕ
 row_text z titled gs = flat_map (shape_text z titled) gs ++ flat_map (label_text z) gs
 
-unfoldable pub rows_text : Scale → List Mark → ℕ → List ℕ
-rows_text z ms zero = []
-rows_text z ms (suc k) = rows_text z ms k ++ row_text z (is_titled z) (stretches z k ms)
+unfoldable pub rows_text : Scale → Bool → List Mark → ℕ → List ℕ
+rows_text z titled ms zero = []
+rows_text z titled ms (suc k) = rows_text z titled ms k ++ row_text z titled (stretches z k ms)
 
 -- as how many the marks are drawn
 unfoldable pub drawn : Scale → List Mark → ℕ → ℕ
 drawn z ms zero = 0
 drawn z ms (suc k) = min (drawn z ms k + length (stretches z k ms)) 18446744073709551615
+
+-- on how many of them there is room for a number
+abbrev pub room_count : Scale → List Stretch → ℕ
+room_count z [] = 0
+room_count z (g ∷ gs) = (if has_room z g then 1 else 0) + room_count z gs
+
+-- A PICTURE IS SMALL: a row has few elements, and few numbers stand on them, so all rows have few
+pub record IsSmall (z : Scale) (ms : List Mark) : Type 0 where
+  pub elements : (row : ℕ) → length (stretches z row ms) ≤ 193
+  pub numbers : (row : ℕ) → room_count z (stretches z row ms) ≤ 15
+  pub all : drawn z ms 114 ≤ 22002
+
+-- the title of an element shows up under the pointer; where there are more elements than this there is none
+abbrev pub is_titled : Scale → List Mark → Bool
+is_titled z ms = nat_le (drawn z ms 114) MOST_TITLES
 
 -- Guides: when and for whom
 
@@ -256,25 +270,26 @@ range_text part first last =
     if part then codes "Entries " ++ (decimal first ++ (codes " to " ++ (decimal last ++ codes " are shown. "))) else []
 
 -- how lanes are shared, and whether titles are left out
-unfoldable pub sharing_text : Scale → List ℕ
-sharing_text z =
+unfoldable pub sharing_text : Scale → Bool → List ℕ
+sharing_text z titled =
     phrase (nat_lt 16 (worker_count z)) (codes "The workers share 16 lanes. ")
     ++ (phrase (nat_lt 32 (frame_count z)) (codes "The frames share 32 lanes. ")
-    ++ phrase (nat_lt 10000 (shown z)) (codes "Nothing is told under the pointer for more than 10000 entries."))
+    ++ phrase (not titled) (codes "Too much is drawn to be told under the pointer: show fewer entries."))
 
-unfoldable pub notes_in : Bool → ℕ → ℕ → Scale → List ℕ
-notes_in part first last z =
+unfoldable pub notes_in : Bool → ℕ → ℕ → Scale → Bool → List ℕ
+notes_in part first last z titled =
     codes "<text x='1000' y='1090' fill='#5a6478'>"
-    ++ (range_text part first last ++ (sharing_text z ++ codes "</text>\n"))
+    ++ (range_text part first last ++ (sharing_text z titled ++ codes "</text>\n"))
 
 -- what of it is shown, and how
-abbrev pub notes_text : Scale → List ℕ
-notes_text z = notes_in (nat_le (shown z) z.entries) z.first (z.last - 1) z
+abbrev pub notes_text : Scale → Bool → List ℕ
+notes_text z titled = notes_in (nat_le (shown z) z.entries) z.first (z.last - 1) z titled
 
 unfoldable pub head_text : Head → List ℕ
 head_text h =
     opening_text (lanes_end h.scale + 460) ++ (counts_text h.scale.entries h.reads h.deliveries
-    ++ (hues_text ++ (colours_text h.scale.last_chunk ++ (lanes_text (evictions_top h.scale) ++ notes_text h.scale))))
+    ++ (hues_text ++ (colours_text h.scale.last_chunk
+    ++ (lanes_text (evictions_top h.scale) ++ notes_text h.scale h.titled))))
 
 -- the title of the axis
 unfoldable pub axis_text : ℕ → List ℕ
@@ -293,14 +308,14 @@ foot_in y marks drawn = axis_text y ++ (merged_text marks drawn ++ codes "</svg>
 abbrev pub foot_text : Scale → ℕ → ℕ → List ℕ
 foot_text z marks drawn = foot_in (lanes_end z) marks drawn
 
-abbrev pub head : Scale → List Entry → Head
-head z entries = record { scale = z; reads = reads entries; deliveries = deliveries entries }
+abbrev pub head : Scale → List Entry → Bool → Head
+head z entries titled = record { scale = z; reads = reads entries; deliveries = deliveries entries; titled = titled }
 
 -- the picture with this scale of a story with these marks
 abbrev pub picture_of : Scale → List Entry → List Mark → List ℕ
 picture_of z entries ms =
-    head_text (head z entries)
-    ++ (guides z 32 ++ (rows_text z ms 114 ++ foot_text z (shown_count z ms) (drawn z ms 114)))
+    head_text (head z entries (is_titled z ms))
+    ++ (guides z 32 ++ (rows_text z (is_titled z ms) ms 114 ++ foot_text z (shown_count z ms) (drawn z ms 114)))
 
 -- THE PICTURE OF A STORY, of the entries from and to these: the head, the guides, the marks row by row, and the foot
 abbrev pub picture_part : ℕ → ℕ → ℕ → List Entry → List ℕ

@@ -1,17 +1,19 @@
-ghost use Rattle.std.specs.Prelude.{◌≡◌, ◌≤◌, ◌^◌, ◌+◌, ◌++◌, length, min, IfOk, OnOk};
+ghost use Rattle.std.specs.Prelude.{◌≡◌, ◌≤◌, ◌^◌, ◌++◌, List, length, nat_le, IfOk, OnOk};
 ghost use Rattle.std.specs.List.{flat_map};
 ghost use Rattle.std.specs.String.{string_bytes};
 ghost use Rattle.inspect_picture.specs.Marks.{marks};
-ghost use Rattle.inspect_picture.specs.Svg.{drawn, guides, head, head_text, is_titled, label_text, picture};
-ghost use Rattle.inspect_picture.specs.Svg.{picture_of, picture_part, row_text, rows_text, shape_text};
+ghost use Rattle.inspect_picture.specs.Rows.{AreRows};
+ghost use Rattle.inspect_picture.specs.Svg.{guides, head, head_text, label_text, picture, picture_of, picture_part};
+ghost use Rattle.inspect_picture.specs.Svg.{row_text, rows_text, shape_text};
+ghost use Rattle.inspect_picture.specs.declared.mark.Mark.{Mark};
+ghost use Rattle.inspect_picture.specs.declared.rows.TheConstants.{MOST_TITLES};
 
 use crate::counts::{deliveries, reads, shown_in};
 use crate::guide::guides_at;
 use crate::head::{Head, foot_of};
-use crate::lanes::ROWS;
 use crate::mark::Mark;
 use crate::marks::marks_of;
-use crate::rows::stretches_in;
+use crate::rows::{MOST_TITLES, drawn_in, row_at, rows_of};
 use crate::scale::{Scale, scale_of};
 use crate::shape::{label_of, shape_of};
 use crate::stretch::Stretch;
@@ -78,45 +80,46 @@ fn write_row(
     }
 }
 
-// Whether marks have titles.
-fn is_titled(scale: &Scale) -> bool
-    ensures { result ≡ is_titled scale.now }
+// Whether so many elements have titles.
+fn is_titled(drawn: u64) -> bool
+    ensures { result ≡ nat_le drawn MOST_TITLES }
 {
-    scale.shown() <= 10000
+    drawn <= MOST_TITLES
 }
 
-// Puts all rows at the end, and answers as how many the marks are drawn.
-fn write_rows(alloc: Global, svg: &mut String, scale: &Scale, all: &[Mark]) -> Result<u64, Memory>
-    requires groups { 1 ≤ scale.now.groups }
-    ensures text { OnOk result (string_bytes svg.new ≡ string_bytes svg.old ++ rows_text scale.now all.now 114) }
-    ensures drawn { IfOk result (λ count. count ≡ drawn scale.now all.now 114) }
+// Puts all rows at the end.
+fn write_rows(
+    svg: &mut String,
+    scale: &Scale,
+    titled: bool,
+    rows: &[Vec<Stretch>],
+) -> Result<(), Memory>
+    requires count { length rows.now ≡ 114 }
+    ensures { OnOk result ((ms : List Mark) → AreRows scale.now ms rows.now
+        → string_bytes svg.new ≡ string_bytes svg.old ++ rows_text scale.now titled ms 114) }
 {
-    let titled = is_titled(scale);
-    let mut drawn = 0;
-    for row in 0..ROWS {
-        let stretches = stretches_in(alloc, scale, row, all)?;
-        write_row(svg, scale, titled, &stretches)?;
-        drawn = more_drawn(drawn, stretches.len());
+    for place in 0..114 {
+        write_row(svg, scale, titled, row_at(rows, place))?;
     }
-    Ok(drawn)
-}
-
-fn more_drawn(drawn: u64, more: usize) -> u64
-    ensures { result ≡ min (drawn + more) 18446744073709551615 }
-{
-    drawn.saturating_add(more as u64)
+    Ok(())
 }
 
 // Puts what stands before the marks at the end.
-fn write_front(svg: &mut String, entries: &[Entry], scale: &Scale) -> Result<(), AllocError>
+fn write_front(
+    svg: &mut String,
+    entries: &[Entry],
+    scale: &Scale,
+    titled: bool,
+) -> Result<(), AllocError>
     requires size { length entries.now ≤ 2 ^ 30 }
     ensures { OnOk result (string_bytes svg.new ≡ string_bytes svg.old
-        ++ (head_text (head scale.now entries.now) ++ guides scale.now 32)) }
+        ++ (head_text (head scale.now entries.now titled) ++ guides scale.now 32)) }
 {
     let head = Head {
         scale: *scale,
         reads: reads(entries),
         deliveries: deliveries(entries),
+        titled,
     };
     write!(svg, "{head}")?;
     write_guides(svg, scale)
@@ -134,10 +137,13 @@ fn write_picture(
     requires size { length entries.now ≤ 2 ^ 30 }
     ensures { OnOk result (string_bytes svg.new ≡ string_bytes svg.old ++ picture_of scale.now entries.now all.now) }
 {
-    if write_front(svg, entries, scale).is_err() {
+    let rows = rows_of(alloc, scale, all)?;
+    let drawn = drawn_in(&rows);
+    let titled = is_titled(drawn);
+    if write_front(svg, entries, scale, titled).is_err() {
         return Err(Memory);
     }
-    let drawn = write_rows(alloc, svg, scale, all)?;
+    write_rows(svg, scale, titled, &rows)?;
     let foot = foot_of(scale, shown_in(scale, all), drawn);
     match write!(svg, "{foot}") {
         Ok(()) => Ok(()),

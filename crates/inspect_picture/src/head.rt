@@ -8,12 +8,13 @@ ghost use Rattle.inspect_picture.specs.Svg.{opening_text, phrase, range_text, sh
 use crate::scale::Scale;
 use std::fmt;
 
-// The scale of a story, and how many reads and deliveries it has.
+// The scale of a story, how many reads and deliveries it has, and whether what is drawn has titles.
 #[derive(Clone, Copy, Debug, PartialEq, Eq)]
 pub(crate) struct Head {
     pub(crate) scale: Scale,
     pub(crate) reads: u32,
     pub(crate) deliveries: u32,
+    pub(crate) titled: bool,
 }
 
 #[derive(Clone, Copy)]
@@ -205,10 +206,11 @@ impl fmt::Display for Range {
 #[derive(Clone, Copy)]
 struct Sharing {
     scale: Scale,
+    titled: bool,
 }
 
 impl fmt::Display for Sharing {
-    ghost output = { λ s. Some (sharing_text s.scale) };
+    ghost output = { λ s. Some (sharing_text s.scale s.titled) };
 
     #[tactic(auto, unfolding(crate::specs::Svg::sharing_text))]
     fn fmt<W: fmt::Write>(&self, f: &mut fmt::Formatter<W>) -> fmt::Result {
@@ -218,8 +220,8 @@ impl fmt::Display for Sharing {
         );
         let frames = phrase(self.scale.frame_count() > 32, "The frames share 32 lanes. ");
         let titles = phrase(
-            self.scale.shown() > 10000,
-            "Nothing is told under the pointer for more than 10000 entries.",
+            !self.titled,
+            "Too much is drawn to be told under the pointer: show fewer entries.",
         );
         write!(f, "{workers}{frames}{titles}")
     }
@@ -232,7 +234,7 @@ struct Notes {
 }
 
 impl fmt::Display for Notes {
-    ghost output = { λ n. Some (notes_in n.range.shown n.range.first n.range.last n.sharing.scale) };
+    ghost output = { λ n. Some (notes_in n.range.shown n.range.first n.range.last n.sharing.scale n.sharing.titled) };
 
     #[tactic(auto, unfolding(crate::specs::Svg::notes_in))]
     fn fmt<W: fmt::Write>(&self, f: &mut fmt::Formatter<W>) -> fmt::Result {
@@ -246,9 +248,9 @@ impl fmt::Display for Notes {
 
 impl Scale {
     // What of it is shown, and how.
-    fn notes(&self) -> Notes
+    fn notes(&self, titled: bool) -> Notes
         ensures { notes_in result.range.shown result.range.first result.range.last result.sharing.scale
-            ≡ notes_text self.now }
+            result.sharing.titled ≡ notes_text self.now titled }
     {
         Notes {
             range: Range {
@@ -256,7 +258,10 @@ impl Scale {
                 first: self.first,
                 last: self.last.saturating_sub(1),
             },
-            sharing: Sharing { scale: *self },
+            sharing: Sharing {
+                scale: *self,
+                titled,
+            },
         }
     }
 }
@@ -348,7 +353,7 @@ impl fmt::Display for Head {
         let lanes = Lanes {
             evictions: scale.evictions_top(),
         };
-        let notes = scale.notes();
+        let notes = scale.notes(self.titled);
         let hues = Hues;
         write!(f, "{opening}{counts}{hues}")?;
         write!(f, "{colours}{lanes}{notes}")

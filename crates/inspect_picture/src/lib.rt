@@ -43,5 +43,5 @@ pub use reading::Reading;
 pub use trace::{TraceRefusal, story_of_output};
 pub use view::View;
 pub use whole_pictures::{
-    bars_are_stays, deliveries_are_marks, marks_are_drawn, windows_are_parts,
+    bars_are_stays, deliveries_are_marks, marks_are_drawn, pictures_are_small, windows_are_parts,
 };

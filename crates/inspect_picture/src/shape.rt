@@ -96,7 +96,7 @@ impl fmt::Display for Told {
     }
 }
 
-// What stands in their element: the title, where there is one.
+// How their element ends: with a title, where there is to be one.
 #[derive(Clone, Copy)]
 struct Inside {
     titled: bool,
@@ -109,8 +109,8 @@ impl fmt::Display for Inside {
     fn fmt<W: fmt::Write>(&self, f: &mut fmt::Formatter<W>) -> fmt::Result {
         let told = self.told;
         match self.titled {
-            true => write!(f, "<title>{told}</title>"),
-            false => Ok(()),
+            true => write!(f, "><title>{told}</title></rect>\n"),
+            false => write!(f, "/>\n"),
         }
     }
 }
@@ -135,7 +135,7 @@ impl fmt::Display for Shape {
                 stretch: self.stretch,
             },
         };
-        write!(f, "<rect {rect} fill='{ink}'>{inside}</rect>\n")
+        write!(f, "<rect {rect} fill='{ink}'{inside}")
     }
 }
 

@@ -10,8 +10,8 @@ use crate::scale::Scale;
 /// What is narrower than this, 5 pixels, is drawn as one with what it touches.
 pub(crate) const NARROW: u64 = 50;
 
-/// So wide, 3 pixels, is a mark drawn at least.
-pub(crate) const LEAST_WIDTH: u64 = 30;
+/// So wide, 4 pixels, is a mark drawn at least.
+pub(crate) const LEAST_WIDTH: u64 = 40;
 
 /// Marks that lie so near to each other, a pixel, may be drawn as one.
 pub(crate) const NEAR: u64 = 10;
@@ -89,7 +89,7 @@ impl Scale {
     // Where it ends, as it is drawn.
     pub(crate) fn x_to(&self, mark: Mark) -> u64
         ensures at { result ≡ x_to self.now mark }
-        ensures small { result ≤ 8730 }
+        ensures small { result ≤ 8740 }
     {
         self.x_at(mark.last()).max(self.x_from(mark) + LEAST_WIDTH)
     }

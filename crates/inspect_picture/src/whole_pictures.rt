@@ -11,6 +11,7 @@ ghost use Rattle.inspect_picture.specs.Stretches.{AllHeld, AreParted, stretches}
 ghost use Rattle.inspect_picture.specs.declared.mark.Mark.{Mark};
 ghost use Rattle.inspect_picture.specs.declared.scale.Scale.{Scale};
 ghost use Rattle.inspect_picture.specs.Over.{listed, pieces_over};
+ghost use Rattle.inspect_picture.specs.Svg.{IsSmall};
 ghost use Rattle.inspect_picture.specs.Windows.{AllShown, IsWindowOf};
 
 /// The bars of a story are the stays of its pieces: behind each number of entries, the bars in the lane of a frame
@@ -38,6 +39,13 @@ pub fn deliveries_are_marks()
 pub fn marks_are_drawn()
     ensures held { (z : Scale) (row : ℕ) (ms : List Mark) → AllHeld z row (stretches z row ms) ms }
     ensures parted { (z : Scale) (row : ℕ) (ms : List Mark) → AreParted z row ms }
+{}
+
+/// What is drawn of a story is little, however long it is: at most 193 elements in a row, and at most 15 numbers on
+/// them.
+/// A law: it does nothing.
+pub fn pictures_are_small()
+    ensures { (z : Scale) (ms : List Mark) → IsSmall z ms }
 {}
 
 /// A picture of the entries from and to some numbers shows, of the marks of the whole story, just those that touch

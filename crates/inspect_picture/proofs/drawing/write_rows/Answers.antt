@@ -1,21 +1,15 @@
 use Rattle.std.proofs.Common.{◌∙◌, ◌++◌, arith, sym, ap}
 use Rattle.std.proofs.lemmas.List.{append-nil}
 use Rattle.std.specs.String.{string_bytes}
-use Rattle.inspect_picture.proofs.Rowed.{drawn_more, no_rows, none_drawn, text_more}
+use Rattle.inspect_picture.proofs.Rowed.{no_rows, text_more}
 use Rattle.inspect_picture.proofs.drawing.write_rows.Goals as goal
 
-pub loop-row-init : goal.loop-row-init
-loop-row-init c =
+pub loop-place-init : goal.loop-place-init
+loop-place-init c = λ ms rows.
     let before = string_bytes c.args.svg.now in
-    record {
-      text = sym (ap (λ t. before ++ t) (no_rows c.args.scale.now c.args.all.now) ∙ append-nil before);
-      drawn = sym (none_drawn c.args.scale.now c.args.all.now);
-    }
+    sym (ap (λ t. before ++ t) (no_rows c.args.scale.now c.args.titled ms) ∙ append-nil before)
 
-pub loop-row-preserved : goal.loop-row-preserved
-loop-row-preserved c =
-    let z = c.args.scale.now in let ms = c.args.all.now in let k = c.loop-row.row in
-    record {
-      text = text_more z ms k _ _ _ _ _ c.loop-row.invariant.text c.is_titled-titled.ensures (c.deref.ensures.value ∙ c.in_ok-stretches.ensures.stretches) c.in_ok-write_row.ensures;
-      drawn = drawn_more z ms k _ _ _ _ c.loop-row.invariant.drawn c.in_ok-stretches.ensures.stretches (omega (arith, c.len.ensures)) c.more_drawn-drawn.ensures;
-    }
+pub loop-place-preserved : goal.loop-place-preserved
+loop-place-preserved c = λ ms rows.
+    text_more c.args.scale.now c.args.titled ms c.loop-place.place _ _ _ _ (c.loop-place.invariant ms rows)
+    (c.row_at.ensures ∙ rows.each c.loop-place.place (omega (arith, c.loop-place-test.true))) c.in_ok-write_row.ensures

@@ -1,10 +1,10 @@
-use Rattle.std.proofs.Common.{◌≡◌, ◌++◌}
+use Rattle.std.proofs.Common.{◌≡◌, ◌++◌, List}
 use Rattle.std.specs.String.{string_bytes}
-use Rattle.inspect_picture.specs.Svg.{drawn, rows_text}
+use Rattle.inspect_picture.specs.Rows.{AreRows}
+use Rattle.inspect_picture.specs.Svg.{rows_text}
+use Rattle.inspect_picture.specs.declared.mark.Mark.{Mark}
 use Rattle.inspect_picture.proofs.drawing.write_rows.Given as goal
 
-abbrev pub invariant-loop-row : goal.invariant-loop-row
-invariant-loop-row l = record {
-  text : string_bytes l.svg ≡ string_bytes l.initial.svg ++ rows_text l.scale l.all l.row;
-  drawn : l.drawn ≡ drawn l.scale l.all l.row;
-}
+abbrev pub invariant-loop-place : goal.invariant-loop-place
+invariant-loop-place l = (ms : List Mark) → AreRows l.scale ms l.rows
+    → string_bytes l.svg ≡ string_bytes l.initial.svg ++ rows_text l.scale l.titled ms l.place
