@@ -1,5 +1,5 @@
 """A small engine of another kind, for scripts/judge-stories: it plays the manager's rules with choices that are drawn, and
-deals its queries to workers as it likes. `story_of` gives the text of a setting in which choices are free, and the lines
+deals its queries to workers as it likes. Now and then a read fails, and a query is given up. `story_of` gives the text of a setting in which choices are free, and the lines
 of a whole story in it.
 """
 
@@ -11,7 +11,7 @@ class Engine:
         self.draw, self.workers, self.chunks, self.groups, self.needs = draw, workers, chunks, groups, needs
         self.frames = [None] * ((3 * workers + 1) * groups + spare)
         self.active, self.left = {}, {query: set(need[0]) for query, need in needs.items()}
-        self.waiting, self.holds, self.load, self.story = sorted(needs), {}, None, []
+        self.waiting, self.holds, self.load, self.story, self.faults = sorted(needs), {}, None, [], 0
 
     def pieces(self, query, chunk):
         columns = self.needs[query][1] if self.groups > 1 else [0]
@@ -48,10 +48,24 @@ class Engine:
             self.say("fill", worker, frame, piece)
         else:
             frame, piece = self.draw.choice([it for it in load["begun"] if it[1] not in self.frames])
+            if self.draw.random() < 0.02:
+                self.fail(piece)
+                return
             self.frames[frame] = piece
             self.say("filled", worker, frame, piece)
             if all(p in self.frames for p in begun):
                 self.load = None
+
+    def fail(self, piece):
+        """The read of the piece fails, by which the load's query is given up."""
+        worker, query, before = self.load["worker"], self.load["query"], self.faults + self.draw.randrange(3)
+        why = ("damage", self.draw.randrange(64))
+        if self.draw.random() < 0.7:
+            self.faults = before + self.draw.randint(1, 3)
+            why = ("fault", before, self.faults)
+        self.say("failed", worker, query, piece, *why)
+        self.load, self.left[query] = None, set()
+        self.active = {who: q for who, q in self.active.items() if q != query}
 
     def frames_of(self, chunk):
         return [f for f, piece in enumerate(self.frames) if piece is not None and piece // self.groups == chunk]
@@ -64,6 +78,10 @@ class Engine:
             if self.waiting:
                 self.active[worker] = self.waiting.pop(self.draw.randrange(len(self.waiting)))
                 self.say("register", worker, self.active[worker])
+        elif self.draw.random() < 0.01:
+            query = self.active.pop(worker)
+            self.left[query] = set()
+            self.say("stop", worker, query)
         elif not self.left[self.active[worker]]:
             self.say("end", worker, self.active.pop(worker))
         elif self.load is None and self.starved() and self.draw.random() < 0.6:
@@ -81,7 +99,7 @@ class Engine:
         if targets:
             chunk = self.draw.choice(targets)
             missing = [p for p in self.pieces(query, chunk) if p not in self.frames]
-            self.load = {"worker": worker, "chunk": chunk, "missing": missing, "begun": []}
+            self.load = {"worker": worker, "query": query, "chunk": chunk, "missing": missing, "begun": []}
             self.say("plan", worker, query, chunk)
 
     def run(self):
