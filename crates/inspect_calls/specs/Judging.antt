@@ -13,21 +13,21 @@ use Rattle.inspect_calls.specs.Replies.{IsAnswer, IsMemory, IsStop}
 use Rattle.inspect_calls.specs.Verdicts.{IsVerdictText, verdict_status}
 use Rattle.inspect_calls.specs.declared.reply.Reply.{Reply}
 
--- the verdict is told with its status, or memory ran out
-pub record IsTextTold (v : Verdict) (reply : Reply) : Type 0 where
+-- the verdict on OUTPUT is told with its status, or memory ran out
+pub record IsTextTold (out : List ℕ) (v : Verdict) (reply : Reply) : Type 0 where
   pub text : List ℕ
-  pub is : IsVerdictText v text
+  pub is : IsVerdictText out v text
   pub answer : IsAnswer (verdict_status v) text reply
 
-abbrev pub IsVerdictTold : Verdict → Reply → Type 0
-IsVerdictTold v reply = IsTextTold v reply ⊎ IsMemory reply
+abbrev pub IsVerdictTold : List ℕ → Verdict → Reply → Type 0
+IsVerdictTold out v reply = IsTextTold out v reply ⊎ IsMemory reply
 
 -- the verdict on a text is told, or memory ran out
 pub record IsOfVerdict (i : Inputs) (policy : PolicyName) (scratch : Bool) (text : List ℕ) (reply : Reply)
     : Type 0 where
   pub verdict : Verdict
   pub is : IsVerdict i policy scratch text verdict
-  pub told : IsVerdictTold verdict reply
+  pub told : IsVerdictTold text verdict reply
 
 abbrev pub IsJudgementOf : Inputs → PolicyName → Bool → List ℕ → Reply → Type 0
 IsJudgementOf i policy scratch text reply = IsOfVerdict i policy scratch text reply ⊎ IsMemory reply

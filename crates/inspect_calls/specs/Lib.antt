@@ -6,6 +6,7 @@ pub mod Drawing
 pub mod Placing
 pub mod Telling
 pub mod Explaining
+pub mod Excerpts
 pub mod Reasons
 pub mod Verdicts
 pub mod Judging

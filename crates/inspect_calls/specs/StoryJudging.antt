@@ -6,24 +6,24 @@ use Rattle.inspect_story.specs.declared.freedom.Freedom.{Freedom}
 use Rattle.inspect_story.specs.declared.verdict.StoryVerdict.{StoryVerdict}
 use Rattle.inspect_calls.specs.Output.{IsReadAs, IsUnreadOf}
 use Rattle.inspect_calls.specs.Replies.{IsMemory}
-use Rattle.inspect_calls.specs.StoryVerdicts.{is_refusal, verdict_status, verdict_text}
+use Rattle.inspect_calls.specs.StoryVerdicts.{IsVerdictText, is_refusal, verdict_status}
 use Rattle.inspect_calls.specs.declared.file.File.TheVariants as file
 use Rattle.inspect_calls.specs.declared.reply.Reply.{Reply}
 
--- the verdict is told with its status, on standard error where the setting is refused
-pub record IsVerdictSaid (v : StoryVerdict) (reply : Reply) : Type 0 where
-  pub says : reply.text.items ≡ verdict_text v
+-- the verdict on STORY is told with its status, on standard error where the setting is refused
+pub record IsVerdictSaid (story : List ℕ) (v : StoryVerdict) (reply : Reply) : Type 0 where
+  pub says : IsVerdictText story v reply.text.items
   pub ends : reply.status ≡ verdict_status v
   pub goes : reply.is_fault ≡ is_refusal v
 
-abbrev pub IsStoryTold : StoryVerdict → Reply → Type 0
-IsStoryTold v reply = IsVerdictSaid v reply ⊎ IsMemory reply
+abbrev pub IsStoryTold : List ℕ → StoryVerdict → Reply → Type 0
+IsStoryTold story v reply = IsVerdictSaid story v reply ⊎ IsMemory reply
 
 -- the verdict on the texts of a setting and a story is told, or memory ran out
 pub record IsOfTexts (f : Freedom) (setting story : List ℕ) (reply : Reply) : Type 0 where
   pub verdict : StoryVerdict
   pub is : IsStoryVerdict f setting story verdict
-  pub told : IsStoryTold verdict reply
+  pub told : IsStoryTold story verdict reply
 
 abbrev pub AreJudged : Freedom → List ℕ → List ℕ → Reply → Type 0
 AreJudged f setting story reply = IsOfTexts f setting story reply ⊎ IsMemory reply

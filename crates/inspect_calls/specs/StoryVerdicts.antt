@@ -1,5 +1,5 @@
 -- The text of a verdict on a story in a setting.
-use Rattle.std.specs.Prelude.{◌++◌, ℕ, Bool, true, false, List, [], codes, decimal}
+use Rattle.std.specs.Prelude.{◌≡◌, ◌++◌, ℕ, Bool, true, false, List, [], codes, decimal}
 use Rattle.setting_text.specs.declared.fault.HeadRule.{HeadRule}
 use Rattle.setting_text.specs.declared.fault.HeadRule.TheVariants as head
 use Rattle.setting_text.specs.declared.fault.NeedRule.{NeedRule}
@@ -9,7 +9,9 @@ use Rattle.setting_text.specs.declared.fault.SettingFault.TheVariants as fault
 use Rattle.inspect_referee.specs.declared.counts.Counts.{Counts}
 use Rattle.inspect_story.specs.declared.verdict.StoryVerdict.{StoryVerdict}
 use Rattle.inspect_story.specs.declared.verdict.StoryVerdict.TheVariants as verdict
-use Rattle.inspect_calls.specs.Verdicts.{counts_text, illegal_text}
+use Rattle.inspect_verdict.specs.Lines.{line_in}
+use Rattle.inspect_calls.specs.Excerpts.{TellsFound}
+use Rattle.inspect_calls.specs.Verdicts.{counts_text, illegal_words}
 
 -- what the first line of a setting breaks
 abbrev pub head_words : HeadRule → List ℕ
@@ -51,21 +53,35 @@ setting_fault_text fault.Memory = []
 abbrev pub right_text : ℕ → Counts → List ℕ
 right_text entries c = counts_text c (codes "legal: " ++ (decimal entries ++ codes " entries")) ++ codes "\n"
 
-abbrev pub fell_text : ℕ → ℕ → List ℕ
-fell_text line last =
+abbrev pub fell_words : ℕ → ℕ → List ℕ
+fell_words line last =
     codes "not legal: line " ++ (decimal line
-    ++ (codes " may not come: the count of faults had come to " ++ (decimal last ++ codes " before\n")))
+    ++ (codes " may not come: the count of faults had come to " ++ (decimal last ++ codes " before")))
 
--- the lines of a verdict
-abbrev pub verdict_text : StoryVerdict → List ℕ
-verdict_text (verdict.Legal entries counts) = right_text entries counts
-verdict_text (verdict.NoSetting f) = setting_fault_text f
-verdict_text (verdict.NotStory line) = codes "not legal: line " ++ (decimal line ++ codes " is no entry\n")
-verdict_text (verdict.Illegal line reason) = illegal_text line reason
-verdict_text (verdict.CountFell line last) = fell_text line last
-verdict_text (verdict.NotWhole line) =
-    codes "not legal: a query isn't over, or something is left open, at the end before line "
-    ++ (decimal line ++ codes "\n")
+-- the words of a verdict that is a no
+abbrev pub verdict_words : StoryVerdict → List ℕ
+verdict_words (verdict.Legal entries counts) = []
+verdict_words (verdict.NoSetting f) = []
+verdict_words (verdict.NotStory line) = codes "not legal: line " ++ (decimal line ++ codes " is no entry")
+verdict_words (verdict.Illegal line reason) = illegal_words line reason
+verdict_words (verdict.CountFell line last) = fell_words line last
+verdict_words (verdict.NotWhole line) =
+    codes "not legal: a query isn't over, or something is left open, at the end before line " ++ decimal line
+
+-- the line of STORY that it tells
+abbrev pub verdict_line : StoryVerdict → ℕ
+verdict_line (verdict.Legal entries counts) = 0
+verdict_line (verdict.NoSetting f) = 0
+verdict_line (verdict.NotStory line) = line
+verdict_line (verdict.Illegal line reason) = line
+verdict_line (verdict.CountFell line last) = line
+verdict_line (verdict.NotWhole line) = line
+
+-- the lines of a verdict on STORY: of a no its words, and what stands in the line
+abbrev pub IsVerdictText : List ℕ → StoryVerdict → List ℕ → Type 0
+IsVerdictText story (verdict.Legal entries counts) text = text ≡ right_text entries counts
+IsVerdictText story (verdict.NoSetting f) text = text ≡ setting_fault_text f
+IsVerdictText story v text = TellsFound (verdict_words v) (line_in (verdict_line v) story) text
 
 -- 0 for yes, 1 for no, and 3 where the setting is refused
 abbrev pub verdict_status : StoryVerdict → ℕ

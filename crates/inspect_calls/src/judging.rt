@@ -80,15 +80,15 @@ fn judged(alloc: Global, inputs: &Inputs, run: &Request<'_>, text: &[u8]) -> Rep
     ensures { IsJudgementOf inputs.now run.now.policy (is_some (request_view run.now).scratch) text.now result }
 {
     match verdict_for(alloc, inputs, run, text) {
-        Ok(verdict) => told(alloc, &verdict),
+        Ok(verdict) => told(alloc, &verdict, text),
         Err(_) => Reply::memory(alloc),
     }
 }
 
-fn told(alloc: Global, verdict: &Verdict) -> Reply
-    ensures { IsVerdictTold verdict.now result }
+fn told(alloc: Global, verdict: &Verdict, output: &[u8]) -> Reply
+    ensures { IsVerdictTold output.now verdict.now result }
 {
-    match text_of(alloc, verdict) {
+    match text_of(alloc, verdict, output) {
         Ok(text) => Reply::answer(status_of(verdict), text),
         Err(_) => Reply::memory(alloc),
     }

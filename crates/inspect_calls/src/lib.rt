@@ -8,6 +8,7 @@
 
 mod calls;
 mod drawing;
+mod excerpts;
 mod explaining;
 mod file;
 mod judging;

@@ -51,15 +51,15 @@ fn judged(alloc: Global, freedom: Freedom, setting: &[u8], story: &[u8]) -> Repl
     ensures { AreJudged freedom setting.now story.now result }
 {
     match judge_story(alloc, setting, story, freedom) {
-        Ok(verdict) => told(alloc, &verdict),
+        Ok(verdict) => told(alloc, &verdict, story),
         Err(_) => Reply::memory(alloc),
     }
 }
 
-fn told(alloc: Global, verdict: &StoryVerdict) -> Reply
-    ensures { IsStoryTold verdict.now result }
+fn told(alloc: Global, verdict: &StoryVerdict, story: &[u8]) -> Reply
+    ensures { IsStoryTold story.now verdict.now result }
 {
-    match text_of(alloc, verdict) {
+    match text_of(alloc, verdict, story) {
         Ok(text) => Reply {
             text,
             status: status_of(verdict),

@@ -1,13 +1,15 @@
 // The text of a verdict.
 ghost use Rattle.std.specs.Prelude.{◌≡◌, ◌++◌, IfOk, OnOk, decimal};
-ghost use Rattle.inspect_calls.specs.Verdicts.{IsVerdictText, counts_text, illegal_text, legal_text, verdict_status};
-ghost use Rattle.inspect_calls.specs.Verdicts.{unanswered_text, unfit_text};
+ghost use Rattle.std.specs.Option.{option_map};
+ghost use Rattle.inspect_calls.specs.Verdicts as spec;
+ghost use Rattle.inspect_calls.specs.Verdicts.{IsVerdictText, counts_text, legal_text, verdict_status};
 
+use crate::excerpts::{found_text, parting_text};
 use crate::lines::{numbered, push_number};
 use crate::reasons::ShownReason;
 use crate::unfits::ShownUnfit;
 use inspect_referee::{Counts, Reason};
-use inspect_verdict::{Unfit, Verdict};
+use inspect_verdict::{Parting, Unfit, Verdict, line_in};
 use std::alloc::{AllocError, Global};
 
 /// 0 where the output is that of a legal run, else 1.
@@ -20,9 +22,38 @@ pub(crate) fn status_of(verdict: &Verdict) -> u8
     }
 }
 
-/// The lines that tell a verdict.
-pub(crate) fn text_of(alloc: Global, verdict: &Verdict) -> Result<Vec<u8>, AllocError>
-    ensures { IfOk result (λ text. IsVerdictText verdict.now text.items) }
+// The line that a verdict tells.
+fn line_of(verdict: &Verdict) -> u64
+    ensures { result ≡ spec.verdict_line verdict.now }
+{
+    match verdict {
+        Verdict::Legal { .. } => 0,
+        Verdict::NotAnswered { parting, .. } | Verdict::Differs { parting } => parting.line,
+        Verdict::NoSummary { line }
+        | Verdict::NoTrace { line }
+        | Verdict::NotStory { line }
+        | Verdict::NotWhole { line } => *line,
+        Verdict::Illegal { line, .. } | Verdict::Unfit { line, .. } => *line,
+    }
+}
+
+// Where OUTPUT parts from what should stand there, if that is known byte by byte.
+fn parting_of(verdict: &Verdict) -> Option<&Parting>
+    ensures { option_map (λ p. p.now) result ≡ spec.verdict_parting verdict.now }
+{
+    match verdict {
+        Verdict::NotAnswered { parting, .. } | Verdict::Differs { parting } => Some(parting),
+        _ => None,
+    }
+}
+
+/// The lines that tell a verdict on OUTPUT.
+pub(crate) fn text_of(
+    alloc: Global,
+    verdict: &Verdict,
+    output: &[u8],
+) -> Result<Vec<u8>, AllocError>
+    ensures { IfOk result (λ text. IsVerdictText output.now verdict.now text.items) }
 {
     match verdict {
         Verdict::Legal {
@@ -31,72 +62,88 @@ pub(crate) fn text_of(alloc: Global, verdict: &Verdict) -> Result<Vec<u8>, Alloc
             apart,
             counts,
         } => legal_text(alloc, *entries as u64, *reads, *apart, counts),
-        Verdict::NotAnswered { query, line } => unanswered_text(alloc, *query as u64, *line),
+        other => no_text(alloc, other, output),
+    }
+}
+
+// The line that tells a verdict that is a no.
+fn no_text(alloc: Global, verdict: &Verdict, output: &[u8]) -> Result<Vec<u8>, AllocError>
+    ensures { IfOk result (λ text. spec.IsNoText output.now (spec.verdict_words verdict.now)
+        (spec.verdict_line verdict.now) (spec.verdict_parting verdict.now) text.items) }
+{
+    let words = words_of(alloc, verdict)?;
+    match parting_of(verdict) {
+        Some(parting) => parting_text(words, parting),
+        None => found_text(words, line_in(output, line_of(verdict))),
+    }
+}
+
+// The words of a verdict that is a no.
+fn words_of(alloc: Global, verdict: &Verdict) -> Result<Vec<u8>, AllocError>
+    ensures { IfOk result (λ text. text.items ≡ spec.verdict_words verdict.now) }
+{
+    match verdict {
+        Verdict::Legal { .. } => Ok(Vec::new(alloc)),
+        Verdict::NotAnswered { query, parting } => {
+            unanswered_words(alloc, *query as u64, parting.line)
+        }
         Verdict::NoSummary { line } => numbered(
             alloc,
             b"not legal: no summary stands behind the answers, at line ",
             *line,
-            b"\n",
+            b"",
         ),
         Verdict::NoTrace { line } => numbered(
             alloc,
             b"not legal: no trace stands behind the answers, at line ",
             *line,
-            b"\n",
+            b"",
         ),
-        Verdict::NotStory { line } => numbered(
-            alloc,
-            b"not legal: line ",
-            *line,
-            b" is no entry\n",
-        ),
-        Verdict::Illegal { line, reason, .. } => illegal_text(alloc, *line, *reason),
-        Verdict::Unfit { line, why, .. } => unfit_text(alloc, *line, *why),
+        Verdict::NotStory { line } => numbered(alloc, b"not legal: line ", *line, b" is no entry"),
+        Verdict::Illegal { line, reason, .. } => illegal_words(alloc, *line, *reason),
+        Verdict::Unfit { line, why, .. } => unfit_words(alloc, *line, *why),
         Verdict::NotWhole { line } => numbered(
             alloc,
             b"not legal: a query isn't over, or something is left open, at the end before line ",
             *line,
-            b"\n",
+            b"",
         ),
-        Verdict::Differs { line } => numbered(
+        Verdict::Differs { parting } => numbered(
             alloc,
             b"not legal: line ",
-            *line,
-            b" isn't what a run with this story prints\n",
+            parting.line,
+            b" isn't what a run with this story prints",
         ),
     }
 }
 
-// The line of a statement for which nothing stands.
-fn unanswered_text(alloc: Global, query: u64, line: u64) -> Result<Vec<u8>, AllocError>
-    ensures { IfOk result (λ text. text.items ≡ unanswered_text query line) }
+// The words of a statement for which nothing stands.
+fn unanswered_words(alloc: Global, query: u64, line: u64) -> Result<Vec<u8>, AllocError>
+    ensures { IfOk result (λ text. text.items ≡ spec.unanswered_words query line) }
 {
-    let text = format!(in alloc;
-        "not legal: line {line} has neither the answer to query {query} nor the line of a stop\n"
-    );
-    match text {
+    match format!(in alloc; "not legal: line {line} isn't what query {query} prints") {
         Ok(text) => Ok(text.into_bytes()),
         Err(_) => Err(AllocError),
     }
 }
 
-/// The line of an entry that may not come.
-pub(crate) fn illegal_text(alloc: Global, line: u64, reason: Reason) -> Result<Vec<u8>, AllocError>
-    ensures { IfOk result (λ text. text.items ≡ illegal_text line reason) }
+/// The words of an entry that may not come.
+pub(crate) fn illegal_words(alloc: Global, line: u64, reason: Reason) -> Result<Vec<u8>, AllocError>
+    ensures { IfOk result (λ text. text.items ≡ spec.illegal_words line reason) }
 {
     let why = ShownReason { reason };
-    match format!(in alloc; "not legal: line {line} {why}\n") {
+    match format!(in alloc; "not legal: line {line} {why}") {
         Ok(text) => Ok(text.into_bytes()),
         Err(_) => Err(AllocError),
     }
 }
 
-// The line of an entry that doesn't fit the words of the run.
-fn unfit_text(alloc: Global, line: u64, why: Unfit) -> Result<Vec<u8>, AllocError>
-    ensures { IfOk result (λ text. text.items ≡ unfit_text line why) }
+// The words of an entry that doesn't fit the words of the run.
+fn unfit_words(alloc: Global, line: u64, why: Unfit) -> Result<Vec<u8>, AllocError>
+    ensures { IfOk result (λ text. text.items ≡ spec.unfit_line_words line why) }
 {
     let why = ShownUnfit { why };
-    match format!(in alloc; "not legal: line {line} may not come: {why}\n") {
+    match format!(in alloc; "not legal: line {line} may not come: {why}") {
         Ok(text) => Ok(text.into_bytes()),
         Err(_) => Err(AllocError),
     }

@@ -3,6 +3,7 @@ pub mod Left
 pub mod Standing
 pub mod PartLines
 pub mod Partings
+pub mod Linewise
 pub mod Sizes
 pub mod SizedRows
 pub mod Statements

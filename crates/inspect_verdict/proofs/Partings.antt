@@ -16,10 +16,9 @@ some_same : (a b : ℕ) → Some a ≡ Some b → a ≡ b
 some_same a b e = cc
 
 -- behind the same bytes others stand
-pub parts_here : (text other : List ℕ) (i : ℕ) → i < length text → i < length other → take i text ≡ take i other → get_or text i 0 ≢ get_or other i 0 → PartsFrom text other (drop i text)
+pub parts_here : (text other : List ℕ) (i : ℕ) → i < length text → i < length other → take i text ≡ take i other → get_or text i 0 ≢ get_or other i 0 → PartsFrom text other (drop i text) (drop i other)
 parts_here text other i a b same apart = record {
   same = take i text;
-  more = drop i other;
   text_is = sym (take-append-drop i text);
   other_is = sym (take-append-drop i other) ∙ ap (λ (l : List ℕ). l ++ drop i other) (sym same);
   apart = λ e. apart (some_same (get_or text i 0) (get_or other i 0) (sym (first_at text i a) ∙ (e ∙ first_at other i b)));
@@ -33,10 +32,9 @@ both_over (a ∷ l) [] one e = absurd cc
 both_over (a ∷ l) (b ∷ m) one e = absurd (one (omega arith) (omega arith))
 
 -- one of them ends behind the same bytes
-pub parts_there : (text other : List ℕ) (i : ℕ) → i ≡ min (length text) (length other) → take i text ≡ take i other → text ≢ other → PartsFrom text other (drop i text)
+pub parts_there : (text other : List ℕ) (i : ℕ) → i ≡ min (length text) (length other) → take i text ≡ take i other → text ≢ other → PartsFrom text other (drop i text) (drop i other)
 parts_there text other i is same apart = record {
   same = take i text;
-  more = drop i other;
   text_is = sym (take-append-drop i text);
   other_is = sym (take-append-drop i other) ∙ ap (λ (l : List ℕ). l ++ drop i other) (sym same);
   apart = λ e. let left = both_over (drop i text) (drop i other) one e in
@@ -47,5 +45,5 @@ parts_there text other i is same apart = record {
     one a b = let l = length-drop i text in let m = length-drop i other in omega (arith, a, b, l, m, is)
 
 -- what parts from a text isn't that text
-pub parts_other : (text other end : List ℕ) → PartsFrom text other end → text ≢ other
-parts_other text other end is same = is.apart (ap first_byte (cancelled is.same end is.more (sym is.text_is ∙ (same ∙ is.other_is))))
+pub parts_other : (text other end more : List ℕ) → PartsFrom text other end more → text ≢ other
+parts_other text other end more is same = is.apart (ap first_byte (cancelled is.same end more (sym is.text_is ∙ (same ∙ is.other_is))))

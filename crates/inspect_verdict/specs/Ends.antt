@@ -22,17 +22,10 @@ abbrev pub first_byte : List ℕ → Option ℕ
 first_byte [] = None
 first_byte (b ∷ bs) = Some b
 
--- from here on, with this end, a text isn't the other one: so far they are the same, and then they go on with other
--- bytes, or one of them ends
-pub record PartsFrom (text other end : List ℕ) : Type 0 where
+-- from here on, with this end, a text isn't the other one, which goes on with more: so far they are the same, and then
+-- they go on with other bytes, or one of them ends
+pub record PartsFrom (text other end more : List ℕ) : Type 0 where
   pub same : List ℕ
-  pub more : List ℕ
   pub text_is : text ≡ same ++ end
   pub other_is : other ≡ same ++ more
   pub apart : first_byte end ≢ first_byte more
-
--- the line of a text, from 1, in which it parts from another one
-pub record PartsAtLine (text other : List ℕ) (line : ℕ) : Type 0 where
-  pub end : List ℕ
-  pub parts : PartsFrom text other end
-  pub at_line : BeginsAtLine text end line

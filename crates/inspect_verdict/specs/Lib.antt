@@ -1,4 +1,5 @@
 pub mod Ends
+pub mod Lines
 pub mod Parts
 pub mod Apart
 pub mod StatementParts

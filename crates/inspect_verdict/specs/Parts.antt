@@ -58,17 +58,19 @@ abbrev pub HasNone : Part → List ℕ → Type 0
 HasNone p text = (begin rest : List ℕ) → StandsFor p begin → text ≢ begin ++ rest
 
 -- THE FIRST PART FOR WHICH NOTHING STANDS is that at this place, from 0: something stands for each part before it, and
--- from this end on, what stands behind them isn't the part's own text
-pub record LacksPart (parts : List Part) (text : List ℕ) (place : ℕ) (end : List ℕ) : Type 0 where
+-- from this end on, what stands behind them isn't the part's own text, which goes on with more
+pub record LacksPart (parts : List Part) (text : List ℕ) (place : ℕ) (end more : List ℕ) : Type 0 where
   pub before : List Part
   pub part : Part
   pub after : List Part
   pub parts_are : parts ≡ before ++ part ∷ after
   pub at_place : place ≡ length before
+  pub front : List ℕ
   pub rest : List ℕ
+  pub text_is : text ≡ front ++ rest
   pub behind : StandsBehind before text rest
   pub none : HasNone part rest
-  pub parted : PartsFrom rest part.text end
+  pub parted : PartsFrom rest part.text end more
 
 -- for each part it is known whether a line stands for it, and this stands behind the last part
 pub record IsSplit (words : List (Option (List ℕ))) (rest : List ℕ) (s : Split) : Type 0 where

@@ -11,11 +11,13 @@ use Rattle.run_output.specs.Printed.{output, text_in}
 use Rattle.run_ends.specs.Tasks.{totals_of}
 use Rattle.run_inputs.specs.declared.inputs.Inputs.{Inputs}
 use Rattle.inspect_verdict.specs.Ends.{BeginsAtLine}
+use Rattle.inspect_verdict.specs.Lines.{IsParting}
 use Rattle.inspect_verdict.specs.Parts.{IsHeadedLine, LacksPart, StandsBehind}
 use Rattle.inspect_verdict.specs.StatementParts.{parts_in, words_of}
 use Rattle.run_stops.specs.Outcomes.{plans_of}
 use Rattle.inspect_verdict.specs.Plain.{ArePlain}
 use Rattle.inspect_verdict.specs.declared.output_reading.Told.{Told}
+use Rattle.inspect_verdict.specs.declared.parting.Parting.{Parting}
 use Rattle.inspect_verdict.specs.declared.verdict.Verdict.{Verdict}
 
 -- how the summary begins
@@ -37,16 +39,18 @@ pub record IsTrace (i : Inputs) (out trace : List ℕ) : Type 0 where
   pub behind : StandsBehind (parts_in i.loaded.table.columns i.loaded.dicts.items 1 i.outcomes.items answers) out
       (line ++ trace)
 
--- NO ANSWER: for the statement of this number nothing stands, and from this line on, what stands behind those before it
--- isn't its plain answer, or the line of its refusal
-pub record LacksAnswer (i : Inputs) (out : List ℕ) (query line : ℕ) : Type 0 where
+-- NO ANSWER: for the statement of this number nothing stands, and there the text parts from what could stand: what
+-- stands for those before it, and then its plain answer, or the line of its refusal
+pub record LacksAnswer (i : Inputs) (out : List ℕ) (query : ℕ) (p : Parting) : Type 0 where
   pub answers : List Answer
   pub plain : ArePlain i.loaded.table.rows (plans_of i.outcomes.items) answers
   pub place : ℕ
   pub number : query ≡ place + 1
   pub end : List ℕ
-  pub lacks : LacksPart (parts_in i.loaded.table.columns i.loaded.dicts.items 1 i.outcomes.items answers) out place end
-  pub at_line : BeginsAtLine out end line
+  pub more : List ℕ
+  pub lacks : LacksPart (parts_in i.loaded.table.columns i.loaded.dicts.items 1 i.outcomes.items answers) out place
+      end more
+  pub parting : IsParting out (lacks.front ++ lacks.part.text) p
 
 -- NO SUMMARY: something stands for each statement, and behind them, from this line on, no summary line, though one is
 -- to stand there

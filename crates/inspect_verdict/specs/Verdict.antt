@@ -9,7 +9,8 @@ use Rattle.scan_story.specs.Spent.{reads, stopped_queries}
 use Rattle.story_text.specs.Text.{story_text}
 use Rattle.scan_story.specs.Views.{past}
 use Rattle.scan_story.specs.Whole.{IsWhole}
-use Rattle.inspect_verdict.specs.Ends.{BeginsAtLine, PartsAtLine}
+use Rattle.inspect_verdict.specs.Ends.{BeginsAtLine}
+use Rattle.inspect_verdict.specs.Lines.{IsParting}
 use Rattle.inspect_verdict.specs.Apart.{reads_apart}
 use Rattle.run_inputs.specs.declared.inputs.Inputs.{Inputs}
 use Rattle.inspect_referee.specs.Counts.{AreCounts}
@@ -21,6 +22,7 @@ use Rattle.run_ends.specs.Losses.{AreLostBy}
 use Rattle.run_ends.specs.Running.{shape_in}
 use Rattle.inspect_verdict.specs.Judged.{IsIllegal, IsStray}
 use Rattle.inspect_verdict.specs.Words.{AreAllRegistered}
+use Rattle.inspect_verdict.specs.declared.parting.Parting.{Parting}
 use Rattle.inspect_verdict.specs.declared.unfit.Unfit.{Unfit}
 use Rattle.inspect_verdict.specs.Reading.{IsTrace, LacksAnswer, LacksSummary, text_with}
 use Rattle.inspect_verdict.specs.Told.{IsRunTold, run_setting}
@@ -82,10 +84,10 @@ pub record RefusesLine (i : Inputs) (name : PolicyName) (scratch : Bool) (out : 
   pub bad : HasNoEntryAt i out line
 
 -- no run is told, since nothing stands for the statement of this number
-pub record RefusesAnswer (i : Inputs) (name : PolicyName) (scratch : Bool) (out : List ℕ) (query line : ℕ)
+pub record RefusesAnswer (i : Inputs) (name : PolicyName) (scratch : Bool) (out : List ℕ) (query : ℕ) (p : Parting)
     : Type 0 where
   pub none : TellsNoRun i name scratch out
-  pub lacks : LacksAnswer i out query line
+  pub lacks : LacksAnswer i out query p
 
 -- no run is told, since no summary stands at this line
 pub record RefusesSummary (i : Inputs) (name : PolicyName) (scratch : Bool) (out : List ℕ) (line : ℕ) : Type 0 where
@@ -107,9 +109,9 @@ pub record LeavesOpen (i : Inputs) (name : PolicyName) (scratch : Bool) (out : L
 abbrev pub LeavesSome : Inputs → PolicyName → Bool → List ℕ → ℕ → Type 0
 LeavesSome i name scratch out line = (e : Entry) × (es : List Entry) × LeavesOpen i name scratch out (e ∷ es) line
 
--- no run is told: the trace is a story that is legal and whole, and from the line of this number on the text isn't what
--- a run with this story prints: it stopped queries as the story says, or since memory ran out
-pub record RefusesLines (i : Inputs) (name : PolicyName) (scratch : Bool) (out : List ℕ) (line : ℕ) : Type 0 where
+-- no run is told: the trace is a story that is legal and whole, and there the text parts from what a run with this
+-- story prints: it stopped queries as the story says, or since memory ran out
+pub record RefusesLines (i : Inputs) (name : PolicyName) (scratch : Bool) (out : List ℕ) (p : Parting) : Type 0 where
   pub none : TellsNoRun i name scratch out
   pub story : List Entry
   pub trace : IsTrace i out (story_text story)
@@ -117,7 +119,7 @@ pub record RefusesLines (i : Inputs) (name : PolicyName) (scratch : Bool) (out :
   pub whole : IsWhole (run_setting i name) (past story)
   pub answers : List Answer
   pub lost : AreLostBy (past story) i.options.parts 1 i.outcomes.items (losses i.outcomes.items answers)
-  pub parts : PartsAtLine out (text_with i answers story) line
+  pub parting : IsParting out (text_with i answers story) p
 
 -- a story of which the first entry stands at this line is left open
 abbrev pub left_open : ℕ → List Entry → Verdict
@@ -131,11 +133,11 @@ IsVerdict i name scratch out (verdict.Legal entries reads_made apart counts) =
 IsVerdict i name scratch out (verdict.Illegal line place reason) = RefusesEntry i name scratch out line place reason
 IsVerdict i name scratch out (verdict.Unfit line place reason) = RefusesUnfit i name scratch out line place reason
 IsVerdict i name scratch out (verdict.NotStory line) = RefusesLine i name scratch out line
-IsVerdict i name scratch out (verdict.NotAnswered query line) = RefusesAnswer i name scratch out query line
+IsVerdict i name scratch out (verdict.NotAnswered query p) = RefusesAnswer i name scratch out query p
 IsVerdict i name scratch out (verdict.NoSummary line) = RefusesSummary i name scratch out line
 IsVerdict i name scratch out (verdict.NoTrace line) = LeavesOpen i name scratch out [] line
 IsVerdict i name scratch out (verdict.NotWhole line) = LeavesSome i name scratch out line
-IsVerdict i name scratch out (verdict.Differs line) = RefusesLines i name scratch out line
+IsVerdict i name scratch out (verdict.Differs p) = RefusesLines i name scratch out p
 
 -- the verdict on a text, where a front of it has this one: an entry that may not come there is earlier
 abbrev pub earlier_of : Verdict → Verdict → Verdict
@@ -145,7 +147,7 @@ earlier_of v _ = v
 
 -- what stands in the way of reading a story
 abbrev pub IsOfReading : Inputs → List ℕ → Verdict → Type 0
-IsOfReading i out (verdict.NotAnswered query line) = LacksAnswer i out query line
+IsOfReading i out (verdict.NotAnswered query p) = LacksAnswer i out query p
 IsOfReading i out (verdict.NoSummary line) = LacksSummary i out line
 IsOfReading i out (verdict.NotStory line) = HasNoEntryAt i out line
 IsOfReading i out _ = ⊥

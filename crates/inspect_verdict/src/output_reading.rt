@@ -18,6 +18,7 @@ ghost use Rattle.inspect_verdict.specs.Verdict.{IsOfReading};
 
 use crate::ends::line_of_end;
 use crate::part::behind_line_with;
+use crate::parting::parting_at;
 use crate::parts::parts_of;
 use crate::splitting::{Split, take_apart};
 use crate::verdict::Verdict;
@@ -112,11 +113,12 @@ pub(crate) fn read_output(
         lines,
         behind,
         left,
+        more,
     } = take_apart(alloc, &parts, output)?;
     let Some(behind) = behind else {
         let query = lines.len() + 1;
-        let line = line_of_end(output, left);
-        return Ok(Err(Verdict::NotAnswered { query, line }));
+        let parting = parting_at(alloc, output, left, more)?;
+        return Ok(Err(Verdict::NotAnswered { query, parting }));
     };
     let Some(trace) = behind_summary(inputs.summary, behind) else {
         let line = line_of_end(output, behind);

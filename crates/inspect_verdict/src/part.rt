@@ -24,8 +24,8 @@ fn behind<'a>(text: &'a [u8], begin: &[u8]) -> Option<&'a [u8]>
     text.strip_prefix(begin)
 }
 
-// Where the first line end is.
-fn end_of_line(text: &[u8]) -> Option<usize>
+/// Where the first line end is.
+pub(crate) fn end_of_line(text: &[u8]) -> Option<usize>
     ensures place { result ≡ position (λ b. b == 10) text.now }
     ensures there { IfSome result (λ i. i < length text.now) }
 {

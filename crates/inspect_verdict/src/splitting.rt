@@ -5,7 +5,7 @@ ghost use Rattle.inspect_verdict.specs.Ends.{EndsWith};
 ghost use Rattle.inspect_verdict.specs.Parts as spec;
 
 use crate::part::Part;
-use crate::parting::end_apart;
+use crate::parting::ends_apart;
 use std::alloc::{AllocError, Global};
 
 /// An output in its parts.
@@ -18,6 +18,8 @@ pub struct Split<'a> {
     /// What is left of the text: behind the last part, or else from the first byte on in which it isn't the text of the
     /// part for which nothing stands.
     pub left: &'a [u8],
+    /// What that part's text goes on with there; nothing where something stands for each part.
+    pub more: &'a [u8],
 }
 
 /// Takes a text apart: for each part in order its own text, or else a line that begins with its head.
@@ -25,7 +27,7 @@ pub struct Split<'a> {
 /// So a line end inside of a part's text ends no line. The error is out of memory.
 pub fn take_apart<'a>(
     alloc: Global,
-    parts: &[Part],
+    parts: &'a [Part],
     text: &'a [u8],
 ) -> Result<Split<'a>, AllocError>
     ensures behind { IfOk result (λ split. IfSome split.behind (λ b. spec.StandsBehind parts.now text.now b.now)) }
@@ -35,16 +37,18 @@ pub fn take_apart<'a>(
         → spec.IsSplit words rest split) }
     ensures left { IfOk result (λ split. EndsWith text.now split.left.now) }
     ensures lacks { IfOk result (λ split. IfNone split.behind
-        (spec.LacksPart parts.now text.now (length split.lines.items) split.left.now)) }
+        (spec.LacksPart parts.now text.now (length split.lines.items) split.left.now split.more.now)) }
 {
     let mut lines = Vec::new(alloc);
     let mut rest = text;
     for part in parts {
         let Some((line, behind)) = part.standing(rest) else {
+            let (left, more) = ends_apart(rest, part.text.as_slice());
             return Ok(Split {
                 lines,
                 behind: None,
-                left: end_apart(rest, part.text.as_slice()),
+                left,
+                more,
             });
         };
         lines.push(line)?;
@@ -54,5 +58,6 @@ pub fn take_apart<'a>(
         lines,
         behind: Some(rest),
         left: rest,
+        more: b"".as_slice(),
     })
 }

@@ -8,9 +8,10 @@ use crate::answers::answers_of;
 use crate::judging::{Judged, judge_run};
 use crate::output_reading::{Told, read_output};
 use crate::part::behind_line;
+use crate::parting::Parting;
 use crate::stops::{answers_with, stops_of};
 use crate::unfit::Unfit;
-use crate::writing::other_line;
+use crate::writing::parting_from;
 use inspect_referee::{Counts, Reason};
 use run_ends::{Counts as Spent, tasks_of};
 use run_inputs::Inputs;
@@ -19,7 +20,7 @@ use std::alloc::Global;
 use table_core::Memory;
 
 /// What a text is, as the output of a run.
-#[derive(Clone, Copy, Debug, PartialEq, Eq)]
+#[derive(Debug, Drop, PartialEq, Eq)]
 pub enum Verdict {
     /// It is the output of a run: its story has so many entries, read so many pieces, and has so many entries of each
     /// kind. Where each query reads for itself, so many pieces are read `apart`.
@@ -29,11 +30,11 @@ pub enum Verdict {
         apart: u64,
         counts: Counts,
     },
-    /// For the statement of this number neither its answer stands, nor the line of a query that was stopped: from this
-    /// line of the output on, counted from 1, what stands there isn't its answer.
+    /// For the statement of this number neither what it prints stands, nor the line of a query that was stopped: there
+    /// the output parts from what the statement prints behind those before it.
     NotAnswered {
         query: usize,
-        line: u64,
+        parting: Parting,
     },
     /// Behind the statements, at this line of the output, from 1, there is no summary, though one was asked for.
     NoSummary {
@@ -66,10 +67,10 @@ pub enum Verdict {
     NotWhole {
         line: u64,
     },
-    /// The story is legal and whole, but at this line of the output, counted from 1, the line of a query that was
-    /// stopped, or the summary, isn't that of the story.
+    /// The story is legal and whole, but the line of a query that was stopped, or the summary, isn't that of the story:
+    /// there the output parts from what a run with this story prints.
     Differs {
-        line: u64,
+        parting: Parting,
     },
 }
 
@@ -130,9 +131,9 @@ fn verdict_on(
     };
     let stops = stops_of(alloc, &story, inputs.options.parts, &tasks, &lines)?;
     let answers = answers_with(alloc, &stops, plain)?;
-    let other = other_line(alloc, inputs, &answers, &story, output)?;
+    let other = parting_from(alloc, inputs, &answers, &story, output)?;
     match other {
-        Some(line) => Ok(Verdict::Differs { line }),
+        Some(parting) => Ok(Verdict::Differs { parting }),
         None => Ok(Verdict::Legal {
             entries: story.len(),
             reads: Spent::of(&story).reads,

@@ -5,10 +5,10 @@ ghost use Rattle.table_core.specs.Value.{places_of};
 ghost use Rattle.query_gather.specs.Answer.{CanBeWritten};
 ghost use Rattle.run_output.specs.Answers.{NamesColumns};
 ghost use Rattle.run_stops.specs.Outcomes.{plans_of};
-ghost use Rattle.inspect_verdict.specs.Ends.{PartsAtLine};
+ghost use Rattle.inspect_verdict.specs.Lines.{IsParting};
 ghost use Rattle.inspect_verdict.specs.Reading.{text_with};
 
-use crate::parting::line_apart;
+use crate::parting::{Parting, parting_of};
 use query_gather::Answer;
 use run_ends::totals_of;
 use run_inputs::Inputs;
@@ -17,15 +17,15 @@ use scan_story::Entry;
 use std::alloc::Global;
 use table_core::Memory;
 
-/// The line of a text, from 1, from which on it isn't what a run prints with these answers and this story; none where
-/// it is that. The error is out of memory.
-pub(crate) fn other_line(
+/// Where a text parts from what a run prints with these answers and this story; none where it is that. The error is out
+/// of memory.
+pub(crate) fn parting_from(
     alloc: Global,
     inputs: &Inputs,
     answers: &[Answer],
     story: &[Entry],
     output: &[u8],
-) -> Result<Option<u64>, Memory>
+) -> Result<Option<Parting>, Memory>
     requires few { length inputs.now.outcomes.items ≤ 256 }
     requires rows { length inputs.now.loaded.table.rows < 2 ^ 32 }
     requires dicts { length inputs.now.loaded.dicts.items ≡ length inputs.now.loaded.table.columns }
@@ -35,7 +35,7 @@ pub(crate) fn other_line(
     requires cells { AllZip (CanBeWritten inputs.now.loaded.dicts.items) (plans_of inputs.now.outcomes.items)
         answers.now }
     ensures same { IfOk result (λ r. IfNone r (output.now ≡ text_with inputs.now answers.now story.now)) }
-    ensures parts { IfOk result (λ r. IfSome r (PartsAtLine output.now (text_with inputs.now answers.now story.now))) }
+    ensures parts { IfOk result (λ r. IfSome r (IsParting output.now (text_with inputs.now answers.now story.now))) }
 {
     let table = &inputs.loaded.table;
     let totals = totals_of(inputs.summary, story, table.len() as u32);
@@ -48,5 +48,6 @@ pub(crate) fn other_line(
         totals,
         Some(story),
     )?;
-    Ok(line_apart(output, text.as_slice()))
+    let parting = parting_of(alloc, output, text.as_slice())?;
+    Ok(parting)
 }

@@ -67,6 +67,7 @@ SELECT id FROM t WHERE dept = 'it''s;",
         b"query 1\n3\nregister 0 1\nplan 0 1 0\nfill 0 4 0\nfilled 0 0",
     ),
     ("bytes", b"query 1\n3\nregister 0 1\nplan 0 1 \xff\n"),
+    ("sign", b"query 1\n3\nregister 0 1\nplan 0 1 \xc3\xa9\n"),
     ("answers", b"query 1\n3\n"),
     // With the summary, and with that of another story.
     (
@@ -79,6 +80,12 @@ SELECT id FROM t WHERE dept = 'it''s;",
     ),
     ("empty", b""),
 ];
+
+// The line of a summary with a delivery too much.
+const OTHER_SUMMARY: &str =
+    "not legal: line 3 isn't what a run with this story prints, from byte 33 on: expected \
+    summary: 1 queries, 1 answered, 1 deliveries, 3 rows, found summary: 1 queries, 1 answered, 2 deliveries, 3 rows
+";
 
 // Words, the status, and what goes to standard output and to standard error.
 const SAID: &[(&str, u8, &str, &str)] = &[
@@ -145,61 +152,61 @@ const SAID: &[(&str, u8, &str, &str)] = &[
     (
         "judge|--threads|1|table|batch|cut",
         1,
-        "not legal: line 5 is no entry\n",
+        "not legal: line 5 is no entry, found fill 0 0 0 and the end\n",
         "",
     ),
     (
-        "judge|--threads|1|table|batch|bytes",
+        "judge|--threads|1|table|batch|sign",
         1,
-        "not legal: line 4 is no entry\n",
+        "not legal: line 4 is no entry, found plan 0 1 \u{e9}\n",
         "",
     ),
     (
         "judge|--threads|1|table|batch|hidden",
         1,
-        "not legal: line 5 may not come: there is no such frame\n",
+        "not legal: line 5 may not come: there is no such frame, found fill 0 4 0\n",
         "",
     ),
     (
         "judge|--threads|1|table|batch|short",
         1,
-        "not legal: a query isn't over, or something is left open, at the end before line 6\n",
+        "not legal: a query isn't over, or something is left open, at the end before line 6, found the end\n",
         "",
     ),
     (
         "judge|--threads|1|table|batch|changed",
         1,
-        "not legal: line 5 may not come: there is no such frame\n",
+        "not legal: line 5 may not come: there is no such frame, found fill 0 4 0\n",
         "",
     ),
     (
         "judge|--threads|1|table|batch|wrong",
         1,
-        "not legal: line 2 has neither the answer to query 1 nor the line of a stop\n",
+        "not legal: line 2 isn't what query 1 prints, from byte 1 on: expected 3, found 4\n",
         "",
     ),
     (
         "judge|--threads|1|other|batch|out",
         1,
-        "not legal: line 2 has neither the answer to query 1 nor the line of a stop\n",
+        "not legal: line 2 isn't what query 1 prints, from byte 1 on: expected 2, found 3\n",
         "",
     ),
     (
         "judge|--threads|1|table|batch|empty",
         1,
-        "not legal: line 1 has neither the answer to query 1 nor the line of a stop\n",
+        "not legal: line 1 isn't what query 1 prints, from byte 1 on: expected query 1, found the end\n",
         "",
     ),
     (
         "judge|--threads|1|--summary|table|batch|answers",
         1,
-        "not legal: no summary stands behind the answers, at line 3\n",
+        "not legal: no summary stands behind the answers, at line 3, found the end\n",
         "",
     ),
     (
         "judge|--threads|1|--summary|table|batch|out",
         1,
-        "not legal: no summary stands behind the answers, at line 3\n",
+        "not legal: no summary stands behind the answers, at line 3, found register 0 1\n",
         "",
     ),
     (
@@ -211,13 +218,13 @@ const SAID: &[(&str, u8, &str, &str)] = &[
     (
         "judge|--threads|1|--summary|table|batch|other-sum",
         1,
-        "not legal: line 3 isn't what a run with this story prints\n",
+        OTHER_SUMMARY,
         "",
     ),
     (
         "judge|--threads|1|table|batch|answers",
         1,
-        "not legal: no trace stands behind the answers, at line 3\n",
+        "not legal: no trace stands behind the answers, at line 3, found the end\n",
         "",
     ),
     (

@@ -23,7 +23,7 @@ pub(crate) const SMALLEST_PICTURE: &str =
 <text x='1962' y='1700' dx='30' dy='100' fill='#303030'>query 1</text>
 <rect x='5812' y='1930' width='963' height='140' fill='hsl(40,60%,50%)'><title>chunk 0 for query 1, entries 5 to 6</title></rect>
 <text x='5812' y='1930' dx='30' dy='115' fill='#fff'>0</text>
-<rect x='2925' y='1825' width='30' height='90' fill='hsl(40,60%,50%)'><title>load of chunk 0 for query 1, entry 2</title></rect>
+<rect x='2925' y='1825' width='40' height='90' fill='hsl(40,60%,50%)'><title>load of chunk 0 for query 1, entry 2</title></rect>
 <rect x='4850' y='2420' width='3850' height='140' fill='hsl(40,60%,50%)'><title>piece 0 in frame 0, entries 4 to 8, there at the end</title></rect>
 <text x='4850' y='2420' dx='30' dy='115' fill='#fff'>0</text>
 <rect x='3887' y='2470' width='963' height='40' fill='#4a5468'><title>piece 0 is read into frame 0, entries 3 to 4</title></rect>

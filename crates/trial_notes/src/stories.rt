@@ -52,6 +52,7 @@ query 1 worker 0 chunks - columns 0
         b"workers 1 frames 4 chunks 1 groups 1 policy any\nquery 1 worker 0 chunks 0 columns 0",
     ),
     ("bytes", b"\xff\x00\n"),
+    ("sign", b"\xc3\xa9\n"),
     ("nothing", b""),
     // Chunk 0 on worker 0, and on worker 1.
     (
@@ -135,7 +136,7 @@ const SAID: &[(&str, u8, &str, &str)] = &[
     (
         "judge|--story|two-chunks|backwards",
         1,
-        "not legal: line 2 loads another chunk than 0, which was better: 0 steps before 1 steps\n",
+        "not legal: line 2 loads another chunk than 0, which was better: 0 steps before 1 steps, found plan 0 1 1\n",
         "",
     ),
     (
@@ -148,7 +149,7 @@ const SAID: &[(&str, u8, &str, &str)] = &[
     (
         "judge|--story|two-workers|on-one",
         1,
-        "not legal: line 1 may not come: the query is another worker's\n",
+        "not legal: line 1 may not come: the query is another worker's, found register 1 1\n",
         "",
     ),
     (
@@ -160,49 +161,50 @@ const SAID: &[(&str, u8, &str, &str)] = &[
     (
         "judge|--story|--dealt|any|two-workers|on-two",
         1,
-        "not legal: line 1 may not come: the query is another worker's\n",
+        "not legal: line 1 may not come: the query is another worker's, found register 2 1\n",
         "",
     ),
     (
         "judge|--story|one|another-need",
         1,
-        "not legal: line 2 may not come: the query doesn't need the chunk, or its pieces are all in frames\n",
+        "not legal: line 2 may not come: the query doesn't need the chunk, or its pieces are all in frames, \
+            found plan 0 1 1\n",
         "",
     ),
     (
         "judge|--story|--dealt|any|one|another-query",
         1,
-        "not legal: line 1 may not come: the query is another worker's\n",
+        "not legal: line 1 may not come: the query is another worker's, found register 0 2\n",
         "",
     ),
     (
         "judge|--story|one|two-offences",
         1,
-        "not legal: line 2 may not come: no load of the worker is underway\n",
+        "not legal: line 2 may not come: no load of the worker is underway, found fill 0 0 0\n",
         "",
     ),
     (
         "judge|--story|one|no-entry",
         1,
-        "not legal: line 3 is no entry\n",
+        "not legal: line 3 is no entry, found fill 0 0\n",
         "",
     ),
     (
         "judge|--story|one|cut",
         1,
-        "not legal: a query isn't over, or something is left open, at the end before line 3\n",
+        "not legal: a query isn't over, or something is left open, at the end before line 3, found the end\n",
         "",
     ),
     (
         "judge|--story|one|nothing",
         1,
-        "not legal: a query isn't over, or something is left open, at the end before line 1\n",
+        "not legal: a query isn't over, or something is left open, at the end before line 1, found the end\n",
         "",
     ),
     (
-        "judge|--story|one|bytes",
+        "judge|--story|one|sign",
         1,
-        "not legal: line 1 is no entry\n",
+        "not legal: line 1 is no entry, found \u{e9}\n",
         "",
     ),
     (
@@ -216,7 +218,7 @@ register 2, plan 2, evict 0, fill 2, filled 0, failed 2, deliver 0, release 0, s
     (
         "judge|--story|two-queries|fell",
         1,
-        "not legal: line 8 may not come: the count of faults had come to 6 before\n",
+        "not legal: line 8 may not come: the count of faults had come to 6 before, found failed 0 2 0 fault 3 4\n",
         "",
     ),
     (

@@ -4,7 +4,7 @@ ghost use Rattle.std.specs.Prelude.{◌≤◌, ◌^◌, length};
 use command_words::Call;
 use coop_outside::{Bytes, MemShelf};
 use inspect_referee::{Counts, Reason, Rule};
-use inspect_verdict::{Verdict, inputs_can_run, verdict_of};
+use inspect_verdict::{Parting, Verdict, inputs_can_run, verdict_of};
 use run_inputs::{inputs_of, request_in};
 use scan_story::PolicyName;
 use std::alloc::Global;
@@ -128,83 +128,112 @@ release 0 1 0
 end 0 1
 ";
 
+// What a verdict says, with its numbers: of a legal run its entries, its reads, and those of separate scans.
+#[derive(Clone, Copy, Debug, PartialEq, Eq)]
+enum Said {
+    Legal(usize, u64, u64, Counts),
+    NoTrace(u64),
+    NotStory(u64),
+    Illegal(u64, usize, Reason),
+    NotWhole(u64),
+    Other,
+}
+
+fn said_by(verdict: &Verdict) -> Said {
+    match verdict {
+        Verdict::Legal {
+            entries,
+            reads,
+            apart,
+            counts,
+        } => Said::Legal(*entries, *reads, *apart, *counts),
+        Verdict::NoTrace { line } => Said::NoTrace(*line),
+        Verdict::NotStory { line } => Said::NotStory(*line),
+        Verdict::Illegal {
+            line,
+            place,
+            reason,
+        } => Said::Illegal(*line, *place, *reason),
+        Verdict::NotWhole { line } => Said::NotWhole(*line),
+        _ => Said::Other,
+    }
+}
+
 // A text of answers, a trace, and the verdict on both.
-const VERDICTS: &[(&[u8], &[u8], Verdict)] = &[
-    (
-        b"query 1\n2\n",
-        STORY,
-        Verdict::Legal {
-            entries: 7,
-            reads: 1,
-            apart: 1,
-            counts: COUNTS,
-        },
-    ),
+const VERDICTS: &[(&[u8], &[u8], Said)] = &[
+    (b"query 1\n2\n", STORY, Said::Legal(7, 1, 1, COUNTS)),
     // A query may be lost when out of memory, though its scan ended.
-    (
-        b"refused 1: memory\n",
-        STORY,
-        Verdict::Legal {
-            entries: 7,
-            reads: 1,
-            apart: 1,
-            counts: COUNTS,
-        },
-    ),
-    (
-        b"refused 1: read fault\n",
-        STORY,
-        Verdict::Differs { line: 1 },
-    ),
-    (
-        b"query 1\n3\n",
-        STORY,
-        Verdict::NotAnswered { query: 1, line: 2 },
-    ),
-    // The line of an answer that is longer, and one that is cut.
-    (
-        b"query 1\n22\n",
-        STORY,
-        Verdict::NotAnswered { query: 1, line: 2 },
-    ),
-    (
-        b"query 1\n2",
-        b"",
-        Verdict::NotAnswered { query: 1, line: 2 },
-    ),
-    (b"", STORY, Verdict::NotAnswered { query: 1, line: 1 }),
-    (b"", b"", Verdict::NotAnswered { query: 1, line: 1 }),
-    (b"query 1\n2\n", b"", Verdict::NoTrace { line: 3 }),
+    (b"refused 1: memory\n", STORY, Said::Legal(7, 1, 1, COUNTS)),
+    (b"query 1\n2\n", b"", Said::NoTrace(3)),
     (
         b"query 1\n2\n",
         b"register 0 1\nplan 0 1 00\n",
-        Verdict::NotStory { line: 4 },
+        Said::NotStory(4),
     ),
-    (b"query 1\n2\n", NO_END, Verdict::NotWhole { line: 9 }),
+    (b"query 1\n2\n", NO_END, Said::NotWhole(9)),
     (
         b"query 1\n2\n",
         NO_REGISTER,
-        Verdict::Illegal {
-            line: 3,
-            place: 0,
-            reason: Reason::Broken(Rule::Starved),
-        },
+        Said::Illegal(3, 0, Reason::Broken(Rule::Starved)),
     ),
     (
         b"query 1\n2\n",
         b"register 0 1\nend 0 1\n",
-        Verdict::Illegal {
-            line: 4,
-            place: 1,
-            reason: Reason::Broken(Rule::NeedsNothing),
-        },
+        Said::Illegal(4, 1, Reason::Broken(Rule::NeedsNothing)),
     ),
+];
+
+// A text of answers, a trace, the query that isn't answered, if that is why, and where they part: the line and the
+// byte, what is expected, and what is found.
+const PARTINGS: &[(&[u8], &[u8], Option<usize>, u64, usize, &[u8], &[u8])] = &[
+    (
+        b"refused 1: read fault\n",
+        STORY,
+        None,
+        1,
+        12,
+        b"refused 1: memory\n",
+        b"refused 1: read fault\n",
+    ),
+    (b"query 1\n3\n", STORY, Some(1), 2, 1, b"2\n", b"3\n"),
+    // The line of an answer that is longer, and one that is cut.
+    (b"query 1\n22\n", STORY, Some(1), 2, 2, b"2\n", b"22\n"),
+    (b"query 1\n2", b"", Some(1), 2, 2, b"2\n", b"2"),
+    (b"query 1\n", b"", Some(1), 2, 1, b"2\n", b""),
+    (b"", STORY, Some(1), 1, 1, b"query 1\n", b"register 0 1\n"),
+    (b"", b"", Some(1), 1, 1, b"query 1\n", b""),
 ];
 
 #[test]
 fn outputs_have_their_verdicts(rt: HostRuntime) -> Result<(), Fail> {
     for (answers, trace, wanted) in VERDICTS {
-        assert_eq!(rt; verdict_on_both(&rt, rt.alloc(), answers, trace)?, *wanted);
+        let verdict = verdict_on_both(&rt, rt.alloc(), answers, trace)?;
+        assert_eq!(rt; said_by(&verdict), *wanted);
+    }
+    Ok(())
+}
+
+// The query that isn't answered, if that is why, and where the output parts from what should stand there.
+fn parting_in(verdict: Verdict) -> Option<(Option<usize>, Parting)> {
+    match verdict {
+        Verdict::NotAnswered { query, parting } => Some((Some(query), parting)),
+        Verdict::Differs { parting } => Some((None, parting)),
+        _ => None,
+    }
+}
+
+#[test]
+fn wrong_lines_are_told_with_what_is_expected(rt: HostRuntime) -> Result<(), Fail> {
+    for (answers, trace, asked, line, byte, expected, found) in PARTINGS {
+        let Some((query, parting)) = parting_in(verdict_on_both(&rt, rt.alloc(), answers, trace)?)
+        else {
+            panic!(&rt; "no parting")
+        };
+        assert_eq!(rt; query, *asked);
+        assert_eq!(rt; parting.line, *line);
+        assert_eq!(rt; parting.byte, *byte);
+        assert_eq!(rt; parting.expected.as_slice(), *expected);
+        assert_eq!(rt; parting.found.as_slice(), *found);
     }
     Ok(())
 }

@@ -86,25 +86,25 @@ const SAID: &[(&str, u8, &str, &str)] = &[
     (
         "judge|--threads|1|--frames|4|--rows|1|table|batch|all_at_once",
         1,
-        "not legal: line 4 may not come: the worker registers query 1 next\n",
+        "not legal: line 4 may not come: the worker registers query 1 next, found register 0 3\n",
         "",
     ),
     (
         "judge|--threads|1|--frames|4|--rows|1|--scratch|f|table|batch|all_at_once",
         1,
-        "not legal: line 4 may not come: the worker registers query 1 next\n",
+        "not legal: line 4 may not come: the worker registers query 1 next, found register 0 3\n",
         "",
     ),
     (
         "judge|--threads|1|--frames|4|--rows|1|table|batch|backwards",
         1,
-        "not legal: line 7 may not come: the worker registers query 1 next\n",
+        "not legal: line 7 may not come: the worker registers query 1 next, found register 0 3\n",
         "",
     ),
     (
         "judge|--threads|1|--frames|4|--rows|1|table|batch|one_fault",
         1,
-        "not legal: line 9 may not come: without --scratch no read fails\n",
+        "not legal: line 9 may not come: without --scratch no read fails, found failed 0 1 0 fault 5 6\n",
         "",
     ),
     (
@@ -116,7 +116,7 @@ const SAID: &[(&str, u8, &str, &str)] = &[
     (
         "judge|--threads|1|--frames|4|--rows|1|--scratch|f|table|batch|count_fell",
         1,
-        "not legal: line 12 may not come: the count of faults had come to 6 before\n",
+        "not legal: line 12 may not come: the count of faults had come to 6 before, found failed 0 2 0 fault 0 1\n",
         "",
     ),
     (
@@ -128,7 +128,7 @@ const SAID: &[(&str, u8, &str, &str)] = &[
     (
         "judge|--threads|1|--frames|4|--rows|1|--scratch|f|table|batch|word_3",
         1,
-        "not legal: line 9 may not come: the piece has no such word\n",
+        "not legal: line 9 may not come: the piece has no such word, found failed 0 1 0 damage 3\n",
         "",
     ),
     (
@@ -140,7 +140,7 @@ const SAID: &[(&str, u8, &str, &str)] = &[
     (
         "judge|--threads|1|--frames|4|--rows|1|table|batch|word_1",
         1,
-        "not legal: line 9 may not come: without --scratch no read fails\n",
+        "not legal: line 9 may not come: without --scratch no read fails, found failed 0 1 0 damage 1\n",
         "",
     ),
 ];

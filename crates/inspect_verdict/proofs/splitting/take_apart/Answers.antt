@@ -27,7 +27,7 @@ loop-part-preserved c =
     }
 
 pub returns-in_default-clause-left : goal.returns-in_default-clause-left
-returns-in_default-clause-left c = end_of_end c.args.text.now c.loop-part.rest.now c.end_apart.result.now c.loop-part.invariant.end c.end_apart.ensures.end
+returns-in_default-clause-left c = end_of_end c.args.text.now c.loop-part.rest.now c.ends_apart.result.0.now c.loop-part.invariant.end c.ends_apart.ensures.end
 
 pub returns-in_default-clause-lacks : goal.returns-in_default-clause-lacks
 returns-in_default-clause-lacks c =
@@ -37,15 +37,17 @@ returns-in_default-clause-lacks c =
     let rest = c.loop-part.rest.now in
     let next : drop i parts ≡ p ∷ drop (i + 1) parts = drop_more parts i p c.loop-part-test.true ∙ ap (λ (s : Part). s ∷ drop (i + 1) parts) (sym c.part-item.is) in
     let none = c.in_default.ensures.none in
-    let Parts = λ (own : List ℕ). PartsFrom rest own c.end_apart.result.now in
+    let Parts = λ (own : List ℕ). PartsFrom rest own c.ends_apart.result.0.now c.ends_apart.result.1.now in
     record {
       before = take i parts;
       part = p;
       after = drop (i + 1) parts;
       parts_are = sym (take-append-drop i parts) ∙ ap (λ (l : List Part). take i parts ++ l) next;
       at_place = (let a = length-take-le i parts (omega (arith, c.loop-part-test.true)) in omega (arith, a, c.loop-part.invariant.count));
+      front = c.loop-part.invariant.end.before;
       rest = rest;
+      text_is = c.loop-part.invariant.end.joined;
       behind = c.loop-part.invariant.front;
       none = none;
-      parted = subst Parts c.as_slice.ensures (c.end_apart.ensures.parts (λ e. not_own p rest none (e ∙ c.as_slice.ensures)));
+      parted = subst Parts c.as_slice.ensures (c.ends_apart.ensures.parts (λ e. not_own p rest none (e ∙ c.as_slice.ensures)));
     }

@@ -12,7 +12,9 @@ use Rattle.query_gather.specs.Answer.{CanBeWritten}
 use Rattle.query_gather.specs.declared.answer.Answer.{Answer}
 use Rattle.batch_plan.specs.declared.task.Task.{Task}
 use Rattle.batch_ends.specs.Tasks.{IsPlanOfTable}
-use Rattle.inspect_verdict.specs.Ends.{BeginsAtLine, PartsAtLine}
+use Rattle.inspect_verdict.specs.Ends.{BeginsAtLine}
+use Rattle.inspect_verdict.specs.Lines.{IsParting}
+use Rattle.inspect_verdict.specs.declared.parting.Parting.{Parting}
 use Rattle.run_stops.specs.Outcomes.{plans_of}
 use Rattle.run_stops.specs.declared.outcome.Outcome.{Outcome}
 use Rattle.run_ends.specs.Running.{shape_in}
@@ -250,11 +252,11 @@ answers_with-requires c =
     let stops : c.deref-9.result.now ≡ map f c.deref-7.result.now = c.deref-9.ensures.value ∙ c.in_ok-stops.ensures.stops in
     ap length stops ∙ (length-map c.deref-7.result.now f ∙ (ap length tasks7 ∙ (tasks_count 1 os ∙ sym (zip-length (IsPlain rows) (plans_of os) c.in_ok-plain.plain.items are))))
 
-pub other_line-requires-clause-columns : goal.other_line-requires-clause-columns
-other_line-requires-clause-columns c = names_are c.args.inputs.now c.requires.can
+pub parting_from-requires-clause-columns : goal.parting_from-requires-clause-columns
+parting_from-requires-clause-columns c = names_are c.args.inputs.now c.requires.can
 
-pub other_line-requires-clause-cells : goal.other_line-requires-clause-cells
-other_line-requires-clause-cells c =
+pub parting_from-requires-clause-cells : goal.parting_from-requires-clause-cells
+parting_from-requires-clause-cells c =
     let i = c.args.inputs.now in
     let can = c.requires.can in
     let rows = i.loaded.table.rows in
@@ -291,9 +293,9 @@ returns-in-Some c =
     let now = answers_now i can c.args.policy c.args.scratch c.args.output.now c.requires.short d3 are3 r reads_all t c.in-Ok.is in
     let text : text_with i now t.story.items ≡ text_with i c.deref-10.result.now c.deref-11.result.now =
     ap (λ (gs : List Answer). text_with i gs t.story.items) (sym same) ∙ ap (λ (es : List Entry). text_with i c.deref-10.result.now es) (sym c.deref-11.ensures.value) in
-    let Parts = λ (o : Option ℕ). IfSome o (PartsAtLine c.args.output.now (text_with i c.deref-10.result.now c.deref-11.result.now)) in
+    let Parts = λ (o : Option Parting). IfSome o (IsParting c.args.output.now (text_with i c.deref-10.result.now c.deref-11.result.now)) in
     let parts = subst Parts c.in-Some.is c.in_ok-other.ensures.parts in
-    let At = λ (o : List ℕ). PartsAtLine c.args.output.now o c.in-Some.line in
+    let At = λ (o : List ℕ). IsParting c.args.output.now o c.in-Some.parting in
     let here = subst At (sym text) parts in
     let Traces = λ (x : Result Told Verdict). IfOk x (λ (k : Told). IsTrace i c.args.output.now (story_text k.story.items)) in
     let j = c.in_ok-counts.field-0 in
@@ -303,14 +305,14 @@ returns-in-Some c =
     let legal = subst Legal c.in-Legal.is is in
     record {
       verdict = record {
-        none = differs_none i can c.args.policy c.args.scratch c.args.output.now c.requires.short d3 are3 r reads_all t c.in-Ok.is (parts_other c.args.output.now (text_with i now t.story.items) here.end here.parts);
+        none = differs_none i can c.args.policy c.args.scratch c.args.output.now c.requires.short d3 are3 r reads_all t c.in-Ok.is (parts_other c.args.output.now (text_with i now t.story.items) here.end here.more here.parts);
         story = t.story.items;
         trace = subst Traces c.in-Ok.is c.in_ok-told.ensures.trace;
         legal = legal.0;
         whole = legal.1;
         answers = now;
         lost = answers_lost i can c.args.policy c.args.scratch c.args.output.now c.requires.short d3 are3 r reads_all t c.in-Ok.is legal.0;
-        parts = here;
+        parting = here;
       };
     }
 
@@ -337,7 +339,7 @@ returns c =
     let now = answers_now i can c.args.policy c.args.scratch c.args.output.now c.requires.short d3 are3 r reads_all t c.in-Ok.is in
     let text : text_with i now t.story.items ≡ text_with i c.deref-10.result.now c.deref-11.result.now =
     ap (λ (gs : List Answer). text_with i gs t.story.items) (sym same) ∙ ap (λ (es : List Entry). text_with i c.deref-10.result.now es) (sym c.deref-11.ensures.value) in
-    let Same = λ (o : Option ℕ). IfNone o (c.args.output.now ≡ text_with i c.deref-10.result.now c.deref-11.result.now) in
+    let Same = λ (o : Option Parting). IfNone o (c.args.output.now ≡ text_with i c.deref-10.result.now c.deref-11.result.now) in
     let whole : c.args.output.now ≡ text_with i now t.story.items = subst Same c.in-None.is c.in_ok-other.ensures.same ∙ sym text in
     let Fit = λ (x : Result Told Verdict). IfOk x (λ (k : Told). AllByRecursion Fits k.story.items) in
     let Legal = λ (k : Judged). IsJudged (run_setting i c.args.policy) (shape_in i) c.args.scratch t.story.items k in

@@ -1,5 +1,5 @@
 use Rattle.std.proofs.Common.{◌≡◌, take}
-use Rattle.inspect_verdict.proofs.parting.end_apart.Given as goal
+use Rattle.inspect_verdict.proofs.parting.ends_apart.Given as goal
 
 abbrev pub invariant-loop-place : goal.invariant-loop-place
 invariant-loop-place l = record {

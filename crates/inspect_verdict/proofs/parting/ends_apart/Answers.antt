@@ -1,8 +1,8 @@
-use Rattle.std.proofs.Common.{◌≡◌, ◌<◌, List, ℕ, length, take, sym, subst, arith}
+use Rattle.std.proofs.Common.{◌≡◌, ◌<◌, ◌-◌, List, ℕ, length, drop, take, sym, subst, arith}
 use Rattle.std.proofs.lemmas.List.{take_rest}
 use Rattle.inspect_verdict.specs.Ends.{EndsWith, PartsFrom}
 use Rattle.inspect_verdict.proofs.Partings.{end_from, parts_here, parts_there}
-use Rattle.inspect_verdict.proofs.parting.end_apart.Goals as goal
+use Rattle.inspect_verdict.proofs.parting.ends_apart.Goals as goal
 
 pub returns-then-text-place-clause-end : goal.returns-then-text-place-clause-end
 returns-then-text-place-clause-end c =
@@ -19,8 +19,9 @@ returns-then-text-place-clause-parts c apart =
     let other = c.args.other.now in
     let low : i < length text = omega (arith, c.loop-place-test.true, c.min-both.ensures) in
     let high : i < length other = omega (arith, c.loop-place-test.true, c.min-both.ensures) in
-    let Parts = λ (l : List ℕ). PartsFrom text other l in
-    subst Parts (sym (take_rest text i)) (parts_here text other i low high c.loop-place.invariant.same c.if-text-place.true)
+    let Ends = λ (l : List ℕ). PartsFrom text other l (drop i other) in
+    let More = λ (m : List ℕ). PartsFrom text other (take (length text - i) (drop i text)) m in
+    subst More (sym (take_rest other i)) (subst Ends (sym (take_rest text i)) (parts_here text other i low high c.loop-place.invariant.same c.if-text-place.true))
 
 pub returns-clause-end : goal.returns-clause-end
 returns-clause-end c =
@@ -36,5 +37,6 @@ returns-clause-parts c apart =
     let other = c.args.other.now in
     let last : c.loop-place.place ≡ i = omega (arith, c.loop-place-test.false, c.loop-place.auto.place-end) in
     let Same = λ (k : ℕ). take k text ≡ take k other in
-    let Parts = λ (l : List ℕ). PartsFrom text other l in
-    subst Parts (sym (take_rest text i)) (parts_there text other i c.min-both.ensures (subst Same last c.loop-place.invariant.same) apart)
+    let Ends = λ (l : List ℕ). PartsFrom text other l (drop i other) in
+    let More = λ (m : List ℕ). PartsFrom text other (take (length text - i) (drop i text)) m in
+    subst More (sym (take_rest other i)) (subst Ends (sym (take_rest text i)) (parts_there text other i c.min-both.ensures (subst Same last c.loop-place.invariant.same) apart))
