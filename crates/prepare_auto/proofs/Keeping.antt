@@ -4,7 +4,7 @@ use Rattle.std.proofs.Math.Numerals.{add-one}
 use Rattle.std.proofs.lemmas.Bool.{cases_Bool}
 use Rattle.std.specs.Prelude.{if◌then◌else◌}
 use Rattle.prepare_page.specs.Advice.{needs_rules, reading_of}
-use Rattle.prepare_page.specs.declared.advice.Reading.{Reading}
+use Rattle.prepare_auto.specs.declared.spelling.Spelling.{Spelling}
 use Rattle.prepare_page.specs.declared.look.Look.{Look}
 use Rattle.std.specs.List.{list_any}
 use Rattle.std.specs.Str.{bytes_eq}
@@ -35,7 +35,7 @@ use Rattle.prepare_rules.specs.declared.rules.Column.{Column}
 use Rattle.prepare_rules.specs.declared.rules.Rules.{Rules}
 use Rattle.prepare_rules.specs.declared.tally.Tally.{Tally}
 use Rattle.prepare_text.specs.Walk.{Lined}
-use Rattle.prepare_auto.specs.Advised.{IsNumberedFor, places_below, shaped, taken_at}
+use Rattle.prepare_auto.specs.Advised.{IsNumberedFor, limit_by, places_below, shaped, spelling_of, taken_at}
 use Rattle.prepare_auto.specs.Kept.{Keeps, KeepsFields, KeepsRecords, rounds}
 
 -- one column more
@@ -47,20 +47,25 @@ abbrev look_places : Look → List Column
 look_places look = places_below (needs_rules look.survey (reading_of look.survey)) look.survey.width
 
 -- what a look doesn't give is as it was asked for
-same-trims : (columns : List Column) (shape : Rules) (reading : Reading) (places : List Column) (taken : Rules) → IsNumberedFor columns shape reading places taken
+same-trims : (columns : List Column) (shape : Rules) (spelling : Spelling) (places : List Column) (taken : Rules) → IsNumberedFor columns shape spelling places taken
     → taken.trims ≡ shape.trims
-same-trims [] shape reading places taken is = ap (λ (r : Rules). r.trims) is.rules
-same-trims (c ∷ cs) shape reading places taken is = ap (λ (r : Rules). r.trims) is
+same-trims [] shape spelling places taken is = ap (λ (r : Rules). r.trims) is.rules
+same-trims (c ∷ cs) shape spelling places taken is = ap (λ (r : Rules). r.trims) is
 
-same-limit : (columns : List Column) (shape : Rules) (reading : Reading) (places : List Column) (taken : Rules) → IsNumberedFor columns shape reading places taken
-    → taken.limit ≡ shape.limit
-same-limit [] shape reading places taken is = ap (λ (r : Rules). r.limit) is.rules
-same-limit (c ∷ cs) shape reading places taken is = ap (λ (r : Rules). r.limit) is
+rounds-by : (limit : Option Limit) (b : Bool) → rounds (limit_by limit b) ≡ rounds limit
+rounds-by None true = refl
+rounds-by None false = refl
+rounds-by (Some limit) b = refl
 
-same-skip : (columns : List Column) (shape : Rules) (reading : Reading) (places : List Column) (taken : Rules) → IsNumberedFor columns shape reading places taken
+same-rounds : (columns : List Column) (shape : Rules) (spelling : Spelling) (places : List Column) (taken : Rules) → IsNumberedFor columns shape spelling places taken
+    → rounds taken.limit ≡ rounds shape.limit
+same-rounds [] shape spelling places taken is = ap (λ (r : Rules). rounds r.limit) is.rules ∙ rounds-by shape.limit spelling.has_zeros
+same-rounds (c ∷ cs) shape spelling places taken is = ap (λ (r : Rules). rounds r.limit) is
+
+same-skip : (columns : List Column) (shape : Rules) (spelling : Spelling) (places : List Column) (taken : Rules) → IsNumberedFor columns shape spelling places taken
     → taken.skip ≡ shape.skip
-same-skip [] shape reading places taken is = ap (λ (r : Rules). r.skip) is.rules
-same-skip (c ∷ cs) shape reading places taken is = ap (λ (r : Rules). r.skip) is
+same-skip [] shape spelling places taken is = ap (λ (r : Rules). r.skip) is.rules
+same-skip (c ∷ cs) shape spelling places taken is = ap (λ (r : Rules). r.skip) is
 
 -- ---- fields
 
@@ -106,8 +111,8 @@ bare-kept taken t r kind.Dates column field l = rw t (dated taken field (is_mark
 
 pub keeps-fields : KeepsFields
 keeps-fields asked look taken is untrimmed unrounded =
-    bare-kept taken (same-trims asked.numbers.now (shaped asked look) (reading_of look.survey) (look_places look) taken is ∙ untrimmed)
-    (ap rounds (same-limit asked.numbers.now (shaped asked look) (reading_of look.survey) (look_places look) taken is) ∙ unrounded)
+    bare-kept taken (same-trims asked.numbers.now (shaped asked look) (spelling_of look) (look_places look) taken is ∙ untrimmed)
+    (same-rounds asked.numbers.now (shaped asked look) (spelling_of look) (look_places look) taken is ∙ unrounded)
 
 -- ---- records
 
@@ -162,4 +167,4 @@ prepared-all rules rows s = subst (λ n. (kept rules (drop n rows)).report.refus
     (sym s) (kept-all rules rows)
 
 pub keeps-records : KeepsRecords
-keeps-records asked look taken is none rows = prepared-all taken rows (same-skip asked.numbers.now (shaped asked look) (reading_of look.survey) (look_places look) taken is ∙ none)
+keeps-records asked look taken is none rows = prepared-all taken rows (same-skip asked.numbers.now (shaped asked look) (spelling_of look) (look_places look) taken is ∙ none)

@@ -4,9 +4,11 @@ use Rattle.std.specs.Prelude.{Option, Some, None, if◌then◌else◌, map}
 use Rattle.std.specs.Borrow.{Bor}
 use Rattle.prepare_look.specs.declared.failure.Failure.TheVariants as broken
 use Rattle.prepare_look.specs.declared.failure.Failure.{Failure as Broken}
-use Rattle.prepare_page.specs.Advice.{has_comma, needs_rules, parts, reading_of}
+use Rattle.prepare_numbers.specs.declared.limit.Limit.{Limit}
+use Rattle.prepare_page.specs.Advice.{act_on, has_comma, needs_rules, parts, reading_of}
 use Rattle.prepare_page.specs.Looks.{IsLookBy}
 use Rattle.prepare_page.specs.declared.advice.Reading.{Reading}
+use Rattle.prepare_page.specs.declared.advice.TheConstants.{POWERS, ZEROS}
 use Rattle.prepare_page.specs.declared.hint.Hint.{Hint}
 use Rattle.prepare_page.specs.declared.look.Look.{Look}
 use Rattle.prepare_page.specs.declared.marks.TheConstants.{MARKS}
@@ -23,6 +25,7 @@ use Rattle.prepare_rules.specs.declared.rules.Mark.TheVariants as mark
 use Rattle.prepare_rules.specs.declared.rules.Rules.{Rules}
 use Rattle.prepare_auto.specs.declared.ending.Ending.{Ending}
 use Rattle.prepare_auto.specs.declared.given.Given.{Given}
+use Rattle.prepare_auto.specs.declared.spelling.Spelling.{Spelling}
 use Rattle.prepare_auto.specs.declared.stop.Stop.{Stop}
 use Rattle.prepare_auto.specs.declared.stop.Stop.TheVariants.{Record, Titles}
 
@@ -47,6 +50,24 @@ places_below is (suc n) = taken_at is n (places_below is n)
 abbrev pub mark_of : Reading → Mark
 mark_of reading = if has_comma reading then mark.Comma else mark.Point
 
+-- nine digits behind the point at most, and no number is rounded to that
+abbrev pub nine_places : Limit
+nine_places = record { places = 9; rounds = false }
+
+-- the limit that is asked for, and without one nine places where that has to be
+abbrev pub limit_by : Option Limit → Bool → Option Limit
+limit_by None has_zeros = if has_zeros then Some nine_places else None
+limit_by (Some limit) has_zeros = Some limit
+
+-- a power of ten may stand behind numbers where the rules act in a column that has one, and nine places are the limit
+-- where they act in one with more places
+abbrev pub spelling_of : Look → Spelling
+spelling_of look = record {
+  reading = reading_of look.survey;
+  has_powers = act_on look.survey (reading_of look.survey) POWERS;
+  has_zeros = act_on look.survey (reading_of look.survey) ZEROS;
+}
+
 -- the rules that are asked for, with the delimiter of a look, and names or none as it says
 abbrev pub shaped : Rules → Look → Rules
 shaped asked look = record asked { delimiter = look.guess.delimiter; has_names = look.has_names }
@@ -60,28 +81,30 @@ look_marks = map (λ m. m.now) MARKS
 
 -- and with its rules on numbers, which act in these columns, and its marks for missing values behind those that are
 -- asked for, as they may be for columns of dates
-pub record IsNumbered (shape : Rules) (reading : Reading) (places : List Column) (taken : Rules) : Type 0 where
+pub record IsNumbered (shape : Rules) (spelling : Spelling) (places : List Column) (taken : Rules) : Type 0 where
   pub rules : taken ≡ record shape {
     numbers = taken.numbers;
     missing = taken.missing;
-    mark = mark_of reading;
-    parts = parts reading;
+    mark = mark_of spelling.reading;
+    parts = parts spelling.reading;
+    exponents = spelling.has_powers;
+    limit = limit_by shape.limit spelling.has_zeros;
   }
   pub numbers : taken.numbers.now ≡ places
   pub missing : texts taken.missing.now ≡ texts shape.missing.now ++ look_marks
 
 -- columns of numbers that are asked for come with their own rules, and else a look gives both
-abbrev pub IsNumberedFor : List Column → Rules → Reading → List Column → Rules → Type 0
-IsNumberedFor [] shape reading places taken = IsNumbered shape reading places taken
-IsNumberedFor (column ∷ columns) shape reading places taken = taken ≡ shape
+abbrev pub IsNumberedFor : List Column → Rules → Spelling → List Column → Rules → Type 0
+IsNumberedFor [] shape spelling places taken = IsNumbered shape spelling places taken
+IsNumberedFor (column ∷ columns) shape spelling places taken = taken ≡ shape
 
 -- THE RULES: those that are asked for, and where none are, what a look gives
-abbrev pub IsAdvice : Rules → Look → Reading → List Column → Rules → Type 0
-IsAdvice asked look reading places taken = IsNumberedFor asked.numbers.now (shaped asked look) reading places taken
+abbrev pub IsAdvice : Rules → Look → Spelling → List Column → Rules → Type 0
+IsAdvice asked look spelling places taken = IsNumberedFor asked.numbers.now (shaped asked look) spelling places taken
 
 -- they act in the columns of numbers of which some field has to be written anew
 abbrev pub IsAdvised : Rules → Look → Rules → Type 0
-IsAdvised asked look taken = IsAdvice asked look (reading_of look.survey)
+IsAdvised asked look taken = IsAdvice asked look (spelling_of look)
     (places_below (needs_rules look.survey (reading_of look.survey)) look.survey.width) taken
 
 -- these rules were taken, and made this of a text

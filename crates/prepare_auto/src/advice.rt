@@ -4,6 +4,7 @@ ghost use Rattle.prepare_page.specs.Advice.{needs_rules};
 ghost use Rattle.prepare_page.specs.declared.counts.TheConstants.{WIDEST};
 ghost use Rattle.prepare_auto.specs.Advised.{IsAdvice, look_marks, mark_of, places_below, shaped, taken_at, texts};
 
+use crate::spelling::{Spelling, limit_by};
 use prepare_look::Survey;
 use prepare_page::{Look, MARKS, Reading, needs_rules};
 use prepare_rules::{Column, Mark, Rules};
@@ -75,12 +76,12 @@ pub(crate) fn marks_with<'a>(alloc: Global, asked: &[&'a str]) -> Result<Vec<&'a
 pub(crate) fn advised<'a>(
     asked: &'a Rules<'_>,
     look: &Look,
-    reading: Reading,
+    spelling: Spelling,
     numbers: &'a [Column<'_>],
     missing: &'a [&'a str],
 ) -> Rules<'a>
     requires { texts missing.now ≡ texts asked.now.missing.now ++ look_marks }
-    ensures { IsAdvice asked.now look.now reading numbers.now result }
+    ensures { IsAdvice asked.now look.now spelling numbers.now result }
 {
     let shaped = shaped(asked, look);
     if !asked.numbers.is_empty() {
@@ -89,8 +90,10 @@ pub(crate) fn advised<'a>(
     Rules {
         numbers,
         missing,
-        mark: mark_of(reading),
-        parts: reading.parts(),
+        mark: mark_of(spelling.reading),
+        parts: spelling.reading.parts(),
+        exponents: spelling.has_powers,
+        limit: limit_by(asked.limit, spelling.has_zeros),
         ..shaped
     }
 }

@@ -6,6 +6,7 @@ mod advice;
 mod ending;
 mod given;
 mod laws;
+mod spelling;
 mod stop;
 mod writing;
 

@@ -7,9 +7,10 @@ ghost use Rattle.prepare_auto.specs.Advised.{IsDone, IsWritten, failure_of, has_
 use crate::advice::{advised, marks_with, numbers_of};
 use crate::ending::Ending;
 use crate::given::Given;
+use crate::spelling::Spelling;
 use crate::stop::Stop;
 use prepare_look::Failure as Broken;
-use prepare_page::{Look, look_by, reading_of};
+use prepare_page::{Look, look_by};
 use prepare_rules::{Failure, Report, Rules, Tally, prepare};
 use std::alloc::Global;
 use std::io::Write;
@@ -41,10 +42,16 @@ fn write_by<W: Write + Drop>(
     requires { look.now.survey.width ≤ WIDEST }
     ensures { IfOk result (λ p. IsDone asked.now look.now text.now p.1 (W.contents output) (W.contents p.0)) }
 {
-    let reading = reading_of(&look.survey);
-    let numbers = numbers_of(alloc, &look.survey, reading)?;
+    let spelling = Spelling::of(look);
+    let numbers = numbers_of(alloc, &look.survey, spelling.reading)?;
     let missing = marks_with(alloc, asked.missing)?;
-    let rules = advised(asked, look, reading, numbers.as_slice(), missing.as_slice());
+    let rules = advised(
+        asked,
+        look,
+        spelling,
+        numbers.as_slice(),
+        missing.as_slice(),
+    );
     prepare(alloc, &rules, text, output)
 }
 

@@ -47,7 +47,7 @@ adds-next width all left row s t is add =
       long = next (is_long width) row left s.long t.long (seen_in (is_long width) all) (rw w at add.long) is.long;
       folded = next is_folded row left s.folded t.folded (seen_in is_folded all) add.folded is.folded;
       kinds = λ column kind low few.
-          next (is_kind column kind) row left (slice_index_or s.cells.items (column * 24 + kind) none_seen) (slice_index_or t.cells.items (column * 24 + kind) none_seen)
+          next (is_kind column kind) row left (slice_index_or s.cells.items (column * 25 + kind) none_seen) (slice_index_or t.cells.items (column * 25 + kind) none_seen)
           (seen_in (is_kind column kind) all) (add.kinds column kind (rw w low) few) (is.kinds column kind low few);
     }
 
@@ -58,7 +58,7 @@ adds-last width all s is = record {
   short = last (is_short width) s.short (seen_in (is_short width) all) is.short;
   long = last (is_long width) s.long (seen_in (is_long width) all) is.long;
   folded = last is_folded s.folded (seen_in is_folded all) is.folded;
-  kinds = λ column kind low few. last (is_kind column kind) (slice_index_or s.cells.items (column * 24 + kind) none_seen) (seen_in (is_kind column kind) all) (is.kinds column kind low few);
+  kinds = λ column kind low few. last (is_kind column kind) (slice_index_or s.cells.items (column * 25 + kind) none_seen) (seen_in (is_kind column kind) all) (is.kinds column kind low few);
 }
 
 first : (is : Row → Bool) (a : Seen) (all : List Row) → a ≡ seen_in is [] → then_seen a (seen_in is all) ≡ seen_in is all
@@ -72,7 +72,7 @@ adds-first width all s is = record {
   short = first (is_short width) s.short all is.short;
   long = first (is_long width) s.long all is.long;
   folded = first is_folded s.folded all is.folded;
-  kinds = λ column kind low few. first (is_kind column kind) (slice_index_or s.cells.items (column * 24 + kind) none_seen) all (is.kinds column kind low few);
+  kinds = λ column kind low few. first (is_kind column kind) (slice_index_or s.cells.items (column * 25 + kind) none_seen) all (is.kinds column kind low few);
 }
 
 noted-low : (is : Bool) (line n : ℕ) (a : Seen) → a.count < n → (noted is line a).count < n + 1

@@ -1,8 +1,14 @@
 -- Numbers with an exponent: perhaps a minus, digits, perhaps a point and places, the letter, perhaps a sign, digits.
-use Rattle.std.specs.Prelude.{◌==◌, ◌||◌, ℕ, Bool, true, false, List, [], ◌∷◌, if◌then◌else◌}
+use Rattle.std.specs.Prelude.{◌==◌, ◌+◌, ◌&&◌, ◌||◌, ℕ, Bool, true, false, nat_le}
+use Rattle.std.specs.Prelude.{List, [], ◌∷◌, None, if◌then◌else◌}
 use Rattle.std.specs.Char.{is_ascii_digit}
+use Rattle.prepare_look.specs.Shapes.{shape_of}
 use Rattle.prepare_look.specs.declared.exponent.Power.{Power}
 use Rattle.prepare_look.specs.declared.exponent.Power.TheVariants as p
+use Rattle.prepare_look.specs.declared.exponent.TheConstants.{NEAR_PLACES, NEAR_POWER}
+use Rattle.prepare_numbers.specs.Spells.{mantissa, spells}
+use Rattle.prepare_numbers.specs.Values.{value_of}
+use Rattle.prepare_numbers.specs.declared.form.Form.{Form}
 
 abbrev pub after_digit : Power → Power
 after_digit p.Begin = p.Whole
@@ -48,3 +54,16 @@ power_from s (b ∷ bytes) = power_from (power_after s b) bytes
 -- a number with an exponent, whose mantissa has a point or whose exponent has a sign
 abbrev pub has_exponent : List ℕ → Bool
 has_exponent field = power_from p.Begin field
+
+-- numbers with a decimal point and perhaps a power of ten
+abbrev pub with_powers : Form
+with_powers = record { mark = 46; parts = None; exponents = true }
+
+-- so many places hold the number, written out, but for zeros at the end of its mantissa
+abbrev pub fits_places : List ℕ → Bool
+fits_places field =
+    nat_le (value_of 46 field).down ((value_of 46 field).up + (NEAR_PLACES + (shape_of (mantissa field)).zeros))
+
+-- THE NUMBER IS NEAR: its power of ten is no more than this, and so many places hold it
+abbrev pub is_near : List ℕ → Bool
+is_near field = spells with_powers field && nat_le (value_of 46 field).up NEAR_POWER && fits_places field

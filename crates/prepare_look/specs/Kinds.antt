@@ -2,7 +2,7 @@
 use Rattle.std.specs.Prelude.{◌==◌, ◌+◌, ◌-◌, ◌&&◌, ◌||◌, ℕ, Bool, true, false, not, nat_lt, nat_le, if◌then◌else◌}
 use Rattle.std.specs.Prelude.{List, [], ◌∷◌, length, get_or}
 use Rattle.std.specs.Char.{is_ascii_whitespace}
-use Rattle.prepare_look.specs.Exponents.{has_exponent}
+use Rattle.prepare_look.specs.Exponents.{has_exponent, is_near}
 use Rattle.prepare_look.specs.Missing.{is_missing}
 use Rattle.prepare_look.specs.Shapes.{shape_of}
 use Rattle.prepare_look.specs.Traits.{traits_of}
@@ -22,21 +22,22 @@ index_of k.Zeros = 5
 index_of k.Long = 6
 index_of k.Bare = 7
 index_of k.Exponent = 8
-index_of k.Comma = 9
-index_of k.Either = 10
-index_of k.CommaGroups = 11
-index_of k.PointGroups = 12
-index_of k.BlankGroups = 13
-index_of k.BlankComma = 14
-index_of k.Leading = 15
-index_of k.Currency = 16
-index_of k.Percent = 17
-index_of k.IsoDate = 18
-index_of k.DayFirst = 19
-index_of k.MonthFirst = 20
-index_of k.EitherDate = 21
-index_of k.Padded = 22
-index_of k.Text = 23
+index_of k.FarExponent = 9
+index_of k.Comma = 10
+index_of k.Either = 11
+index_of k.CommaGroups = 12
+index_of k.PointGroups = 13
+index_of k.BlankGroups = 14
+index_of k.BlankComma = 15
+index_of k.Leading = 16
+index_of k.Currency = 17
+index_of k.Percent = 18
+index_of k.IsoDate = 19
+index_of k.DayFirst = 20
+index_of k.MonthFirst = 21
+index_of k.EitherDate = 22
+index_of k.Padded = 23
+index_of k.Text = 24
 
 abbrev pub is_text : Kind → Bool
 is_text k.Text = true
@@ -131,8 +132,11 @@ is_currency t = t.has_digit && not t.has_other && t.has_money && not t.has_perce
 abbrev pub is_share : Traits → Bool
 is_share t = t.has_digit && not t.has_other && t.has_percent && not t.has_money
 
+abbrev pub exponent_kind : List ℕ → Kind
+exponent_kind f = if is_near f then k.Exponent else k.FarExponent
+
 abbrev pub marked_kind : List ℕ → Kind
-marked_kind f = if has_exponent f then k.Exponent else if is_currency (traits_of f) then k.Currency
+marked_kind f = if has_exponent f then exponent_kind f else if is_currency (traits_of f) then k.Currency
     else if is_share (traits_of f) then k.Percent else k.Text
 
 abbrev pub unless_text : Kind → Kind → Kind

@@ -1,6 +1,17 @@
 // Numbers with an exponent.
-ghost use Rattle.std.specs.Prelude.{◌≡◌};
+ghost use Rattle.std.specs.Prelude.{◌≡◌, ◌≤◌, ◌+◌, nat_le};
 ghost use Rattle.prepare_look.specs.Exponents as spec;
+ghost use Rattle.prepare_look.specs.Shapes.{shape_of};
+ghost use Rattle.prepare_look.specs.declared.exponent.TheConstants.{NEAR_PLACES, NEAR_POWER};
+
+use crate::shape::shape_of;
+use prepare_numbers::{Form, Spelling, spelling_of};
+
+/// The greatest power of ten with which numbers of 64 bits are written.
+pub(crate) const NEAR_POWER: usize = 18;
+
+/// The most digits behind a point that `coop_cli` takes.
+pub(crate) const NEAR_PLACES: usize = 9;
 
 /// Where a number with an exponent stands that is read byte by byte.
 #[derive(Clone, Copy, Debug, PartialEq, Eq)]
@@ -100,4 +111,29 @@ pub(crate) fn has_exponent(field: &[u8]) -> bool
         power = power.after(field[i]);
     }
     power.ends_so()
+}
+
+// Whether so many places hold the number, but for zeros at the end of its mantissa.
+fn fits_places(spelling: &Spelling<'_>) -> bool
+    requires { spelling.now.up ≤ NEAR_POWER }
+    ensures { result ≡ nat_le spelling.now.down
+        (spelling.now.up + (NEAR_PLACES + (shape_of spelling.now.mantissa.now).zeros)) }
+{
+    spelling.down <= spelling.up + (NEAR_PLACES + shape_of(spelling.mantissa).zeros as usize)
+}
+
+/// Whether the power of ten behind a number is 18 at most, and 9 places hold the number, written out, but for zeros at
+/// the end of its mantissa.
+pub(crate) fn is_near(field: &[u8]) -> bool
+    ensures { result ≡ spec.is_near field.now }
+{
+    let form = Form {
+        mark: b'.',
+        parts: None,
+        exponents: true,
+    };
+    match spelling_of(form, field) {
+        Some(spelling) => spelling.up <= NEAR_POWER && fits_places(&spelling),
+        None => false,
+    }
 }

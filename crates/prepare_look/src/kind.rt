@@ -3,7 +3,7 @@ ghost use Rattle.std.specs.Prelude.{◌≡◌, ◌<◌, length};
 ghost use Rattle.prepare_look.specs.Kinds as spec;
 ghost use Rattle.prepare_look.specs.declared.kind.TheConstants.{KINDS};
 
-use crate::exponent::has_exponent;
+use crate::exponent::{has_exponent, is_near};
 use crate::missing::is_missing;
 use crate::shape::{Shape, shape_of};
 use crate::traits::{Traits, traits_of};
@@ -27,8 +27,11 @@ pub enum Kind {
     Long,
     /// A decimal point without digits on one side, as `.5` and `5.`.
     Bare,
-    /// An exponent, behind a mantissa with a point or with a sign of its own.
+    /// An exponent, behind a mantissa with a point or with a sign of its own: it is 18 at most, and the number, written
+    /// out, has at most 9 places, or zeros past the ninth.
     Exponent,
+    /// The same, of another number.
+    FarExponent,
     /// A decimal comma.
     Comma,
     /// Either a decimal comma or parted thousands, as `1,234`.
@@ -62,7 +65,7 @@ pub enum Kind {
 }
 
 /// How many kinds there are.
-pub const KINDS: usize = 24;
+pub const KINDS: usize = 25;
 
 impl Kind {
     /// Its number, from 0.
@@ -80,21 +83,22 @@ impl Kind {
             Kind::Long => 6,
             Kind::Bare => 7,
             Kind::Exponent => 8,
-            Kind::Comma => 9,
-            Kind::Either => 10,
-            Kind::CommaGroups => 11,
-            Kind::PointGroups => 12,
-            Kind::BlankGroups => 13,
-            Kind::BlankComma => 14,
-            Kind::Leading => 15,
-            Kind::Currency => 16,
-            Kind::Percent => 17,
-            Kind::IsoDate => 18,
-            Kind::DayFirst => 19,
-            Kind::MonthFirst => 20,
-            Kind::EitherDate => 21,
-            Kind::Padded => 22,
-            Kind::Text => 23,
+            Kind::FarExponent => 9,
+            Kind::Comma => 10,
+            Kind::Either => 11,
+            Kind::CommaGroups => 12,
+            Kind::PointGroups => 13,
+            Kind::BlankGroups => 14,
+            Kind::BlankComma => 15,
+            Kind::Leading => 16,
+            Kind::Currency => 17,
+            Kind::Percent => 18,
+            Kind::IsoDate => 19,
+            Kind::DayFirst => 20,
+            Kind::MonthFirst => 21,
+            Kind::EitherDate => 22,
+            Kind::Padded => 23,
+            Kind::Text => 24,
         }
     }
 }
@@ -333,12 +337,21 @@ fn is_text(kind: Kind) -> bool
     matches!(kind, Kind::Text)
 }
 
+fn exponent_kind(field: &[u8]) -> Kind
+    ensures { result ≡ spec.exponent_kind field.now }
+{
+    if is_near(field) {
+        return Kind::Exponent;
+    }
+    Kind::FarExponent
+}
+
 // A field that is no plain number.
 fn marked_kind(field: &[u8]) -> Kind
     ensures { result ≡ spec.marked_kind field.now }
 {
     if has_exponent(field) {
-        return Kind::Exponent;
+        return exponent_kind(field);
     }
     let bytes = traits_of(field);
     if is_currency(&bytes) {

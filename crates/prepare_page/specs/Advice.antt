@@ -2,7 +2,7 @@
 use Rattle.std.specs.Prelude.{◌&&◌, ℕ, Bool, true, false, List, Option, Some, None, if◌then◌else◌}
 use Rattle.prepare_look.specs.declared.kind.Kind.{Kind}
 use Rattle.prepare_look.specs.declared.survey.Survey.{Survey}
-use Rattle.prepare_page.specs.Columns.{has, is_of, some_column}
+use Rattle.prepare_page.specs.Columns.{has, is_of, some_below, some_column}
 use Rattle.prepare_page.specs.declared.advice.Reading.{Reading}
 use Rattle.prepare_page.specs.declared.advice.Reading.TheVariants as r
 use Rattle.prepare_page.specs.declared.advice.TheConstants as c
@@ -51,7 +51,7 @@ barred r.CommaBlankParts = c.NOT_IN_COMMA_BLANKS
 
 -- kinds that have to be written anew
 abbrev pub mended : Reading → List Kind
-mended r.Point = c.MISSING
+mended r.Point = c.IN_POINT
 mended r.PointCommaParts = c.IN_POINT_COMMAS
 mended r.PointBlankParts = c.IN_POINT_BLANKS
 mended r.Comma = c.IN_COMMA
@@ -61,6 +61,13 @@ mended r.CommaBlankParts = c.IN_COMMA_BLANKS
 -- THE RULES ON NUMBERS HAVE TO ACT in a column: it is one of numbers, and some field has to be written anew
 abbrev pub needs_rules : Survey → Reading → ℕ → Bool
 needs_rules s reading column = is_of s column (mended reading) (barred reading) && has s column c.NUMBERS
+
+-- they have to act in a column that has fields of these kinds, in some column that has
+abbrev pub acts_on : Survey → Reading → List Kind → ℕ → Bool
+acts_on s reading kinds column = needs_rules s reading column && has s column kinds
+
+abbrev pub act_on : Survey → Reading → List Kind → Bool
+act_on s reading kinds = some_below (acts_on s reading kinds) s.width
 
 -- some number of the column has more than nine places, and all else is numbers, empty or a mark for a missing value
 abbrev pub is_long : Survey → ℕ → Bool

@@ -1,8 +1,11 @@
 pub mod Advice
 pub mod Blanks
 pub mod Columns
+pub mod Dated
 pub mod Delimiters
 pub mod Headers
 pub mod Looks
+pub mod Naming
+pub mod RowNames
 pub mod Titles
 pub mod Widths

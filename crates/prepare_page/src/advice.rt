@@ -12,13 +12,14 @@ pub const COMMAS: [Kind; 3] = [Kind::Comma, Kind::PointGroups, Kind::BlankComma]
 pub const POINTS: [Kind; 2] = [Kind::Point, Kind::CommaGroups];
 
 /// What no column of numbers with a decimal comma has.
-pub const NO_COMMAS: [Kind; 15] = [
+pub const NO_COMMAS: [Kind; 16] = [
     Kind::Point,
     Kind::CommaGroups,
     Kind::Zeros,
     Kind::Long,
     Kind::Bare,
     Kind::Exponent,
+    Kind::FarExponent,
     Kind::Leading,
     Kind::Currency,
     Kind::Percent,
@@ -31,7 +32,7 @@ pub const NO_COMMAS: [Kind; 15] = [
 ];
 
 /// What no column of numbers with a decimal point has.
-pub const NO_POINTS: [Kind; 16] = [
+pub const NO_POINTS: [Kind; 17] = [
     Kind::Comma,
     Kind::PointGroups,
     Kind::BlankComma,
@@ -39,6 +40,7 @@ pub const NO_POINTS: [Kind; 16] = [
     Kind::Long,
     Kind::Bare,
     Kind::Exponent,
+    Kind::FarExponent,
     Kind::Leading,
     Kind::Currency,
     Kind::Percent,
@@ -63,10 +65,13 @@ pub const COMMA_PARTS: [Kind; 2] = [Kind::CommaGroups, Kind::Either];
 pub const POINT_BLANKS: [Kind; 1] = [Kind::BlankGroups];
 
 /// Numbers.
-pub const NUMBERS: [Kind; 9] = [
+pub const NUMBERS: [Kind; 12] = [
     Kind::Whole,
     Kind::Point,
     Kind::PointThree,
+    Kind::Zeros,
+    Kind::Bare,
+    Kind::Exponent,
     Kind::Comma,
     Kind::Either,
     Kind::CommaGroups,
@@ -75,11 +80,14 @@ pub const NUMBERS: [Kind; 9] = [
     Kind::BlankComma,
 ];
 
-/// Marks for missing values.
-pub const MISSING: [Kind; 1] = [Kind::Missing];
+/// Numbers behind which a power of ten stands.
+pub const POWERS: [Kind; 1] = [Kind::Exponent];
+
+/// Numbers that have at most nine places once zeros past the ninth are left out.
+pub const ZEROS: [Kind; 2] = [Kind::Zeros, Kind::Exponent];
 
 /// Fields with more digits behind the point than `coop_cli` takes.
-pub const LONG: [Kind; 1] = [Kind::Long];
+pub const LONG: [Kind; 2] = [Kind::Long, Kind::FarExponent];
 
 /// What no column of them has.
 pub const NOT_LONG: [Kind; 15] = [
@@ -101,17 +109,15 @@ pub const NOT_LONG: [Kind; 15] = [
 ];
 
 /// What stays a text with a decimal point and nothing that parts thousands.
-pub const NOT_IN_POINT: [Kind; 19] = [
+pub const NOT_IN_POINT: [Kind; 17] = [
     Kind::Comma,
     Kind::PointGroups,
     Kind::BlankComma,
     Kind::CommaGroups,
     Kind::Either,
     Kind::BlankGroups,
-    Kind::Zeros,
     Kind::Long,
-    Kind::Bare,
-    Kind::Exponent,
+    Kind::FarExponent,
     Kind::Leading,
     Kind::Currency,
     Kind::Percent,
@@ -124,15 +130,13 @@ pub const NOT_IN_POINT: [Kind; 19] = [
 ];
 
 /// The same with commas that part them.
-pub const NOT_IN_POINT_COMMAS: [Kind; 17] = [
+pub const NOT_IN_POINT_COMMAS: [Kind; 15] = [
     Kind::Comma,
     Kind::PointGroups,
     Kind::BlankComma,
     Kind::BlankGroups,
-    Kind::Zeros,
     Kind::Long,
-    Kind::Bare,
-    Kind::Exponent,
+    Kind::FarExponent,
     Kind::Leading,
     Kind::Currency,
     Kind::Percent,
@@ -145,16 +149,14 @@ pub const NOT_IN_POINT_COMMAS: [Kind; 17] = [
 ];
 
 /// The same with blanks.
-pub const NOT_IN_POINT_BLANKS: [Kind; 18] = [
+pub const NOT_IN_POINT_BLANKS: [Kind; 16] = [
     Kind::Comma,
     Kind::PointGroups,
     Kind::BlankComma,
     Kind::CommaGroups,
     Kind::Either,
-    Kind::Zeros,
     Kind::Long,
-    Kind::Bare,
-    Kind::Exponent,
+    Kind::FarExponent,
     Kind::Leading,
     Kind::Currency,
     Kind::Percent,
@@ -167,7 +169,7 @@ pub const NOT_IN_POINT_BLANKS: [Kind; 18] = [
 ];
 
 /// What stays a text with a decimal comma and nothing that parts thousands.
-pub const NOT_IN_COMMA: [Kind; 19] = [
+pub const NOT_IN_COMMA: [Kind; 20] = [
     Kind::Point,
     Kind::CommaGroups,
     Kind::PointGroups,
@@ -178,6 +180,7 @@ pub const NOT_IN_COMMA: [Kind; 19] = [
     Kind::Long,
     Kind::Bare,
     Kind::Exponent,
+    Kind::FarExponent,
     Kind::Leading,
     Kind::Currency,
     Kind::Percent,
@@ -190,7 +193,7 @@ pub const NOT_IN_COMMA: [Kind; 19] = [
 ];
 
 /// The same with points that part them.
-pub const NOT_IN_COMMA_POINTS: [Kind; 17] = [
+pub const NOT_IN_COMMA_POINTS: [Kind; 18] = [
     Kind::Point,
     Kind::CommaGroups,
     Kind::BlankComma,
@@ -199,6 +202,7 @@ pub const NOT_IN_COMMA_POINTS: [Kind; 17] = [
     Kind::Long,
     Kind::Bare,
     Kind::Exponent,
+    Kind::FarExponent,
     Kind::Leading,
     Kind::Currency,
     Kind::Percent,
@@ -211,7 +215,7 @@ pub const NOT_IN_COMMA_POINTS: [Kind; 17] = [
 ];
 
 /// The same with blanks.
-pub const NOT_IN_COMMA_BLANKS: [Kind; 17] = [
+pub const NOT_IN_COMMA_BLANKS: [Kind; 18] = [
     Kind::Point,
     Kind::CommaGroups,
     Kind::PointGroups,
@@ -220,6 +224,7 @@ pub const NOT_IN_COMMA_BLANKS: [Kind; 17] = [
     Kind::Long,
     Kind::Bare,
     Kind::Exponent,
+    Kind::FarExponent,
     Kind::Leading,
     Kind::Currency,
     Kind::Percent,
@@ -231,11 +236,27 @@ pub const NOT_IN_COMMA_BLANKS: [Kind; 17] = [
     Kind::Text,
 ];
 
-/// What is written anew with a decimal point and commas between thousands.
-pub const IN_POINT_COMMAS: [Kind; 3] = [Kind::Missing, Kind::CommaGroups, Kind::Either];
+/// What is written anew with a decimal point.
+pub const IN_POINT: [Kind; 4] = [Kind::Missing, Kind::Zeros, Kind::Bare, Kind::Exponent];
+
+/// With commas between thousands.
+pub const IN_POINT_COMMAS: [Kind; 6] = [
+    Kind::Missing,
+    Kind::Zeros,
+    Kind::Bare,
+    Kind::Exponent,
+    Kind::CommaGroups,
+    Kind::Either,
+];
 
 /// With blanks.
-pub const IN_POINT_BLANKS: [Kind; 2] = [Kind::Missing, Kind::BlankGroups];
+pub const IN_POINT_BLANKS: [Kind; 5] = [
+    Kind::Missing,
+    Kind::Zeros,
+    Kind::Bare,
+    Kind::Exponent,
+    Kind::BlankGroups,
+];
 
 /// With a decimal comma.
 pub const IN_COMMA: [Kind; 3] = [Kind::Missing, Kind::Comma, Kind::Either];
@@ -344,7 +365,7 @@ impl Reading {
     {
         match self {
             Reading::Point => Sort {
-                some: &MISSING,
+                some: &IN_POINT,
                 none: &NOT_IN_POINT,
             },
             Reading::PointCommaParts => Sort {
@@ -395,4 +416,25 @@ pub fn needs_rules(survey: &Survey, reading: Reading, column: usize) -> bool
         return false;
     }
     has(survey, column, &NUMBERS)
+}
+
+fn acts_on(survey: &Survey, reading: Reading, kinds: &[Kind], column: usize) -> bool
+    ensures { result ≡ spec.acts_on survey.now reading kinds.now column }
+{
+    if !needs_rules(survey, reading, column) {
+        return false;
+    }
+    has(survey, column, kinds)
+}
+
+/// Whether the rules on numbers have to act in a column that has fields of one of these kinds.
+pub fn act_on(survey: &Survey, reading: Reading, kinds: &[Kind]) -> bool
+    ensures { result ≡ spec.act_on survey.now reading kinds.now }
+{
+    for column in 0..survey.width {
+        if acts_on(survey, reading, kinds, column) {
+            return true;
+        }
+    }
+    false
 }

@@ -1,22 +1,22 @@
 // What is told of a column.
-use crate::look::Look;
+use crate::page::Page;
 use crate::phrases::{ALL, phrase};
 use crate::quoting::Shown;
-use prepare_look::{Kind, field_or_none};
+use prepare_look::{Kind, Survey, field_or_none};
 use std::fmt;
 
 /// A column, counted from 0.
 #[derive(Clone, Copy)]
 pub(crate) struct ColumnTold<'a> {
-    pub look: &'a Look,
+    pub page: &'a Page<'a>,
     pub column: usize,
 }
 
 // The kind of which the most fields are; of several the first.
-fn most_of(look: &Look, column: usize) -> Kind {
+fn most_of(survey: &Survey, column: usize) -> Kind {
     let mut most = Kind::Empty;
     for i in 0..ALL.len() {
-        if look.survey.seen(column, ALL[i]).count > look.survey.seen(column, most).count {
+        if survey.seen(column, ALL[i]).count > survey.seen(column, most).count {
             most = ALL[i];
         }
     }
@@ -24,13 +24,24 @@ fn most_of(look: &Look, column: usize) -> Kind {
 }
 
 impl ColumnTold<'_> {
+    // The place of its name, where it has one.
+    fn named(&self) -> Option<usize> {
+        if !self.page.look.has_names {
+            return None;
+        }
+        if self.page.wide.is_none() {
+            return Some(self.column);
+        }
+        self.column.checked_sub(1)
+    }
+
     fn write_kind<W: fmt::Write>(
         &self,
         f: &mut fmt::Formatter<W>,
         kind: Kind,
         is_most: bool,
     ) -> fmt::Result {
-        let seen = self.look.survey.seen(self.column, kind);
+        let seen = self.page.survey().seen(self.column, kind);
         let (count, line, what) = (seen.count, seen.line, phrase(kind));
         if count == 0 {
             return Ok(());
@@ -46,12 +57,12 @@ impl fmt::Display for ColumnTold<'_> {
     fn fmt<W: fmt::Write>(&self, f: &mut fmt::Formatter<W>) -> fmt::Result {
         let place = self.column as u128 + 1;
         write!(f, "column {place}")?;
-        if self.look.has_names {
-            let name = Shown(field_or_none(&self.look.first.fields, self.column));
+        if let Some(named) = self.named() {
+            let name = Shown(field_or_none(&self.page.look.first.fields, named));
             write!(f, " {name}")?;
         }
         f.write_str(":")?;
-        let most = most_of(self.look, self.column);
+        let most = most_of(self.page.survey(), self.column);
         self.write_kind(f, most, true)?;
         for i in 0..ALL.len() {
             if ALL[i] != most {

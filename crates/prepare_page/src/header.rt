@@ -10,7 +10,7 @@ use csv::ByteRecord;
 use prepare_look::{Kind, Survey, field_or_none, kind_of};
 
 /// Numbers and dates.
-pub const VALUES: [Kind; 20] = [
+pub const VALUES: [Kind; 21] = [
     Kind::Whole,
     Kind::Point,
     Kind::PointThree,
@@ -18,6 +18,7 @@ pub const VALUES: [Kind; 20] = [
     Kind::Long,
     Kind::Bare,
     Kind::Exponent,
+    Kind::FarExponent,
     Kind::Comma,
     Kind::Either,
     Kind::CommaGroups,

@@ -13,7 +13,7 @@ pub const MARKS: [&str; 14] = [
 pub(crate) const MOST_COLUMNS: usize = 16;
 
 /// The most records that are looked at.
-const MOST_RECORDS: u64 = 1 << 62;
+pub(crate) const MOST_RECORDS: u64 = 1 << 62;
 
 /// The columns, from 0, in which the rules on numbers have to act, of those that `coop_cli` could take.
 pub(crate) fn columns_of(

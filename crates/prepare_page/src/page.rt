@@ -1,12 +1,15 @@
 // The page that tells of an export.
 use crate::advice::{Reading, reading_of};
 use crate::columns_told::ColumnTold;
+use crate::dated::{Dated, dated_in};
 use crate::look::Look;
-use crate::marks::{columns_of, joined, long_of, marks_in};
+use crate::marks::{MOST_COLUMNS, columns_of, joined, long_of, marks_in};
+use crate::naming::{are_twice, new_names};
 use crate::needs::Needs;
 use crate::quoting::Quoted;
+use crate::row_names::rows_named;
 use prepare_decode::Encoding;
-use prepare_look::{Failure, Seen};
+use prepare_look::{Failure, Seen, Survey};
 use std::alloc::Global;
 use std::fmt;
 
@@ -26,9 +29,17 @@ pub struct Page<'a> {
     pub(crate) marks: Vec<bool>,
     // Those that have numbers with more than nine places.
     pub(crate) long: Vec<usize>,
-    // Both, where these numbers are to be rounded, and the marks for missing values that stand in them.
+    // Both, where these numbers are to be rounded, and the marks for missing values that stand in them and in dates.
     pub(crate) asked: Vec<usize>,
     pub(crate) asked_marks: Vec<bool>,
+    // Those of dates that tell their order.
+    pub(crate) dated: Dated,
+    // What is seen where each record has a field more than there are names, and the first names its row.
+    pub(crate) wide: Option<Survey>,
+    // Some two columns have one name, above some records.
+    pub(crate) has_twice: bool,
+    // Other names, of which no two are equal, where there have to be others.
+    pub(crate) names: Vec<String>,
 }
 
 /// The page of an export whose characters are written so, by its text in UTF-8 and all that is seen of it; where runs
@@ -46,9 +57,19 @@ pub fn page_of<'a>(
     let columns = columns_of(alloc, &look.survey, reading)?;
     let skip = look.below;
     let marks = marks_in(alloc, look.marks(), text, skip, columns.as_slice())?;
-    let long = long_of(alloc, &look.survey, reading)?;
-    let asked = joined(alloc, columns.as_slice(), long.as_slice())?;
-    let asked_marks = marks_in(alloc, look.marks(), text, skip, asked.as_slice())?;
+    let wide = rows_named(alloc, text, look)?;
+    let survey = wide.as_ref().unwrap_or(&look.survey);
+    let long = long_of(alloc, survey, reading)?;
+    let spelled = columns_of(alloc, survey, reading)?;
+    let asked = joined(alloc, spelled.as_slice(), long.as_slice())?;
+    let dated = dated_in(alloc, look.marks(), text, skip, survey)?;
+    let marked = joined(alloc, asked.as_slice(), dated.columns.as_slice())?;
+    let asked_marks = marks_in(alloc, look.marks(), text, skip, marked.as_slice())?;
+    let few = look.first.fields.len().min(MOST_COLUMNS);
+    let is_table = look.has_names && look.survey.records > 0;
+    let has_twice = is_table && are_twice(&look.first.fields, few);
+    let names = if has_twice || wide.is_some() { few } else { 0 };
+    let names = new_names(alloc, &look.first.fields, names)?;
     Ok(Page {
         file,
         encoding,
@@ -60,6 +81,10 @@ pub fn page_of<'a>(
         long,
         asked,
         asked_marks,
+        dated,
+        wide,
+        has_twice,
+        names,
     })
 }
 
@@ -172,12 +197,12 @@ impl Page<'_> {
     }
 
     fn write_columns<W: fmt::Write>(&self, f: &mut fmt::Formatter<W>) -> fmt::Result {
-        for column in 0..self.look.survey.width {
-            let look = self.look;
-            write!(f, "{}", ColumnTold { look, column })?;
+        for column in 0..self.survey().width {
+            let page = self;
+            write!(f, "{}", ColumnTold { page, column })?;
         }
         let columns = self.look.first.fields.len();
-        if columns > self.look.survey.width {
+        if columns > self.survey().width {
             writeln!(f, "columns: {columns}; none of them is looked at")?;
         }
         Ok(())

@@ -2,7 +2,7 @@
 use prepare_look::Kind;
 
 /// All kinds, in the order in which they are told.
-pub(crate) const ALL: [Kind; 24] = [
+pub(crate) const ALL: [Kind; 25] = [
     Kind::Whole,
     Kind::Point,
     Kind::PointThree,
@@ -16,6 +16,7 @@ pub(crate) const ALL: [Kind; 24] = [
     Kind::Long,
     Kind::Bare,
     Kind::Exponent,
+    Kind::FarExponent,
     Kind::Leading,
     Kind::Currency,
     Kind::Percent,
@@ -41,6 +42,7 @@ pub(crate) fn phrase(kind: Kind) -> &'static str {
         Kind::Long => "with more than 9 places",
         Kind::Bare => "as .5 or 5.",
         Kind::Exponent => "with an exponent",
+        Kind::FarExponent => "with an exponent above 18 or more than 9 places",
         Kind::Comma => "with a decimal comma",
         Kind::Either => "as 1,234",
         Kind::CommaGroups => "with commas between thousands",

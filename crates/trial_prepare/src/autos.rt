@@ -1,7 +1,7 @@
 // Exports that are written as a look at them says.
 use crate::exports::PLAIN;
 use prepare_auto::{Given, Stop, write_auto};
-use prepare_rules::{Cause, Column, Refusal, Rules};
+use prepare_rules::{Cause, Column, Limit, Refusal, Rules};
 use std::alloc::Global;
 use std::process::Abort;
 
@@ -65,8 +65,47 @@ fn dates_are_asked_for_beside_it(rt: HostRuntime) {
 
 #[test]
 fn what_is_right_stays(rt: HostRuntime) {
-    let export = b"id,price\n007,1.50\n008,-.5\n";
+    let export = b"id,price,call\n007,1.50,12E4\n008,-5.25,3E1\n";
     expect(&rt, rt.alloc(), &PLAIN, export, export);
+}
+
+#[test]
+fn numbers_of_programs(rt: HostRuntime) {
+    expect(
+        &rt,
+        rt.alloc(),
+        &PLAIN,
+        b"id,share,note\n1,.5,.5\n2,-5.,x\n",
+        b"id,share,note\n1,0.5,.5\n2,-5,x\n",
+    );
+    expect(
+        &rt,
+        rt.alloc(),
+        &PLAIN,
+        b"id,mass,far\n1,1.5e3,1e-12\n2,2.50000000000,2.5e+03\n3,1.000e-09,1\n",
+        b"id,mass,far\n1,1500,1e-12\n2,2.500000000,2.5e+03\n3,0.000000001,1\n",
+    );
+    expect(
+        &rt,
+        rt.alloc(),
+        &PLAIN,
+        b"id,rate\n1,0.12345678901\n2,.5\n",
+        b"id,rate\n1,0.12345678901\n2,.5\n",
+    );
+    let four = Rules {
+        limit: Some(Limit {
+            places: 4,
+            rounds: true,
+        }),
+        ..PLAIN
+    };
+    expect(
+        &rt,
+        rt.alloc(),
+        &four,
+        b"id,mass\n1,1.23456e-1\n2,NA\n",
+        b"id,mass\n1,0.1235\n2,\n",
+    );
 }
 
 #[test]

@@ -1,5 +1,6 @@
 // What is seen and guessed of exports.
 use prepare_decode::Encoding;
+use prepare_look::{Kind, kind_of};
 use prepare_page::{look_at, page_of, tabs_in};
 use std::alloc::Global;
 use std::process::Abort;
@@ -109,4 +110,127 @@ fn rounding_is_asked_for(rt: HostRuntime) {
         ./coop_prepare write --numbers 2,3 --missing=NA --exponents --places 9 --round x.csv\n";
     let page = page(&rt, rt.alloc(), "x.csv", Encoding::Utf8, export);
     assert!(rt; page.as_bytes() == told.as_bytes());
+}
+
+#[test]
+fn powers_of_ten(rt: HostRuntime) {
+    let fields = [
+        ("1.5e3", Kind::Exponent),
+        ("-2.5E+2", Kind::Exponent),
+        ("0.000000000000000000e+00", Kind::Exponent),
+        ("1e-9", Kind::Exponent),
+        ("1e-10", Kind::FarExponent),
+        ("1.000e-09", Kind::Exponent),
+        ("1.500e-09", Kind::FarExponent),
+        ("1.0e18", Kind::Exponent),
+        ("1.0e19", Kind::FarExponent),
+        ("1e-1000", Kind::FarExponent),
+        ("1.e5", Kind::Text),
+        ("12E4", Kind::Text),
+    ];
+    for (field, kind) in &fields {
+        assert!(rt; kind_of(field.as_bytes()) == *kind, "{field}");
+    }
+}
+
+#[test]
+fn numbers_of_programs(rt: HostRuntime) {
+    let export = "id,share,mass,far\n1,.5,1.5e3,1e-12\n2,NA,2.5000000000,1.25\n";
+    let told = "file x.csv: UTF-8, 3 line ends\n\
+        delimiter ',': 3 of 3 records have 4 fields\n\
+        names: in line 1\n\
+        column 1 \"id\": 2 whole\n\
+        column 2 \"share\": 1 as .5 or 5.; 1 marked as missing, the first in line 3\n\
+        column 3 \"mass\": 1 with zeros past the ninth place; 1 with an exponent, the first in line 2\n\
+        column 4 \"far\": 1 with a decimal point; \
+        1 with an exponent above 18 or more than 9 places, the first in line 2\n\
+        needed: --numbers, since these columns are read as texts else\n\
+        to be asked for: --places 9 --round, since columns have numbers with more places, which are rounded: 4\n\
+        \n\
+        ./coop_prepare write --numbers 2,3 --missing=NA --exponents --places 9 x.csv\n\
+        and with what has to be asked for:\n\
+        ./coop_prepare write --numbers 2,3,4 --missing=NA --exponents --places 9 --round x.csv\n";
+    let page = page(&rt, rt.alloc(), "x.csv", Encoding::Utf8, export);
+    assert!(rt; page.as_bytes() == told.as_bytes());
+}
+
+// The lines of a page from the first that says what is needed or has to be asked for.
+fn expect_needs(rt: &impl Abort, alloc: Global, export: &str, told: &str) {
+    let page = page(rt, alloc, "x.csv", Encoding::Utf8, export);
+    assert!(rt; page.ends_with(told), "{page}");
+}
+
+#[test]
+fn equal_names(rt: HostRuntime) {
+    expect_needs(
+        &rt,
+        rt.alloc(),
+        "Sales\nrate,rate,,rate,n o,rate_4\n1,2,x,3,4,.5\n1,2,y,3,4,.5\n",
+        "needed: --skip, since 1 record stand above the table\n\
+        needed: --skip, --no-header and --rename, since columns have one name in line 2\n\
+        needed: --numbers, since these columns are read as texts else\n\
+        \n\
+        ./coop_prepare write --skip 2 --no-header --rename c1=rate --rename c2=rate_2 --rename c5='n o' \
+        --rename c6=rate_4 --numbers 6 x.csv\n",
+    );
+    expect_needs(&rt, rt.alloc(), "a,a\n", "\n./coop_prepare write x.csv\n");
+}
+
+#[test]
+fn rows_with_names(rt: HostRuntime) {
+    expect_needs(
+        &rt,
+        rt.alloc(),
+        "pig,weight\na,1,.5\nb,2,NA\n",
+        "column 1: 2 texts\n\
+        column 2 \"pig\": 2 whole\n\
+        column 3 \"weight\": 1 as .5 or 5.; 1 marked as missing, the first in line 3\n\
+        to be asked for: --rename, since records have one field more than names: those of rows\n\
+        \n\
+        ./coop_prepare write x.csv\n\
+        and with what has to be asked for:\n\
+        ./coop_prepare write --skip 1 --no-header --rename c2=pig --rename c3=weight --numbers 3 --missing=NA x.csv\n",
+    );
+    expect_needs(
+        &rt,
+        rt.alloc(),
+        "pig,weight\na,1,\nb,2,\n",
+        "no rule: 2 records from line 2 on have more fields than the first, and are refused\n\
+        \n\
+        ./coop_prepare write x.csv\n",
+    );
+}
+
+#[test]
+fn dates_and_blanks(rt: HostRuntime) {
+    expect_needs(
+        &rt,
+        rt.alloc(),
+        "day,due,paid,short,n\n5.1.2026,1/31/2026,3.4.2026,31.1.26, 1\n\
+        31.1.2026,2/1/2026,NA,1.2.26,2\n?,,13.1.2026,,3\n",
+        "to be asked for: --dates, since columns have dates, the day first; texts have another order: 1,3\n\
+        to be asked for: --trim, since 1 columns have white space at ends; it acts in texts too\n\
+        \n\
+        ./coop_prepare write x.csv\n\
+        and with what has to be asked for:\n\
+        ./coop_prepare write --dates dmy --date-columns 1,3 --missing='?' --missing=NA --trim x.csv\n",
+    );
+    expect_needs(
+        &rt,
+        rt.alloc(),
+        "a,b\n1/31/2026,31/1/2026\n30.30.2026,1/1/2026\n",
+        "to be asked for: --dates, since columns have dates, the day first; texts have another order: 2\n\
+        \n\
+        ./coop_prepare write x.csv\n\
+        and with what has to be asked for:\n\
+        ./coop_prepare write --dates dmy --date-columns 2 x.csv\n",
+    );
+    expect_needs(
+        &rt,
+        rt.alloc(),
+        "a\tb\n1/31/2026\tx\n2/30/2026\ty\n",
+        "needed: --delimiter, since coop_cli takes commas\n\
+        \n\
+        ./coop_prepare write --delimiter tab x.csv\n",
+    );
 }

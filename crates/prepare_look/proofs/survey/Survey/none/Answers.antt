@@ -5,9 +5,9 @@ use Rattle.prepare_look.proofs.survey.Survey.none.Goals as goal
 
 pub loop-kind-preserved : goal.loop-kind-preserved
 loop-kind-preserved c =
-    let n = c.loop-column._column * 24 + c.loop-kind._kind in
+    let n = c.loop-column._column * 25 + c.loop-kind._kind in
     let h = rw (c.none.ensures, c.loop-kind.invariant) at c.in_ok-push.ensures.items in
-    h ∙ push-replicate n (c.loop-column._column * 24 + (c.loop-kind._kind + 1)) (omega arith)
+    h ∙ push-replicate n (c.loop-column._column * 25 + (c.loop-kind._kind + 1)) (omega arith)
 
 pub returns-clause-seen : goal.returns-clause-seen
 unfolding seen_in
@@ -17,7 +17,7 @@ returns-clause-seen c = record {
   short = c.none-2.ensures;
   long = c.none-3.ensures;
   folded = c.none-4.ensures;
-  kinds = λ column kind low few. rw c.loop-column.invariant (get-replicate (c.loop-column._column * 24) (column * 24 + kind));
+  kinds = λ column kind low few. rw c.loop-column.invariant (get-replicate (c.loop-column._column * 25) (column * 25 + kind));
 }
 
 pub returns-clause-low : goal.returns-clause-low
@@ -26,5 +26,5 @@ returns-clause-low c = record {
   short = rw c.none-2.ensures (omega arith);
   long = rw c.none-3.ensures (omega arith);
   folded = rw c.none-4.ensures (omega arith);
-  kinds = λ i. rw (c.loop-column.invariant, get-replicate (c.loop-column._column * 24) i) (omega arith);
+  kinds = λ i. rw (c.loop-column.invariant, get-replicate (c.loop-column._column * 25) i) (omega arith);
 }
